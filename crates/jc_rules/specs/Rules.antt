@@ -1,5 +1,5 @@
 -- The rules: their numbers, stages and texts.
-use Rattle.std.specs.Prelude.{ℕ, ◌+◌, ◌/◌, Bool, nat_le, ◌&&◌, ◌||◌, ◌==◌, List, [], ◌∷◌, codes, if◌then◌else◌}
+use Rattle.std.specs.Prelude.{ℕ, ◌/◌, Bool, nat_le, ◌&&◌, ◌||◌, ◌==◌, List, [], codes, if◌then◌else◌}
 use Rattle.jc_rules.specs.declared.rule.Stage.{Stage}
 use Rattle.jc_rules.specs.declared.rule.Stage.TheVariants.{Lexical, Syntax, Names, Types, Headers, Bodies, Flow, Clashes, Limits}
 

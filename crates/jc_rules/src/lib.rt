@@ -3,6 +3,7 @@
 #![tactic(auto)]
 
 mod boxed;
+mod compared;
 mod items;
 mod lines;
 mod rule;

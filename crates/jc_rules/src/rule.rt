@@ -96,10 +96,11 @@ impl Rule {
         }
     }
 
-    /// The rule of a form that javag doesn't compile yet.
-    pub fn form_not_built() -> Rule
-        ensures { result ≡ 900 }
+    /// A rule by a number that is known to be in the table.
+    pub fn known(n: u16) -> Rule
+        requires { IsTrue (is_rule n) }
+        ensures { result ≡ n }
     {
-        Rule { number: 900 }
+        Rule { number: n }
     }
 }
