@@ -1,0 +1,4 @@
+pub mod Sorts
+pub mod Cutting
+pub mod Spelling
+pub mod Jobs

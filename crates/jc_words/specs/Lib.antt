@@ -1,0 +1,4 @@
+pub mod Line
+pub mod Job
+pub mod Cut
+pub mod Options
