@@ -1,0 +1,11 @@
+//! Class files of the Java Virtual Machine: their model, their format (JVMS SE 7, chapter 4), and their bytes.
+#![tactic(auto)]
+
+mod format;
+mod model;
+
+pub use format::{Constant, Entry, Flaw, Kind, Slot};
+pub use model::{
+    ClassModel, CodeModel, FieldModel, Frame, Handler, InnerModel, Ins, Item, Loaded, MethodModel,
+    Operand, SwitchCase,
+};
