@@ -1,0 +1,5 @@
+pub mod Small
+pub mod Meaning
+pub mod Tokens
+pub mod Parse
+pub mod ClassOf
