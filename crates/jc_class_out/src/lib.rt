@@ -6,6 +6,7 @@ mod format;
 mod kinds;
 mod model;
 mod pool;
+mod texts;
 mod writing;
 
 pub use format::{Constant, Entry, Flaw, Kind, Slot};
