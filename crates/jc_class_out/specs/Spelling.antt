@@ -1,7 +1,7 @@
 -- How the writer spells a class: the constants that it uses, each once and in the order of their first use, those of ldc
 -- before all others, since ldc has one byte for their number; then each part with the numbers of its constants. Frames are
 -- full. A number that is too great for its field is cut off here; `fits` sees to it that none is.
-use Rattle.std.specs.Prelude.{ℕ, zero, suc, ◌+◌, ◌-◌, ◌*◌, ◌/◌, ◌%◌, ◌^◌, ℤ, pos, Bool, true, false, not, ◌||◌, ◌&&◌, ◌==◌, nat_lt, List, [], ◌∷◌, ◌++◌, length, map, codes, replicate, Option, Some, None, if◌then◌else◌}
+use Rattle.std.specs.Prelude.{◌≡◌, ℕ, zero, suc, ◌+◌, ◌-◌, ◌*◌, ◌/◌, ◌%◌, ◌^◌, ℤ, pos, Bool, true, false, not, ◌||◌, ◌&&◌, ◌==◌, nat_lt, List, [], ◌∷◌, ◌++◌, length, map, codes, replicate, Option, Some, None, if◌then◌else◌}
 use Rattle.std.specs.Int.{w8, w16, w32, w64, cast_unsigned, to_be_bytes}
 use Rattle.std.specs.List.{list_any, flat_map, position}
 use Rattle.std.specs.Ordering.{int_eq}
@@ -80,10 +80,18 @@ number_if (Some i) = if nat_lt i 65535 then i + 1 else 0
 unfoldable pub number : List Known → Known → ℕ
 number ks k = number_if (position (same_known k) ks)
 
+-- what somebody is who was told of constants, one after the other
+abbrev pub Told : {S : Type 0} → (S → Known → S → Type 0) → S → List Known → S → Type 0
+Told sees s [] t = s ≡ t
+Told {S} sees s (k ∷ ks) t = (m : S) × (sees s k m) × (Told sees m ks t)
+
 -- ---- the constants that each part uses
 
 abbrev pub class_uses : List ℕ → List Known
 class_uses name = KnownText name ∷ KnownClass name ∷ []
+
+abbrev pub pair_uses : List ℕ → List ℕ → List Known
+pair_uses name descriptor = KnownText name ∷ KnownText descriptor ∷ KnownPair name descriptor ∷ []
 
 abbrev pub class_or_none_uses : Option (List ℕ) → List Known
 class_or_none_uses None = []
@@ -121,7 +129,7 @@ loaded_uses (loaded.Long n) = KnownLong n ∷ KnownBehind n ∷ []
 loaded_uses (loaded.Text t) = KnownText t ∷ KnownLiteral t ∷ []
 
 unfoldable pub member_uses : Kind → List ℕ → List ℕ → List ℕ → List Known
-member_uses kind c n d = KnownText c ∷ KnownClass c ∷ KnownText n ∷ KnownText d ∷ KnownPair n d ∷ member_known kind c n d ∷ []
+member_uses kind c n d = class_uses c ++ (pair_uses n d ++ member_known kind c n d ∷ [])
 
 unfoldable pub operand_uses : Kind → Operand → List Known
 operand_uses kind (op.Load l) = loaded_uses l

@@ -7,6 +7,7 @@ mod kinds;
 mod model;
 mod pool;
 mod texts;
+mod uses;
 mod writing;
 
 pub use format::{Constant, Entry, Flaw, Kind, Slot};

@@ -187,7 +187,7 @@ fn put_number(out: &mut Vec<u8>, kind: Kind, n: i32) -> Result<(), WantOfMemory>
     }
 }
 
-fn loaded_constant(loaded: &Loaded) -> Constant<'_>
+pub fn loaded_constant(loaded: &Loaded) -> Constant<'_>
     ensures { known result ≡ loaded_known loaded.now }
 {
     match loaded {
@@ -213,7 +213,7 @@ fn put_load<'a>(
     }
 }
 
-fn member_constant<'a>(
+pub fn member_constant<'a>(
     kind: Kind,
     class: &'a Items<u16>,
     name: &'a Items<u16>,
