@@ -38,26 +38,28 @@ is_field_descriptor d = nothing_left (type_end 0 d)
 abbrev pub units_of_type : ℕ → ℕ
 units_of_type u = if u == 74 then 2 else 1
 
--- the units of the parameters and what stands behind the `)`; there are at most so many parameters
-unfoldable pub parameters_on : ℕ → List ℕ → Option (ℕ × List ℕ)
-parameters_on n [] = None
-parameters_on zero (u ∷ us) = None
-parameters_on (suc n) (u ∷ us) =
-  if u == 41 then Some (0, us) else
-  option_and_then (λ (rest : List ℕ). option_and_then (λ (p : ℕ × List ℕ). Some (units_of_type u + p.0, p.1)) (parameters_on n rest)) (type_end 0 (u ∷ us))
+-- The units of the parameters, of which so many are counted already, and what stands behind the `)`; there are at most so
+-- many parameters, and at most 255 units.
+unfoldable pub parameters_on : ℕ → ℕ → List ℕ → Option (ℕ × List ℕ)
+parameters_on n used [] = None
+parameters_on zero used (u ∷ us) = None
+parameters_on (suc n) used (u ∷ us) =
+  if u == 41 then Some (used, us) else
+  if nat_lt 255 (used + units_of_type u) then None else
+  option_and_then (λ (rest : List ℕ). parameters_on n (used + units_of_type u) rest) (type_end 0 (u ∷ us))
 
 -- V, or a type
 abbrev pub is_result : List ℕ → Bool
 is_result d = bytes_eq d (codes "V") || is_field_descriptor d
 
--- The units of a method's parameters, at most 255 (JVMS 4.3.3); none where it is no descriptor of a method.
+-- The units of a method's parameters (JVMS 4.3.3); none where it is no descriptor of a method.
 abbrev pub units_if : Option (ℕ × List ℕ) → Option ℕ
 units_if None = None
-units_if (Some p) = if is_result p.1 && nat_le p.0 255 then Some p.0 else None
+units_if (Some p) = if is_result p.1 then Some p.0 else None
 
 unfoldable pub parameter_units : List ℕ → Option ℕ
 parameter_units [] = None
-parameter_units (u ∷ us) = if u == 40 then units_if (parameters_on (length us) us) else None
+parameter_units (u ∷ us) = if u == 40 then units_if (parameters_on (length us) 0 us) else None
 
 abbrev pub is_there : {A : Type 0} → Option A → Bool
 is_there None = false

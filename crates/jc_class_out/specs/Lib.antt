@@ -6,3 +6,4 @@ pub mod Instructions
 pub mod Frames
 pub mod Code
 pub mod Format
+pub mod Spelling

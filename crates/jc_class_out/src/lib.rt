@@ -1,10 +1,17 @@
 //! Class files of the Java Virtual Machine: their model, their format (JVMS SE 7, chapter 4), and their bytes.
 #![tactic(auto)]
 
+mod descriptors;
 mod format;
+mod kinds;
 mod model;
+mod pool;
+mod texts;
+mod uses;
+mod writing;
 
 pub use format::{Constant, Entry, Flaw, Kind, Slot};
+pub use kinds::{array_code, kind};
 pub use model::{
     ClassModel, CodeModel, FieldModel, Frame, Handler, InnerModel, Ins, Item, Loaded, MethodModel,
     Operand, SwitchCase,

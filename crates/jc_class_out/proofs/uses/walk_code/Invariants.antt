@@ -1,0 +1,7 @@
+use Rattle.std.proofs.Common.{take}
+use Rattle.std.specs.List.{flat_map}
+use Rattle.jc_class_out.specs.Spelling.{Told, ins_uses}
+use Rattle.jc_class_out.proofs.uses.walk_code.Given as goal
+
+abbrev pub invariant-loop-ins : goal.invariant-loop-ins
+invariant-loop-ins g l = Told g.V.Visitor.sees l.initial.visitor (flat_map ins_uses (take l.ins-index l.list)) l.visitor

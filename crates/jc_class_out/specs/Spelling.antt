@@ -1,0 +1,363 @@
+-- How the writer spells a class: the constants that it uses, each once and in the order of their first use, those of ldc
+-- before all others, since ldc has one byte for their number; then each part with the numbers of its constants. Frames are
+-- full. A number that is too great for its field is cut off here; `fits` sees to it that none is.
+use Rattle.std.specs.Prelude.{◌≡◌, ℕ, zero, suc, ◌+◌, ◌-◌, ◌*◌, ◌/◌, ◌%◌, ◌^◌, ℤ, pos, Bool, true, false, not, ◌||◌, ◌&&◌, ◌==◌, nat_lt, List, [], ◌∷◌, ◌++◌, length, map, codes, replicate, Option, Some, None, if◌then◌else◌}
+use Rattle.std.specs.Int.{w8, w16, w32, w64, cast_unsigned, to_be_bytes}
+use Rattle.std.specs.List.{list_any, flat_map, position}
+use Rattle.std.specs.Ordering.{int_eq}
+use Rattle.std.specs.Str.{bytes_eq}
+use Rattle.jc_class_out.specs.declared.format.Constant.{Constant}
+use Rattle.jc_class_out.specs.declared.format.Constant.TheVariants as constant
+use Rattle.jc_class_out.specs.declared.format.Kind.{Kind}
+use Rattle.jc_class_out.specs.declared.format.Kind.TheVariants.{Short, Load, Field, Interface}
+use Rattle.jc_class_out.specs.declared.model.ClassModel.{ClassModel}
+use Rattle.jc_class_out.specs.declared.model.CodeModel.{CodeModel}
+use Rattle.jc_class_out.specs.declared.model.FieldModel.{FieldModel}
+use Rattle.jc_class_out.specs.declared.model.Frame.{Frame}
+use Rattle.jc_class_out.specs.declared.model.Handler.{Handler}
+use Rattle.jc_class_out.specs.declared.model.InnerModel.{InnerModel}
+use Rattle.jc_class_out.specs.declared.model.Ins.{Ins}
+use Rattle.jc_class_out.specs.declared.model.Item.{Item}
+use Rattle.jc_class_out.specs.declared.model.Item.TheVariants as item
+use Rattle.jc_class_out.specs.declared.model.Loaded.{Loaded}
+use Rattle.jc_class_out.specs.declared.model.Loaded.TheVariants as loaded
+use Rattle.jc_class_out.specs.declared.model.MethodModel.{MethodModel}
+use Rattle.jc_class_out.specs.declared.model.SwitchCase.{SwitchCase}
+use Rattle.jc_class_out.specs.declared.model.Operand.{Operand}
+use Rattle.jc_class_out.specs.declared.model.Operand.TheVariants as op
+use Rattle.jc_class_out.specs.Texts.{text_bytes}
+use Rattle.jc_class_out.specs.Descriptors.{parameter_units, or_zero}
+use Rattle.jc_class_out.specs.Pool.{Known, KnownText, KnownWhole, KnownLong, KnownBehind, KnownClass, KnownLiteral, KnownField, KnownMethod, KnownInterface, KnownPair}
+use Rattle.jc_class_out.specs.Instructions.{kind_of, padding}
+use Rattle.jc_class_out.specs.Format.{major}
+
+-- ---- constants, each once
+
+abbrev pub known : Constant → Known
+known (constant.Text t) = KnownText t.now
+known (constant.Whole n) = KnownWhole n
+known (constant.Long n) = KnownLong n
+known (constant.Behind n) = KnownBehind n
+known (constant.Class t) = KnownClass t.now
+known (constant.Literal t) = KnownLiteral t.now
+known (constant.Field c n d) = KnownField c.now n.now d.now
+known (constant.Method c n d) = KnownMethod c.now n.now d.now
+known (constant.Interface c n d) = KnownInterface c.now n.now d.now
+known (constant.Pair n d) = KnownPair n.now d.now
+
+abbrev pub knowns : List Constant → List Known
+knowns constants = map known constants
+
+abbrev pub same_known : Known → Known → Bool
+same_known (KnownText a) (KnownText b) = bytes_eq a b
+same_known (KnownWhole a) (KnownWhole b) = int_eq a b
+same_known (KnownLong a) (KnownLong b) = int_eq a b
+same_known (KnownBehind a) (KnownBehind b) = int_eq a b
+same_known (KnownClass a) (KnownClass b) = bytes_eq a b
+same_known (KnownLiteral a) (KnownLiteral b) = bytes_eq a b
+same_known (KnownField c n d) (KnownField e m f) = bytes_eq c e && (bytes_eq n m && bytes_eq d f)
+same_known (KnownMethod c n d) (KnownMethod e m f) = bytes_eq c e && (bytes_eq n m && bytes_eq d f)
+same_known (KnownInterface c n d) (KnownInterface e m f) = bytes_eq c e && (bytes_eq n m && bytes_eq d f)
+same_known (KnownPair n d) (KnownPair m f) = bytes_eq n m && bytes_eq d f
+same_known _ _ = false
+
+unfoldable pub has : List Known → Known → Bool
+has ks k = list_any (same_known k) ks
+
+abbrev pub add : List Known → Known → List Known
+add ks k = if has ks k then ks else ks ++ k ∷ []
+
+-- the constants after each of us was added where it wasn't there
+unfoldable pub adds : List Known → List Known → List Known
+adds ks [] = ks
+adds ks (u ∷ us) = adds (add ks u) us
+
+abbrev pub number_if : Option ℕ → ℕ
+number_if None = 0
+number_if (Some i) = if nat_lt i 65535 then i + 1 else 0
+
+-- the number of a constant in the pool, counted from 1
+unfoldable pub number : List Known → Known → ℕ
+number ks k = number_if (position (same_known k) ks)
+
+-- what somebody is who was told of constants, one after the other
+abbrev pub Told : {S : Type 0} → (S → Known → S → Type 0) → S → List Known → S → Type 0
+Told sees s [] t = s ≡ t
+Told {S} sees s (k ∷ ks) t = (m : S) × (sees s k m) × (Told sees m ks t)
+
+-- ---- the constants that each part uses
+
+abbrev pub class_uses : List ℕ → List Known
+class_uses name = KnownText name ∷ KnownClass name ∷ []
+
+abbrev pub pair_uses : List ℕ → List ℕ → List Known
+pair_uses name descriptor = KnownText name ∷ KnownText descriptor ∷ KnownPair name descriptor ∷ []
+
+abbrev pub class_or_none_uses : Option (List ℕ) → List Known
+class_or_none_uses None = []
+class_or_none_uses (Some name) = class_uses name
+
+abbrev pub name_or_none_uses : Option (List ℕ) → List Known
+name_or_none_uses None = []
+name_or_none_uses (Some name) = KnownText name ∷ []
+
+abbrev pub is_short : Kind → Bool
+is_short Short = true
+is_short _ = false
+
+abbrev pub is_load : Kind → Bool
+is_load Load = true
+is_load _ = false
+
+abbrev pub is_interface : Kind → Bool
+is_interface Interface = true
+is_interface _ = false
+
+abbrev pub member_known : Kind → List ℕ → List ℕ → List ℕ → Known
+member_known Field c n d = KnownField c n d
+member_known Interface c n d = KnownInterface c n d
+member_known _ c n d = KnownMethod c n d
+
+abbrev pub loaded_known : Loaded → Known
+loaded_known (loaded.Whole n) = KnownWhole n
+loaded_known (loaded.Long n) = KnownLong n
+loaded_known (loaded.Text t) = KnownLiteral t
+
+abbrev pub loaded_uses : Loaded → List Known
+loaded_uses (loaded.Whole n) = KnownWhole n ∷ []
+loaded_uses (loaded.Long n) = KnownLong n ∷ KnownBehind n ∷ []
+loaded_uses (loaded.Text t) = KnownText t ∷ KnownLiteral t ∷ []
+
+unfoldable pub member_uses : Kind → List ℕ → List ℕ → List ℕ → List Known
+member_uses kind c n d = class_uses c ++ (pair_uses n d ++ member_known kind c n d ∷ [])
+
+unfoldable pub operand_uses : Kind → Operand → List Known
+operand_uses kind (op.Load l) = loaded_uses l
+operand_uses kind (op.Member c n d) = member_uses kind c n d
+operand_uses kind (op.Class c) = class_uses c
+operand_uses kind (op.Dims c n) = class_uses c
+operand_uses kind _ = []
+
+abbrev pub ins_uses : Ins → List Known
+ins_uses i = operand_uses (kind_of i.code) i.operand
+
+abbrev pub first_uses : Operand → List Known
+first_uses (op.Load l) = loaded_known l ∷ []
+first_uses _ = []
+
+-- what ldc loads
+unfoldable pub ins_first_uses : Ins → List Known
+ins_first_uses i = if is_load (kind_of i.code) then first_uses i.operand else []
+
+abbrev pub handler_uses : Handler → List Known
+handler_uses h = class_or_none_uses h.class
+
+abbrev pub item_uses : Item → List Known
+item_uses (item.Object name) = class_uses name
+item_uses _ = []
+
+unfoldable pub frame_uses : Frame → List Known
+frame_uses f = flat_map item_uses f.locals ++ flat_map item_uses f.stack
+
+abbrev pub table_uses : List Frame → List Known
+table_uses [] = []
+table_uses (f ∷ fs) = KnownText (codes "StackMapTable") ∷ flat_map frame_uses (f ∷ fs)
+
+unfoldable pub code_uses : CodeModel → List Known
+code_uses c = flat_map ins_uses c.ins ++ (flat_map handler_uses c.handlers ++ table_uses c.frames)
+
+abbrev pub code_or_none_uses : Option CodeModel → List Known
+code_or_none_uses None = []
+code_or_none_uses (Some c) = KnownText (codes "Code") ∷ code_uses c
+
+unfoldable pub method_uses : MethodModel → List Known
+method_uses m = KnownText m.name ∷ KnownText m.descriptor ∷ code_or_none_uses m.code
+
+abbrev pub code_first_uses : Option CodeModel → List Known
+code_first_uses None = []
+code_first_uses (Some c) = flat_map ins_first_uses c.ins
+
+abbrev pub method_first_uses : MethodModel → List Known
+method_first_uses m = code_first_uses m.code
+
+unfoldable pub field_uses : FieldModel → List Known
+field_uses f = KnownText f.name ∷ KnownText f.descriptor ∷ []
+
+unfoldable pub inner_uses : InnerModel → List Known
+inner_uses i = class_uses i.inner ++ (class_or_none_uses i.outer ++ name_or_none_uses i.name)
+
+abbrev pub inners_uses : List InnerModel → List Known
+inners_uses [] = []
+inners_uses (i ∷ is) = KnownText (codes "InnerClasses") ∷ flat_map inner_uses (i ∷ is)
+
+unfoldable pub members_uses : ClassModel → List Known
+members_uses c = class_uses c.name ++ (class_or_none_uses c.superclass ++ (flat_map class_uses c.interfaces
+  ++ (flat_map field_uses c.fields ++ (flat_map method_uses c.methods ++ inners_uses c.inner))))
+
+unfoldable pub loads_of : ClassModel → List Known
+loads_of c = flat_map method_first_uses c.methods
+
+unfoldable pub uses : ClassModel → List Known
+uses c = loads_of c ++ members_uses c
+
+-- ---- spelling
+
+abbrev pub index : List Known → Known → List ℕ
+index ks k = to_be_bytes w16 (number ks k)
+
+-- a count, and then each
+unfoldable pub counted : {A : Type 0} → (A → List ℕ) → List A → List ℕ
+counted f xs = to_be_bytes w16 (length xs % 65536) ++ flat_map f xs
+
+abbrev pub spell_class_or_none : List Known → Option (List ℕ) → List ℕ
+spell_class_or_none ks None = to_be_bytes w16 0
+spell_class_or_none ks (Some name) = index ks (KnownClass name)
+
+abbrev pub spell_name_or_none : List Known → Option (List ℕ) → List ℕ
+spell_name_or_none ks None = to_be_bytes w16 0
+spell_name_or_none ks (Some name) = index ks (KnownText name)
+
+-- how far a place is, in two's complement
+abbrev pub wide_distance : ℕ → ℕ → ℕ
+wide_distance at to = (to + (2 ^ 32 - at)) % 2 ^ 32
+
+abbrev pub distance : ℕ → ℕ → ℕ
+distance at to = wide_distance at to % 65536
+
+unfoldable pub spell_case : ℕ → SwitchCase → List ℕ
+spell_case at c = to_be_bytes w32 (cast_unsigned w32 c.key) ++ to_be_bytes w32 (wide_distance at c.at)
+
+unfoldable pub spell_switch : ℕ → ℕ → List SwitchCase → List ℕ
+spell_switch at otherwise cases = replicate (padding at) 0 ++ (to_be_bytes w32 (wide_distance at otherwise) ++ (to_be_bytes w32 (length cases % 2 ^ 32) ++ flat_map (spell_case at) cases))
+
+abbrev pub interface_tail : Kind → List ℕ → List ℕ
+interface_tail kind d = if is_interface kind then ((or_zero (parameter_units d) + 1) % 256) ∷ 0 ∷ [] else []
+
+unfoldable pub spell_number : Kind → ℤ → List ℕ
+spell_number kind n = if is_short kind then to_be_bytes w16 (cast_unsigned w32 n % 65536) else (cast_unsigned w32 n % 256) ∷ []
+
+unfoldable pub spell_load : List Known → Kind → Loaded → List ℕ
+spell_load ks kind l = if is_load kind then (number ks (loaded_known l) % 256) ∷ [] else index ks (loaded_known l)
+
+unfoldable pub spell_member : List Known → Kind → List ℕ → List ℕ → List ℕ → List ℕ
+spell_member ks kind c n d = index ks (member_known kind c n d) ++ interface_tail kind d
+
+unfoldable pub spell_operand : List Known → ℕ → Kind → Operand → List ℕ
+spell_operand ks at kind op.Nothing = []
+spell_operand ks at kind (op.Number n) = spell_number kind n
+spell_operand ks at kind (op.Local n) = n % 256 ∷ []
+spell_operand ks at kind (op.Step n by) = n % 256 ∷ (cast_unsigned w16 by % 256) ∷ []
+spell_operand ks at kind (op.Load l) = spell_load ks kind l
+spell_operand ks at kind (op.Member c n d) = spell_member ks kind c n d
+spell_operand ks at kind (op.Class c) = index ks (KnownClass c)
+spell_operand ks at kind (op.Dims c n) = index ks (KnownClass c) ++ n ∷ []
+spell_operand ks at kind (op.Jump to) = to_be_bytes w16 (distance at to)
+spell_operand ks at kind (op.Switch otherwise cases) = spell_switch at otherwise cases
+
+unfoldable pub spell_wide : Operand → List ℕ
+spell_wide (op.Local n) = to_be_bytes w16 n
+spell_wide (op.Step n by) = to_be_bytes w16 n ++ to_be_bytes w16 (cast_unsigned w16 by)
+spell_wide _ = []
+
+unfoldable pub spell_ins : List Known → ℕ → Ins → List ℕ
+spell_ins ks at i = if i.wide then 0xc4 ∷ i.code ∷ spell_wide i.operand else i.code ∷ spell_operand ks at (kind_of i.code) i.operand
+
+-- the place of the first instruction comes first
+unfoldable pub spell_code : List Known → ℕ → List Ins → List ℕ
+spell_code ks at [] = []
+spell_code ks at (i ∷ is) = spell_ins ks (at % 2 ^ 32) i ++ spell_code ks (at + length (spell_ins ks (at % 2 ^ 32) i)) is
+
+unfoldable pub spell_body : List Known → List Ins → List ℕ
+spell_body ks is = to_be_bytes w32 (length (spell_code ks 0 is) % 2 ^ 32) ++ spell_code ks 0 is
+
+unfoldable pub spell_handler : List Known → Handler → List ℕ
+spell_handler ks h = to_be_bytes w16 (h.from % 65536) ++ (to_be_bytes w16 (h.to % 65536) ++ (to_be_bytes w16 (h.at % 65536) ++ spell_class_or_none ks h.class))
+
+unfoldable pub spell_item : List Known → Item → List ℕ
+spell_item ks item.Top = 0 ∷ []
+spell_item ks item.Integer = 1 ∷ []
+spell_item ks item.Long = 4 ∷ []
+spell_item ks item.NullItem = 5 ∷ []
+spell_item ks item.UninitializedThis = 6 ∷ []
+spell_item ks (item.Object name) = 7 ∷ index ks (KnownClass name)
+spell_item ks (item.Uninitialized at) = 8 ∷ to_be_bytes w16 (at % 65536)
+
+abbrev pub delta_of : Option ℕ → ℕ → ℕ
+delta_of None at = at
+delta_of (Some before) at = at - before - 1
+
+unfoldable pub spell_frame : List Known → Option ℕ → Frame → List ℕ
+spell_frame ks before f = 255 ∷ (to_be_bytes w16 (delta_of before f.at % 65536) ++ (counted (spell_item ks) f.locals ++ counted (spell_item ks) f.stack))
+
+unfoldable pub spell_frames : List Known → Option ℕ → List Frame → List ℕ
+spell_frames ks before [] = []
+spell_frames ks before (f ∷ fs) = spell_frame ks before f ++ spell_frames ks (Some (f.at)) fs
+
+unfoldable pub spell_attribute : List Known → List ℕ → List ℕ → List ℕ
+spell_attribute ks word content = index ks (KnownText word) ++ (to_be_bytes w32 (length content % 2 ^ 32) ++ content)
+
+unfoldable pub spell_table : List Known → List Frame → List ℕ
+spell_table ks frames = to_be_bytes w16 (length frames % 65536) ++ spell_frames ks None frames
+
+abbrev pub spell_code_attributes : List Known → List Frame → List ℕ
+spell_code_attributes ks [] = to_be_bytes w16 0
+spell_code_attributes ks (f ∷ fs) = to_be_bytes w16 1 ++ spell_attribute ks (codes "StackMapTable") (spell_table ks (f ∷ fs))
+
+unfoldable pub spell_code_model : List Known → CodeModel → List ℕ
+spell_code_model ks c = to_be_bytes w16 c.stack ++ (to_be_bytes w16 c.locals ++ (spell_body ks c.ins ++ (counted (spell_handler ks) c.handlers ++ spell_code_attributes ks c.frames)))
+
+abbrev pub spell_code_or_none : List Known → Option CodeModel → List ℕ
+spell_code_or_none ks None = to_be_bytes w16 0
+spell_code_or_none ks (Some c) = to_be_bytes w16 1 ++ spell_attribute ks (codes "Code") (spell_code_model ks c)
+
+unfoldable pub spell_method : List Known → MethodModel → List ℕ
+spell_method ks m = to_be_bytes w16 m.flags ++ (index ks (KnownText m.name) ++ (index ks (KnownText m.descriptor) ++ spell_code_or_none ks m.code))
+
+unfoldable pub spell_field : List Known → FieldModel → List ℕ
+spell_field ks f = to_be_bytes w16 f.flags ++ (index ks (KnownText f.name) ++ (index ks (KnownText f.descriptor) ++ to_be_bytes w16 0))
+
+unfoldable pub spell_inner : List Known → InnerModel → List ℕ
+spell_inner ks i = index ks (KnownClass i.inner) ++ (spell_class_or_none ks i.outer ++ (spell_name_or_none ks i.name ++ to_be_bytes w16 i.flags))
+
+abbrev pub spell_inners : List Known → List InnerModel → List ℕ
+spell_inners ks [] = to_be_bytes w16 0
+spell_inners ks (i ∷ is) = to_be_bytes w16 1 ++ spell_attribute ks (codes "InnerClasses") (counted (spell_inner ks) (i ∷ is))
+
+unfoldable pub spell_interface : List Known → List ℕ → List ℕ
+spell_interface ks name = index ks (KnownClass name)
+
+unfoldable pub spell_members : List Known → ClassModel → List ℕ
+spell_members ks c = to_be_bytes w16 c.flags ++ (index ks (KnownClass c.name) ++ (spell_class_or_none ks c.superclass ++ (counted (spell_interface ks) c.interfaces
+  ++ (counted (spell_field ks) c.fields ++ (counted (spell_method ks) c.methods ++ spell_inners ks c.inner)))))
+
+unfoldable pub spell_member_entry : List Known → ℕ → List ℕ → List ℕ → List ℕ → List ℕ
+spell_member_entry ks tag c n d = tag ∷ (index ks (KnownClass c) ++ index ks (KnownPair n d))
+
+unfoldable pub spell_text : List ℕ → List ℕ
+spell_text t = 1 ∷ (to_be_bytes w16 (length (text_bytes t) % 65536) ++ text_bytes t)
+
+unfoldable pub spell_entry : List Known → Known → List ℕ
+spell_entry ks (KnownText t) = spell_text t
+spell_entry ks (KnownWhole n) = 3 ∷ to_be_bytes w32 (cast_unsigned w32 n)
+spell_entry ks (KnownLong n) = 5 ∷ to_be_bytes w64 (cast_unsigned w64 n)
+spell_entry ks (KnownBehind n) = []
+spell_entry ks (KnownClass t) = 7 ∷ index ks (KnownText t)
+spell_entry ks (KnownLiteral t) = 8 ∷ index ks (KnownText t)
+spell_entry ks (KnownField c n d) = spell_member_entry ks 9 c n d
+spell_entry ks (KnownMethod c n d) = spell_member_entry ks 10 c n d
+spell_entry ks (KnownInterface c n d) = spell_member_entry ks 11 c n d
+spell_entry ks (KnownPair n d) = 12 ∷ (index ks (KnownText n) ++ index ks (KnownText d))
+
+unfoldable pub spell_pool : List Known → List ℕ
+spell_pool ks = to_be_bytes w16 ((length ks + 1) % 65536) ++ flat_map (spell_entry ks) ks
+
+unfoldable pub spell_head : List Known → List ℕ
+spell_head ks = to_be_bytes w32 0xCAFEBABE ++ (to_be_bytes w16 0 ++ (to_be_bytes w16 major ++ spell_pool ks))
+
+-- the pool of a class
+abbrev pub pool_for : ClassModel → List Known
+pool_for class = adds [] (uses class)
+
+-- the file that is written
+unfoldable pub file_of : ClassModel → List ℕ
+file_of class = spell_head (pool_for class) ++ spell_members (pool_for class) class
