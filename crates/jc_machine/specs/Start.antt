@@ -6,10 +6,9 @@ use Rattle.std.specs.declared.option.Option.TheVariants.{Some, None}
 use Rattle.jc_class_out.specs.declared.model.ClassModel.{ClassModel}
 use Rattle.jc_class_out.specs.declared.model.CodeModel.{CodeModel}
 use Rattle.jc_machine.specs.declared.frame.Active.{Active}
-use Rattle.jc_machine.specs.declared.machine.Ending.TheVariants.{Stuck}
 use Rattle.jc_machine.specs.declared.value.Value.TheVariants.{NullValue}
 use Rattle.jc_machine.specs.Names.{spelling, class_spelled, is_main}
-use Rattle.jc_machine.specs.Table.{State, Going, Over}
+use Rattle.jc_machine.specs.Table.{State, Going}
 
 -- The frame of a main with this code. Its first local is a reference that nothing reads, the others hold nothing.
 abbrev pub main_frame : ℕ → ℕ → CodeModel → Active
@@ -31,10 +30,9 @@ abbrev pub first_frame : List ClassModel → List ℕ → Option Active
 first_frame classes units =
     option_and_then (λ class. option_and_then (frame_in class) (slice_get classes class)) (class_spelled classes units)
 
--- A machine has no strings yet, so with arguments it can't go on.
+-- The arguments are not made yet, since no row reads them.
 abbrev pub begins : List (List ℕ) → Active → State
-begins [] frame = Going frame []
-begins (argument ∷ arguments) frame = Over Stuck
+begins arguments frame = Going frame []
 
 -- the state before the first step, where the first class of this binary name has a main
 abbrev pub start_of : List ClassModel → List ℕ → List (List ℕ) → Option State

@@ -8,7 +8,7 @@ ghost use Rattle.jc_machine.specs.Start.{main_frame, frame_in, first_frame, star
 ghost use Rattle.jc_machine.specs.Table.{state_of, classes_of};
 
 use crate::rows::spells;
-use crate::{Active, Ending, Machine, Operands, Program, Stack, Value};
+use crate::{Active, Machine, Operands, Program, Stack, Value};
 use jc_class_out::{ClassModel, CodeModel, MethodModel};
 use jc_rules::{Items, NoMain, Stop, Text, WantOfMemory};
 use std::alloc::Global;
@@ -121,28 +121,17 @@ fn find_first_frame(
     find_frame(alloc, class, model)
 }
 
-// A machine has no strings yet, so with arguments it can't go on.
-fn ending(args: &[Text]) -> Option<Ending>
-    ensures { result ≡ (if length args.now == 0 then None else Some Ending.Stuck) }
-{
-    if args.is_empty() {
-        None
-    } else {
-        Some(Ending::Stuck)
-    }
-}
-
 impl Machine {
-    /// A machine before the first instruction of the main of the first class of this binary name. With arguments it is stuck,
-    /// since it has no strings yet.
+    /// A machine before the first instruction of the main of the first class of this binary name. The arguments are not made
+    /// yet, since no row reads them.
     pub fn load(
         alloc: Global,
         classes: Items<ClassModel>,
         main: &Text,
-        args: &[Text],
+        _args: &[Text],
     ) -> Result<Machine, Stop<NoMain>>
-        ensures ok { IfOk result (λ m. (start_of classes main.now args.now ≡ Some (state_of m)) × (classes_of m ≡ classes)) }
-        ensures refused { IfErr result (λ error. error ≡ Stop.Refused (record {}) → start_of classes main.now args.now ≡ None) }
+        ensures ok { IfOk result (λ m. (start_of classes main.now _args.now ≡ Some (state_of m)) × (classes_of m ≡ classes)) }
+        ensures refused { IfErr result (λ error. error ≡ Stop.Refused (record {}) → start_of classes main.now _args.now ≡ None) }
     {
         let name = spell(alloc, main.str())?;
         match find_first_frame(alloc, classes.slice(), name.slice())? {
@@ -151,7 +140,7 @@ impl Machine {
                 program: Program::new(alloc, classes)?,
                 now,
                 callers: Stack::new(alloc),
-                over: ending(args),
+                over: None,
             }),
             None => Err(Stop::Refused(NoMain)),
         }
