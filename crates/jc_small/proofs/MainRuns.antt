@@ -1,5 +1,7 @@
 -- The machine puts out what a program says.
 use Rattle.std.proofs.Common.{◌≡◌, ◌≤◌, ◌<◌, ℕ, zero, suc, ◌+◌, ◌-◌, ◌*◌, Bool, true, false, List, [], ◌∷◌, ◌++◌, length, map, refl, sym, ap, ◌∙◌, subst, append_assoc, arith, Option, Some, None, leb-true, length-append}
+use Rattle.std.proofs.lemmas.Bool.{leb-false, ltb-true, ltb-false, le-ltb, lt-ltb}
+use Rattle.jc_machine.specs.declared.machine.Ran.{Ran}
 use Rattle.std.specs.Prelude.{flat_map, ℤ, pos, nat_le, nat_lt, ◌%◌, take, if◌then◌else◌}
 use Rattle.std.specs.List.{AllByRecursion}
 use Rattle.std.specs.Int.{w32, int_wrapping_add, cast_unsigned}
@@ -53,6 +55,21 @@ const_size at n = by_size (nat_le n 5) refl (nat_le n 127) refl (nat_le n 32767)
     by_size false ea true eb d ed = rw (ea, eb) (omega arith)
     by_size false ea false eb true ed = rw (ea, eb, ed) (omega arith)
     by_size false ea false eb false ed = rw (ea, eb, ed) (omega arith)
+
+-- ---- endings
+
+going_on : (writes units : ℕ) (ran : Ran) → units ≤ writes → ran ≡ StepsReached → EndsAs (if nat_lt writes units then SourceEnded else SourceGoing) ran
+going_on writes units ran h e = rw (le-ltb writes units h) e
+
+over : (writes units : ℕ) (ran : Ran) → writes < units → ran ≡ RanEnded → EndsAs (if nat_lt writes units then SourceEnded else SourceGoing) ran
+over writes units ran h e = rw (lt-ltb writes units h) e
+
+one_unit_more : (writes units : ℕ) (ran : Ran) → EndsAs (if nat_lt writes units then SourceEnded else SourceGoing) ran → EndsAs (if nat_lt (suc writes) (suc units) then SourceEnded else SourceGoing) ran
+one_unit_more writes units ran e = by_test (nat_lt writes units) refl
+  where
+    by_test : (b : Bool) → nat_lt writes units ≡ b → EndsAs (if nat_lt (suc writes) (suc units) then SourceEnded else SourceGoing) ran
+    by_test true t = over (suc writes) (suc units) ran (omega (arith, ltb-true writes units t)) (rw t at e)
+    by_test false t = going_on (suc writes) (suc units) ran (omega (arith, ltb-false writes units t)) (rw t at e)
 
 module _ (program : Program) where
   abbrev classes : List ClassModel
@@ -146,15 +163,15 @@ module _ (program : Program) where
 
   nothing_shown : (left : Program) (s : State) → Matches (source_shows left 0) (run_of classes 0 s)
   unfolding run_of
-  nothing_shown left s = record { output = refl; taken = refl; ending = refl }
+  nothing_shown left s = record { output = refl; taken = refl; ending = going_on (length left) 0 _ (omega arith) refl }
 
   ended_at : (at r n : ℕ) → Stands program at (main_code []) → Matches (source_shows [] (suc n)) (run_of classes (suc r) (frame at []))
   unfolding run_of
-  ended_at at r n s = let e = ap (λ (m : Move). run_after m (run_of classes r)) (return_step at [] s) in record { output = ap (λ (w : Seen). w.output) e; taken = refl; ending = ap (λ (w : Seen). w.ending) e }
+  ended_at at r n s = let e = ap (λ (m : Move). run_after m (run_of classes r)) (return_step at [] s) in record { output = ap (λ (w : Seen). w.output) e; taken = refl; ending = over 0 (suc n) _ (omega arith) (ap (λ (w : Seen). w.ending) e) }
 
   -- what is shown behind a first write
   behind_write : (ns : List ℕ) (left : Program) (n : ℕ) (later all : Seen) → Matches (source_shows left n) later → all ≡ first (byte_of ns ∷ []) later → Matches (source_shows (ns ∷ left) (suc n)) all
-  behind_write ns left n later all m e = rw e (record { output = ap (λ (l : List ℕ). byte_of ns ∷ l) m.output; taken = refl; ending = m.ending })
+  behind_write ns left n later all m e = rw e (record { output = ap (λ (l : List ℕ). byte_of ns ∷ l) m.output; taken = refl; ending = one_unit_more (length left) n _ m.ending })
 
   -- what the source shows within some units the machine shows within its steps
   pub forwards : (left : Program) (at units : ℕ) → AllByRecursion IsSum left → Stands program at (main_code left)
@@ -186,7 +203,7 @@ module _ (program : Program) where
           → (units : ℕ) × Matches (source_shows (ns ∷ left) units) (run_of classes steps (frame at []))
       by_steps w true t later =
           let few = leb-true steps w.steps t in
-          (0, record { output = w.quiet.silent steps few; taken = refl; ending = w.quiet.going steps few })
+          (0, record { output = w.quiet.silent steps few; taken = refl; ending = going_on (suc (length left)) 0 _ (omega arith) (w.quiet.going steps few) })
       by_steps w false t later =
           let many = leb-false steps w.steps t in
           let rest = later (steps - w.steps - 1) in

@@ -25,19 +25,19 @@ module _ (classes : List ClassModel) where
   unfolding run_of
   one_step from next r e = ap (λ m. run_after m (run_of classes r)) e
 
+  silent_step : (k : ℕ) (from next to : State) → step_of classes from ≡ (Went, next) → Quiet classes k next to → (j : ℕ) → j ≤ suc k → (run_of classes j from).output ≡ []
+  unfolding run_of
+  silent_step k from next to e more zero h = refl
+  silent_step k from next to e more (suc j) h = ap (λ (s : Seen). s.output) (one_step from next j e) ∙ more.silent j (omega arith)
+
+  going_step : (k : ℕ) (from next to : State) → step_of classes from ≡ (Went, next) → Quiet classes k next to → (j : ℕ) → j ≤ suc k → (run_of classes j from).ending ≡ StepsReached
+  unfolding run_of
+  going_step k from next to e more zero h = refl
+  going_step k from next to e more (suc j) h = ap (λ (s : Seen). s.ending) (one_step from next j e) ∙ more.going j (omega arith)
+
   pub quiet_step : (k : ℕ) (from next to : State) → step_of classes from ≡ (Went, next) → Quiet classes k next to → Quiet classes (suc k) from to
   quiet_step k from next to e more = record {
-    silent = silent-at;
-    going = going-at;
+    silent = silent_step k from next to e more;
+    going = going_step k from next to e more;
     then = λ r. ap (λ (n : ℕ). run_of classes n from) (omega arith) ∙ one_step from next (k + r) e ∙ more.then r;
   }
-    where
-      silent-at : (j : ℕ) → j ≤ suc k → (run_of classes j from).output ≡ []
-      unfolding run_of
-      silent-at zero h = refl
-      silent-at (suc j) h = ap (λ (s : Seen). s.output) (one_step from next j e) ∙ more.silent j (omega arith)
-
-      going-at : (j : ℕ) → j ≤ suc k → (run_of classes j from).ending ≡ StepsReached
-      unfolding run_of
-      going-at zero h = refl
-      going-at (suc j) h = ap (λ (s : Seen). s.ending) (one_step from next j e) ∙ more.going j (omega arith)

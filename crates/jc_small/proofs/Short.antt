@@ -5,7 +5,7 @@ use Rattle.std.specs.List.{AllByRecursion}
 use Rattle.std.specs.Fmt.{decimal}
 use Rattle.jc_class_out.specs.declared.model.Operand.TheVariants.{Nothing}
 use Rattle.jc_small.specs.Small.{Program, IsSum, IsProgram, sum_words, write_words, program_words, head_words}
-use Rattle.jc_small.specs.Code.{ins, const_ins, more_code, sum_code, write_code, main_code, write_ins}
+use Rattle.jc_small.specs.ClassOf.{ins, const_ins, more_code, sum_code, write_code, main_code, write_ins}
 use Rattle.jc_small.proofs.Lexemes.{spelled_long}
 
 more_short : (n : ℕ) (ns : List ℕ) → length (more_code ns) + 1 ≤ length (sum_words (n ∷ ns))

@@ -2,6 +2,7 @@
 use Rattle.std.proofs.Common.{◌≡◌, ◌≤◌, ◌<◌, ℕ, zero, suc, ◌+◌, ◌-◌, ◌*◌, Bool, true, false, List, [], ◌∷◌, ◌++◌, length, refl, sym, ap, ◌∙◌, subst, arith, Option, Some, None, if◌then◌else◌, le-leb, nat_eq}
 use Rattle.std.specs.Prelude.{◌==◌, option_and_then, nat_le}
 use Rattle.std.proofs.Common.{eqb-true}
+use Rattle.std.proofs.lemmas.Bool.Decides.{Decides-eqb}
 use Rattle.std.specs.Option.{option_map}
 use Rattle.jc_class_out.specs.declared.model.Ins.{Ins}
 use Rattle.jc_class_out.specs.declared.model.ClassModel.{ClassModel}
@@ -28,10 +29,9 @@ unlike m n h = by_test (m == n) refl
     by_test false e = e
 
 alike : (n : ℕ) → (n == n) ≡ true
-alike zero = refl
-alike (suc n) = alike n
+alike n = (Decides-eqb n n).1 refl
 
-rest_here : (at : ℕ) (is : List Ins) → rest_from at is at ≡ is
+pub rest_here : (at : ℕ) (is : List Ins) → rest_from at is at ≡ is
 rest_here at [] = refl
 rest_here at (i ∷ is) = rw (alike at) refl
 

@@ -3,3 +3,4 @@ pub mod Meaning
 pub mod Tokens
 pub mod Parse
 pub mod ClassOf
+pub mod Same

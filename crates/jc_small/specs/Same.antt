@@ -8,7 +8,7 @@ use Rattle.jc_machine.specs.declared.machine.Ran.TheVariants.{StepsReached, Ende
 use Rattle.jc_machine.specs.Table.{State}
 use Rattle.jc_machine.specs.Runs.{Seen, run_of}
 use Rattle.jc_machine.specs.Start.{start_of}
-use Rattle.jc_small.specs.Small.{Program}
+use Rattle.jc_small.specs.Small.{Program, IsProgram}
 use Rattle.jc_small.specs.Meaning.{Ending, Going, Ended, Shown, source_shows}
 
 -- a run has the ending of the source
@@ -64,3 +64,9 @@ pub record Same (program : Program) (class : ClassModel) : Type 0 where
   pub start : State
   pub starts : (arguments : List (List ℕ)) → start_of (class ∷ []) (codes "Main") arguments ≡ Some start
   pub shows : ShowsSame program class start
+
+-- the text is a program, and this class is one of it
+pub record Compiled (text : List ℕ) (class : ClassModel) : Type 0 where
+  pub program : Program
+  pub is_program : IsProgram text program
+  pub same : Same program class

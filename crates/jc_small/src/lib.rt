@@ -1,9 +1,11 @@
 //! Small sources, the first that javag compiles: one class `Main` whose `main` writes bytes, each the low byte of a sum.
 #![tactic(auto)]
 
+mod compiling;
 mod emitting;
-mod reading;
 mod lexing;
+mod reading;
+#[cfg(test)]
+mod tests;
 
-pub use emitting::emit;
-pub use reading::{Program, parse};
+pub use compiling::compile;

@@ -1,0 +1,57 @@
+-- The class of a program shows what the program shows.
+use Rattle.std.proofs.Common.{◌≡◌, ◌≤◌, ℕ, ◌+◌, ◌*◌, List, [], ◌∷◌, length, refl, sym, ap, ◌∙◌, subst, arith, Option, Some, None, codes}
+use Rattle.std.specs.List.{AllByRecursion}
+use Rattle.std.specs.Str.{chars}
+use Rattle.jc_machine.specs.Names.{spelling}
+use Rattle.jc_machine.specs.Table.{State, Going}
+use Rattle.jc_machine.specs.Start.{start_of, first_frame, begins}
+use Rattle.std.specs.Option.{option_map}
+use Rattle.jc_small.specs.Small.{Program, IsSum, IsProgram}
+use Rattle.jc_small.specs.ClassOf.{main_class, main_code, init_method, main_method}
+use Rattle.jc_small.specs.Same.{Same, ShowsSame, HasMembers, Compiled}
+use Rattle.jc_small.proofs.Short.{code_short}
+use Rattle.jc_small.proofs.Standing.{Stands, rest_here}
+use Rattle.jc_small.proofs.MainRuns.{frame, forwards, backwards}
+
+main_spelled : spelling (codes "Main") ≡ codes "Main"
+unfolding chars
+main_spelled = refl
+
+main_starts : (program : Program) (arguments : List (List ℕ)) → start_of (main_class program ∷ []) (codes "Main") arguments ≡ Some (frame program 0 [])
+main_starts program arguments = ap (λ (units : List ℕ). option_map (begins arguments) (first_frame (main_class program ∷ []) units)) main_spelled
+
+all_stands : (program : Program) → length (main_code program) ≤ 16384 → Stands program 0 (main_code program)
+all_stands program short = record { from = rest_here 0 (main_code program); room = omega (arith, short) }
+
+has_members : (program : Program) → HasMembers (main_class program)
+has_members program = record {
+  constructor = init_method;
+  main = main_method program;
+  is_constructor = record { name_is = refl; descriptor_is = refl; flags_are = refl };
+  is_main = record { name_is = refl; descriptor_is = refl; flags_are = refl };
+  methods = refl;
+  name = refl;
+  flags = refl;
+  superclass = refl;
+  interfaces = refl;
+  fields = refl;
+  inner = refl;
+}
+
+shows_same : (program : Program) → AllByRecursion IsSum program → length (main_code program) ≤ 16384 → ShowsSame program (main_class program) (frame program 0 [])
+shows_same program sums short = record {
+  forwards = λ units. let f = forwards program program 0 units sums (all_stands program short) in (f.0, omega (arith, f.1, short), f.2);
+  backwards = λ steps. backwards program program 0 steps sums (all_stands program short);
+}
+
+pub compiled : (text : List ℕ) (program : Program) → IsProgram text program → Compiled text (main_class program)
+compiled text program is = record {
+  program = program;
+  is_program = is;
+  same = record {
+    members = has_members program;
+    start = frame program 0 [];
+    starts = main_starts program;
+    shows = shows_same program is.sums (code_short text program is);
+  };
+}

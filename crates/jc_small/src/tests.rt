@@ -1,0 +1,27 @@
+use crate::compile;
+use std::test::Fail;
+
+const HI: &str =
+    "class Main { public static void main(String[] args) { System.out.write(70 + 2); System.out.write(105); } }";
+
+#[test]
+fn a_small_source_has_a_class(rt: HostRuntime) -> Result<(), Fail> {
+    let class = compile(rt.alloc(), HI.as_bytes())?.ok_or("a class")?;
+    assert_eq!(rt; class.methods.len(), 2);
+    Ok(())
+}
+
+#[test]
+fn other_sources_have_none(rt: HostRuntime) -> Result<(), Fail> {
+    for text in [
+        "",
+        "class Main { }",
+        "class Main { public static void main(String[] args) { System.out.write(2147483648); } }",
+        "class Main { public static void main(String[] args) { System.out.write(07); } }",
+        "classMain { public static void main(String[] args) { } }",
+        "class Main { public static void main(String[] args) { } } }",
+    ] {
+        assert!(rt; compile(rt.alloc(), text.as_bytes())?.is_none());
+    }
+    Ok(())
+}
