@@ -1,3 +1,4 @@
 pub mod Units
 pub mod Placement
 pub mod Running
+pub mod Spelling

@@ -19,3 +19,6 @@ pub use operands::Operands;
 pub use program::Program;
 pub use stack::Stack;
 pub use value::Value;
+
+#[cfg(test)]
+mod tests;

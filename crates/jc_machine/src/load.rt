@@ -2,7 +2,7 @@
 ghost use Rattle.std.specs.Prelude.{◌≡◌, ◌-◌, ◌∷◌, [], ◌==◌, ◌↔◌, IsTrue, IfOk, IfErr, map, length, replicate, codes, None, Some, position, if◌then◌else◌};
 ghost use Rattle.std.specs.List.{flat_map};
 ghost use Rattle.std.specs.Char.Escape.{encode_utf16};
-ghost use Rattle.std.specs.Str.{bytes_eq, chars};
+ghost use Rattle.std.specs.Str.{bytes_eq, chars, IsUtf8};
 ghost use Rattle.jc_machine.specs.Names.{slash, spelling, class_spelled, is_main};
 ghost use Rattle.jc_machine.specs.Start.{main_frame, frame_in, first_frame, start_of};
 ghost use Rattle.jc_machine.specs.Table.{state_of, classes_of};
@@ -132,6 +132,7 @@ impl Machine {
     ) -> Result<Machine, Stop<NoMain>>
         ensures ok { IfOk result (λ m. (start_of classes main.now _args.now ≡ Some (state_of m)) × (classes_of m ≡ classes)) }
         ensures refused { IfErr result (λ error. error ≡ Stop.Refused (record {}) → start_of classes main.now _args.now ≡ None) }
+        ensures utf8 { IsUtf8 main.now }
     {
         let name = spell(alloc, main.str())?;
         match find_first_frame(alloc, classes.slice(), name.slice())? {
