@@ -1,4 +1,6 @@
+pub mod CodeAgain
 pub mod Codes
+pub mod InsAgain
 pub mod Known
 pub mod Numbers
 pub mod Pools
