@@ -145,18 +145,18 @@ length_handlers ks (h ∷ hs) = omega (arith, length-append (spell_handler ks h)
 
 -- ---- attributes
 
-attribute_again : (slots : List Slot) (ks : List Known) → Serves ks slots → (word content rest : List ℕ) → has ks (KnownText word) ≡ true → length content < 2 ^ 32 → attribute_at slots word (spell_attribute ks word content ++ rest) ≡ Ok (length content, content ++ rest)
+pub attribute_again : (slots : List Slot) (ks : List Known) → Serves ks slots → (word content rest : List ℕ) → has ks (KnownText word) ≡ true → length content < 2 ^ 32 → attribute_at slots word (spell_attribute ks word content ++ rest) ≡ Ok (length content, content ++ rest)
 unfolding attribute_at spell_attribute
 attribute_again slots ks s word content rest h lt =
     let same : bytes_eq word word ≡ true = (bytes_eq-Decides word word).1 refl in
     rw (whole_u4 (length content) lt, named_again ks slots s word (to_be_bytes w32 (length content) ++ (content ++ rest)) h, same) (u4_again (length content) (content ++ rest) lt)
 
-ends_again : (content rest : List ℕ) → attribute_ends (length content) (length (content ++ rest)) (length rest) ≡ Ok 0
+pub ends_again : (content rest : List ℕ) → attribute_ends (length content) (length (content ++ rest)) (length rest) ≡ Ok 0
 ends_again content rest =
     let e : eqb (length (content ++ rest) - length rest) (length content) ≡ true = eq-eqb _ _ (omega (arith, length-append content rest)) in
     rw e refl
 
-none_more_again : (slots : List Slot) (rest : List ℕ) → no_more_at slots 0 rest ≡ Ok (0, rest)
+pub none_more_again : (slots : List Slot) (rest : List ℕ) → no_more_at slots 0 rest ≡ Ok (0, rest)
 unfolding no_more_at
 none_more_again slots rest = refl
 
@@ -176,11 +176,11 @@ code_attributes_again slots ks s marks lt entry (f ∷ fs) rest n h long u =
     let attribute = spell_attribute ks (codes "StackMapTable") (spell_table ks (f ∷ fs)) in
     rw (u2_again 1 (attribute ++ rest) (omega arith), frames_of_again slots ks s marks lt entry (f ∷ fs) rest n h long u.0 u.1, none_more_again slots rest) refl
 
-has_class : (ks : List Known) (o : Option (List ℕ)) → Have ks (class_or_none_uses o) → HasClass ks o
+pub has_class : (ks : List Known) (o : Option (List ℕ)) → Have ks (class_or_none_uses o) → HasClass ks o
 has_class ks None u = tt
 has_class ks (Some t) u = u.1.0
 
-has_name : (ks : List Known) (o : Option (List ℕ)) → Have ks (name_or_none_uses o) → HasName ks o
+pub has_name : (ks : List Known) (o : Option (List ℕ)) → Have ks (name_or_none_uses o) → HasName ks o
 has_name ks None u = tt
 has_name ks (Some t) u = u.0
 

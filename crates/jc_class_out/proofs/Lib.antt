@@ -3,7 +3,9 @@ pub mod CodeAgain
 pub mod Codes
 pub mod InsAgain
 pub mod Known
+pub mod MembersAgain
 pub mod Numbers
+pub mod PoolAgain
 pub mod Pools
 pub mod Served
 pub mod Tellings
