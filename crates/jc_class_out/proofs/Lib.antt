@@ -1,6 +1,7 @@
 pub mod ClassAgain
 pub mod CodeAgain
 pub mod Codes
+pub mod FileAgain
 pub mod InsAgain
 pub mod Known
 pub mod MembersAgain
@@ -10,3 +11,4 @@ pub mod Pools
 pub mod Served
 pub mod Tellings
 pub mod TextsAgain
+pub mod UsesClosed
