@@ -1,4 +1,5 @@
-ghost use Rattle.std.specs.Prelude.{◌≡◌, true, IfOk, OnOk};
+ghost use Rattle.std.specs.Prelude.{◌≡◌, ◌<◌, ◌++◌, true, IfOk, OnOk};
+ghost use Rattle.std.specs.List.{All};
 ghost use Rattle.jc_class_out.specs.Fitting.{fits_of};
 ghost use Rattle.jc_class_out.specs.Format.{IsClassFile};
 ghost use Rattle.jc_class_out.specs.Spelling.{known, knowns, add, adds, uses, pool_for, file_of};
@@ -38,14 +39,14 @@ fn pool_of(alloc: Global, class: &ClassModel) -> Result<Pool<'_>, WantOfMemory>
 }
 
 #[tactic(auto, unfolding(crate::specs::Spelling::file_of))]
-fn spelled(alloc: Global, class: &ClassModel) -> Result<Vec<u8>, WantOfMemory>
-    ensures { IfOk result (λ bytes. bytes.items ≡ file_of class.now) }
+fn put_file(alloc: Global, out: &mut Vec<u8>, class: &ClassModel) -> Result<(), WantOfMemory>
+    ensures written { OnOk result (out.new.items ≡ out.old.items ++ file_of class.now) }
+    ensures bytes { OnOk result (All (λ b. b < 256) out.new.items) }
 {
     let pool = pool_of(alloc, class)?;
-    let mut out = Vec::new(alloc);
-    put_head(alloc, &mut out, &pool)?;
-    put_members(alloc, &mut out, &pool, class)?;
-    Ok(out)
+    put_head(alloc, out, &pool)?;
+    put_members(alloc, out, &pool, class)?;
+    Ok(())
 }
 
 /// The bytes of the class file, with each constant once in the pool and all frames full.
@@ -53,6 +54,7 @@ pub fn class_bytes(alloc: Global, class: &ClassModel) -> Result<Items<u8>, WantO
     requires { fits_of class.now ≡ true }
     ensures { IfOk result (λ bytes. IsClassFile bytes class.now) }
 {
-    let bytes = spelled(alloc, class)?;
-    Ok(Items::of(bytes))
+    let mut out = Vec::new(alloc);
+    put_file(alloc, &mut out, class)?;
+    Ok(Items::of(out))
 }

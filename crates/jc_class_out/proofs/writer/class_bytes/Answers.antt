@@ -8,4 +8,4 @@ use Rattle.jc_class_out.proofs.writer.class_bytes.Goals as goal
 pub returns : goal.returns
 returns c =
     let a : c.of.result ≡ file_of c.args.class.now = search rules in
-    record { in_range = (let h = c.type_inv in ?); reads = ap read a ∙ file_again c.args.class.now c.requires }
+    record { in_range = rw (c.of.ensures) c.in_ok-put_file.ensures.bytes; reads = ap read a ∙ file_again c.args.class.now c.requires }
