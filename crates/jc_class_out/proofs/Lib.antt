@@ -1,3 +1,14 @@
+pub mod ClassAgain
+pub mod CodeAgain
 pub mod Codes
+pub mod FileAgain
+pub mod InsAgain
+pub mod Known
+pub mod MembersAgain
+pub mod Numbers
+pub mod PoolAgain
 pub mod Pools
+pub mod Served
 pub mod Tellings
+pub mod TextsAgain
+pub mod UsesClosed

@@ -7,3 +7,4 @@ pub mod Frames
 pub mod Code
 pub mod Format
 pub mod Spelling
+pub mod Fitting

@@ -141,8 +141,13 @@ operand_uses kind _ = []
 abbrev pub ins_uses : Ins → List Known
 ins_uses i = operand_uses (kind_of i.code) i.operand
 
+abbrev pub first_loaded : Loaded → List Known
+first_loaded (loaded.Whole n) = KnownWhole n ∷ []
+first_loaded (loaded.Text t) = KnownLiteral t ∷ []
+first_loaded (loaded.Long n) = []
+
 abbrev pub first_uses : Operand → List Known
-first_uses (op.Load l) = loaded_known l ∷ []
+first_uses (op.Load l) = first_loaded l
 first_uses _ = []
 
 -- what ldc loads

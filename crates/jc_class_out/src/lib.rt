@@ -2,12 +2,14 @@
 #![tactic(auto)]
 
 mod descriptors;
+mod fitting;
 mod format;
 mod kinds;
 mod model;
 mod pool;
 mod texts;
 mod uses;
+mod writer;
 mod writing;
 
 pub use format::{Constant, Entry, Flaw, Kind, Slot};
@@ -16,3 +18,4 @@ pub use model::{
     ClassModel, CodeModel, FieldModel, Frame, Handler, InnerModel, Ins, Item, Loaded, MethodModel,
     Operand, SwitchCase,
 };
+pub use writer::class_bytes;

@@ -6,7 +6,7 @@ ghost use Rattle.jc_class_out.specs.Spelling.{known, Told, class_uses, pair_uses
 
 use crate::kinds::kind;
 use crate::pool::{CODE, INNER_CLASSES, STACK_MAP_TABLE};
-use crate::writing::{loaded_constant, member_constant};
+use crate::writing::member_constant;
 use crate::{
     ClassModel, CodeModel, Constant, FieldModel, Frame, Handler, InnerModel, Ins, Item, Kind,
     Loaded, MethodModel, Operand,
@@ -146,7 +146,10 @@ fn walk_load<'a, V: Visitor<'a>>(visitor: &mut V, ins: &'a Ins) -> Result<(), V:
     ensures { OnOk result (Told V.sees visitor.old (ins_first_uses ins.now) visitor.new) }
 {
     match (kind(ins.code), &ins.operand) {
-        (Kind::Load, Operand::Load(loaded)) => visitor.visit(loaded_constant(loaded)),
+        (Kind::Load, Operand::Load(Loaded::Whole(n))) => visitor.visit(Constant::Whole(*n)),
+        (Kind::Load, Operand::Load(Loaded::Text(text))) => {
+            visitor.visit(Constant::Literal(text.slice()))
+        }
         _ => Ok(()),
     }
 }

@@ -187,7 +187,7 @@ fn put_number(out: &mut Vec<u8>, kind: Kind, n: i32) -> Result<(), WantOfMemory>
     }
 }
 
-pub fn loaded_constant(loaded: &Loaded) -> Constant<'_>
+fn loaded_constant(loaded: &Loaded) -> Constant<'_>
     ensures { known result ≡ loaded_known loaded.now }
 {
     match loaded {

@@ -1,0 +1,263 @@
+-- Which classes the writer can spell: each number has room in its field, jumps and handlers go to instructions, operands go
+-- with their opcodes, and the pool has room for each constant that is used.
+use Rattle.std.specs.Prelude.{ℕ, zero, suc, ◌+◌, ◌-◌, ◌*◌, ◌^◌, ℤ, pos, negsuc, Bool, true, false, not, ◌||◌, ◌&&◌, ◌==◌, nat_lt, nat_le, int_lt, int_le, List, [], ◌∷◌, length, Option, Some, None, if◌then◌else◌}
+use Rattle.std.specs.List.{list_all}
+use Rattle.jc_class_out.specs.declared.format.Kind.{Kind}
+use Rattle.jc_class_out.specs.declared.format.Kind.TheVariants.{Plain, Byte, Short, ArrayOf, Load, LoadWide, LoadLong, Local, Step, Jump, Switch, Field, Method, Interface, Class, Dims, Unknown}
+use Rattle.jc_class_out.specs.declared.model.ClassModel.{ClassModel}
+use Rattle.jc_class_out.specs.declared.model.CodeModel.{CodeModel}
+use Rattle.jc_class_out.specs.declared.model.FieldModel.{FieldModel}
+use Rattle.jc_class_out.specs.declared.model.Frame.{Frame}
+use Rattle.jc_class_out.specs.declared.model.Handler.{Handler}
+use Rattle.jc_class_out.specs.declared.model.InnerModel.{InnerModel}
+use Rattle.jc_class_out.specs.declared.model.Ins.{Ins}
+use Rattle.jc_class_out.specs.declared.model.Item.{Item}
+use Rattle.jc_class_out.specs.declared.model.Item.TheVariants as item
+use Rattle.jc_class_out.specs.declared.model.Loaded.{Loaded}
+use Rattle.jc_class_out.specs.declared.model.Loaded.TheVariants as loaded
+use Rattle.jc_class_out.specs.declared.model.MethodModel.{MethodModel}
+use Rattle.jc_class_out.specs.declared.model.SwitchCase.{SwitchCase}
+use Rattle.jc_class_out.specs.declared.model.Operand.{Operand}
+use Rattle.jc_class_out.specs.declared.model.Operand.TheVariants as op
+use Rattle.jc_class_out.specs.Texts.{text_bytes}
+use Rattle.jc_class_out.specs.Descriptors.{is_field_descriptor, is_method_descriptor, parameter_units, or_zero}
+use Rattle.jc_class_out.specs.Pool.{Known, KnownText, KnownWhole, KnownLong, KnownBehind, KnownClass, KnownLiteral, KnownField, KnownMethod, KnownInterface, KnownPair, is_descriptor}
+use Rattle.jc_class_out.specs.Instructions.{is_array_code, kind_of, is_above, target, ins_size}
+use Rattle.jc_class_out.specs.Frames.{begins}
+use Rattle.jc_class_out.specs.Code.{marks_of, size_from, ends}
+use Rattle.jc_class_out.specs.Format.{is_bodiless}
+use Rattle.jc_class_out.specs.Spelling.{adds, loads_of, uses, distance}
+
+-- ---- numbers
+
+abbrev pub is_u8 : ℕ → Bool
+is_u8 n = nat_lt n 256
+
+abbrev pub is_u16 : ℕ → Bool
+is_u16 n = nat_lt n 65536
+
+-- whether a signed number has room: its magnitude, or that of one more where it is negative, is below half the range
+abbrev pub magnitude : ℤ → ℕ
+magnitude (pos n) = n
+magnitude (negsuc n) = n
+
+abbrev pub is_signed : ℕ → ℤ → Bool
+is_signed half z = nat_lt (magnitude z) half
+
+abbrev pub is_count : {A : Type 0} → List A → Bool
+is_count xs = nat_lt (length xs) 65536
+
+-- ---- constants
+
+unfoldable pub text_fits : List ℕ → Bool
+text_fits t = list_all is_u16 t && nat_lt (length (text_bytes t)) 65536
+
+abbrev pub known_fits : Known → Bool
+known_fits (KnownText t) = text_fits t
+known_fits (KnownWhole n) = is_signed (2 ^ 31) n
+known_fits (KnownLong n) = is_signed (2 ^ 63) n
+known_fits (KnownBehind n) = true
+known_fits (KnownClass t) = true
+known_fits (KnownLiteral t) = true
+known_fits (KnownField c n d) = is_field_descriptor d
+known_fits (KnownMethod c n d) = is_method_descriptor d
+known_fits (KnownInterface c n d) = is_method_descriptor d
+known_fits (KnownPair n d) = is_descriptor d
+
+-- how many places the constants take, each once
+abbrev pub places : List Known → ℕ
+places us = length (adds [] us)
+
+-- ---- operands
+
+abbrev pub is_nothing : Operand → Bool
+is_nothing op.Nothing = true
+is_nothing _ = false
+
+abbrev pub is_number : ℕ → Operand → Bool
+is_number half (op.Number n) = is_signed half n
+is_number half _ = false
+
+abbrev pub is_array_number : ℤ → Bool
+is_array_number (pos n) = is_array_code n
+is_array_number (negsuc n) = false
+
+abbrev pub is_array : Operand → Bool
+is_array (op.Number n) = is_array_number n
+is_array _ = false
+
+abbrev pub is_local_below : ℕ → Operand → Bool
+is_local_below limit (op.Local n) = nat_lt n limit
+is_local_below limit _ = false
+
+abbrev pub is_step_below : ℕ → ℕ → Operand → Bool
+is_step_below limit half (op.Step n by) = nat_lt n limit && is_signed half by
+is_step_below limit half _ = false
+
+abbrev pub is_loaded : Loaded → Bool
+is_loaded (loaded.Whole n) = true
+is_loaded (loaded.Text t) = true
+is_loaded (loaded.Long n) = false
+
+abbrev pub is_load_of : Operand → Bool
+is_load_of (op.Load l) = is_loaded l
+is_load_of _ = false
+
+abbrev pub is_load_long : Operand → Bool
+is_load_long (op.Load l) = not (is_loaded l)
+is_load_long _ = false
+
+abbrev pub is_member : Operand → Bool
+is_member (op.Member c n d) = true
+is_member _ = false
+
+-- the units of the arguments have one byte
+abbrev pub is_interface_member : Operand → Bool
+is_interface_member (op.Member c n d) = nat_lt (or_zero (parameter_units d)) 255
+is_interface_member _ = false
+
+abbrev pub is_class_operand : Operand → Bool
+is_class_operand (op.Class c) = true
+is_class_operand _ = false
+
+abbrev pub is_dims : Operand → Bool
+is_dims (op.Dims c n) = nat_lt 0 n && is_u8 n
+is_dims _ = false
+
+-- a jump is reached by a signed distance of two bytes
+abbrev pub is_jump_from : ℕ → Operand → Bool
+is_jump_from at (op.Jump to) = target at (distance at to) == to
+is_jump_from at _ = false
+
+unfoldable pub cases_ascend : Option ℤ → List SwitchCase → Bool
+cases_ascend before [] = true
+cases_ascend before (c ∷ cs) = is_signed (2 ^ 31) c.key && is_above before c.key && cases_ascend (Some (c.key)) cs
+
+abbrev pub is_switch : Operand → Bool
+is_switch (op.Switch otherwise cases) = nat_lt (length cases) (2 ^ 31) && cases_ascend None cases
+is_switch _ = false
+
+unfoldable pub operand_fits : ℕ → Kind → Operand → Bool
+operand_fits at Plain o = is_nothing o
+operand_fits at Byte o = is_number (2 ^ 7) o
+operand_fits at Short o = is_number (2 ^ 15) o
+operand_fits at ArrayOf o = is_array o
+operand_fits at Load o = is_load_of o
+operand_fits at LoadWide o = is_load_of o
+operand_fits at LoadLong o = is_load_long o
+operand_fits at Local o = is_local_below 256 o
+operand_fits at Step o = is_step_below 256 (2 ^ 7) o
+operand_fits at Jump o = is_jump_from at o
+operand_fits at Switch o = is_switch o
+operand_fits at Field o = is_member o
+operand_fits at Method o = is_member o
+operand_fits at Interface o = is_interface_member o
+operand_fits at Class o = is_class_operand o
+operand_fits at Dims o = is_dims o
+operand_fits at Unknown o = false
+
+unfoldable pub wide_fits : Kind → Operand → Bool
+wide_fits Local o = is_local_below 65536 o
+wide_fits Step o = is_step_below 65536 (2 ^ 15) o
+wide_fits _ o = false
+
+-- `wide` is no instruction of its own
+unfoldable pub ins_fits : ℕ → Ins → Bool
+ins_fits at i = if i.wide then (is_u8 i.code && wide_fits (kind_of i.code) i.operand) else (is_u8 i.code && (not (i.code == 0xc4) && operand_fits at (kind_of i.code) i.operand))
+
+unfoldable pub all_fit : ℕ → List Ins → Bool
+all_fit at [] = true
+all_fit at (i ∷ is) = ins_fits at i && all_fit (at + ins_size at i) is
+
+abbrev pub case_lands : List Bool → SwitchCase → Bool
+case_lands marks c = begins marks c.at
+
+abbrev pub operand_lands : List Bool → Operand → Bool
+operand_lands marks (op.Jump to) = begins marks to
+operand_lands marks (op.Switch otherwise cases) = begins marks otherwise && list_all (case_lands marks) cases
+operand_lands marks _ = true
+
+abbrev pub ins_lands : List Bool → Ins → Bool
+ins_lands marks i = operand_lands marks i.operand
+
+-- ---- handlers and frames
+
+unfoldable pub handler_fits : List Bool → Handler → Bool
+handler_fits marks h = begins marks h.from && (ends marks h.to && (nat_lt h.from h.to && begins marks h.at))
+
+abbrev pub item_fits : List Bool → Item → Bool
+item_fits marks (item.Uninitialized at) = begins marks at
+item_fits marks _ = true
+
+abbrev pub is_behind : Option ℕ → ℕ → Bool
+is_behind None at = true
+is_behind (Some before) at = nat_lt before at
+
+unfoldable pub items_fit : List Bool → List Item → Bool
+items_fit marks items = is_count items && list_all (item_fits marks) items
+
+unfoldable pub frame_fits : List Bool → Option ℕ → Frame → Bool
+frame_fits marks before f = begins marks f.at && (is_behind before f.at && (items_fit marks f.locals && items_fit marks f.stack))
+
+unfoldable pub frames_fit : List Bool → Option ℕ → List Frame → Bool
+frames_fit marks before [] = true
+frames_fit marks before (f ∷ fs) = frame_fits marks before f && frames_fit marks (Some (f.at)) fs
+
+abbrev pub item_length : Item → ℕ
+item_length (item.Object name) = 3
+item_length (item.Uninitialized at) = 3
+item_length _ = 1
+
+unfoldable pub items_length : List Item → ℕ
+items_length [] = 0
+items_length (i ∷ is) = item_length i + items_length is
+
+abbrev pub frame_length : Frame → ℕ
+frame_length f = 7 + (items_length f.locals + items_length f.stack)
+
+-- whether the frames take at most so many bytes
+unfoldable pub frames_within : ℕ → List Frame → Bool
+frames_within room [] = true
+frames_within room (f ∷ fs) = nat_le (frame_length f) room && frames_within (room - frame_length f) fs
+
+-- ---- code, methods, classes
+
+-- the length of the attribute Code has four bytes: what the rest of it leaves to the frames
+abbrev pub frames_room : CodeModel → ℕ
+frames_room c = 2 ^ 32 - 1 - (20 + size_from 0 c.ins + 8 * length c.handlers)
+
+unfoldable pub ins_all_fit : List Ins → Bool
+ins_all_fit ins = nat_lt 0 (size_from 0 ins) && (nat_lt (size_from 0 ins) 65536 && (all_fit 0 ins && list_all (ins_lands (marks_of ins)) ins))
+
+unfoldable pub tables_fit : List Bool → CodeModel → Bool
+tables_fit marks c = is_count c.handlers && (list_all (handler_fits marks) c.handlers && (is_count c.frames && (frames_fit marks None c.frames && frames_within (frames_room c) c.frames)))
+
+unfoldable pub code_fits : CodeModel → Bool
+code_fits c = is_u16 c.stack && (is_u16 c.locals && (ins_all_fit c.ins && tables_fit (marks_of c.ins) c))
+
+-- there is code exactly where the method isn't abstract or native
+abbrev pub code_or_none_fits : Bool → Option CodeModel → Bool
+code_or_none_fits bodiless None = bodiless
+code_or_none_fits bodiless (Some c) = not bodiless && code_fits c
+
+unfoldable pub method_fits : MethodModel → Bool
+method_fits m = is_u16 m.flags && (is_method_descriptor m.descriptor && code_or_none_fits (is_bodiless m.flags) m.code)
+
+unfoldable pub field_fits : FieldModel → Bool
+field_fits f = is_u16 f.flags && is_field_descriptor f.descriptor
+
+abbrev pub inner_fits : InnerModel → Bool
+inner_fits i = is_u16 i.flags
+
+unfoldable pub counts_fit : ClassModel → Bool
+counts_fit c = is_count c.interfaces && (is_count c.fields && (is_count c.methods && is_count c.inner))
+
+unfoldable pub members_fit : ClassModel → Bool
+members_fit c = is_u16 c.flags && (counts_fit c && (list_all field_fits c.fields && (list_all method_fits c.methods && list_all inner_fits c.inner)))
+
+-- ldc has one byte for a number, and the count of the pool two
+unfoldable pub pool_fits : ClassModel → Bool
+pool_fits c = list_all known_fits (uses c) && (nat_le (places (loads_of c)) 255 && nat_le (places (uses c)) 65534)
+
+unfoldable pub fits_of : ClassModel → Bool
+fits_of c = members_fit c && pool_fits c
