@@ -6,3 +6,4 @@ pub mod Quiet
 pub mod Standing
 pub mod MainRuns
 pub mod Sameness
+pub mod Fits

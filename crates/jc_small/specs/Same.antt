@@ -1,8 +1,9 @@
 -- A class shows what its source shows, at every number of steps.
-use Rattle.std.specs.Prelude.{◌≡◌, ℕ, ◌+◌, ◌*◌, ◌≤◌, List, [], ◌∷◌, codes}
+use Rattle.std.specs.Prelude.{◌≡◌, ℕ, ◌+◌, ◌*◌, ◌≤◌, List, [], ◌∷◌, codes, true}
 use Rattle.std.specs.declared.option.Option.TheVariants.{Some, None}
 use Rattle.jc_class_out.specs.declared.model.ClassModel.{ClassModel}
 use Rattle.jc_class_out.specs.declared.model.MethodModel.{MethodModel}
+use Rattle.jc_class_out.specs.Fitting.{fits_of}
 use Rattle.jc_machine.specs.declared.machine.Ran.{Ran}
 use Rattle.jc_machine.specs.declared.machine.Ran.TheVariants.{StepsReached, Ended as RanEnded}
 use Rattle.jc_machine.specs.Table.{State}
@@ -65,8 +66,9 @@ pub record Same (program : Program) (class : ClassModel) : Type 0 where
   pub starts : (arguments : List (List ℕ)) → start_of (class ∷ []) (codes "Main") arguments ≡ Some start
   pub shows : ShowsSame program class start
 
--- the text is a program, and this class is one of it
+-- the text is a program, and this class is one of it, which the writer of class files can spell
 pub record Compiled (text : List ℕ) (class : ClassModel) : Type 0 where
   pub program : Program
   pub is_program : IsProgram text program
   pub same : Same program class
+  pub fits : fits_of class ≡ true
