@@ -1,6 +1,5 @@
 //! The work on a job whose sources are read: its class, the class file, and the run.
 ghost use Rattle.std.specs.Prelude.{◌≡◌, ◌≢◌, ◌≤◌, ◌⊎◌, [], ◌∷◌, ◌++◌, IfOk, OnOk, OnErr, IsErrOf, MatchOption, Some, None, Ok, true, false, codes, string_bytes, List, ℕ};
-ghost use Rattle.jc_class_out.specs.Format.{IsClassFile};
 ghost use Rattle.jc_machine.specs.Start.{start_of};
 ghost use Rattle.jc_machine.specs.Table.{State};
 ghost use Rattle.jc_outside.specs.Told.{Rose, Stays, Gets, GetsPart};
@@ -9,7 +8,7 @@ ghost use Rattle.jc_small.specs.Same.{run_from};
 ghost use Rattle.javag.specs.Causes.{HasOutcome, outcome_of, IsSmall, IsClassOf, NamesMain, class_pairs, Worked, not_built as the_refusal};
 
 use crate::outcome::Outcome;
-use jc_class_out::ClassModel;
+use jc_class_out::{ClassModel, class_bytes};
 use jc_machine::{Machine, Ran};
 use jc_outside::{ClassShelf, Keys, OutsideError, Paper};
 use jc_rules::{Items, Place, Refusal, Rule, Stop, Text, WantOfMemory};
@@ -50,12 +49,6 @@ fn make_refusal() -> Refusal
         place: Place { file: 1, at: 0 },
         have: 0,
     }
-}
-
-fn class_file(alloc: Global, class: &ClassModel) -> Result<Items<u8>, WantOfMemory>
-    ensures { IfOk result (λ bytes. IsClassFile bytes class.now) }
-{
-    Err(WantOfMemory)
 }
 
 /// Puts the class file into the job's folder, if it has one.
@@ -135,7 +128,7 @@ fn produce<C: ClassShelf, K: Keys, O: Paper>(
     }) result }
     ensures keys { keys.new ≡ keys.old }
 {
-    let Ok(bytes) = class_file(alloc, &class) else {
+    let Ok(bytes) = class_bytes(alloc, &class) else {
         return Outcome::WantOfMemory;
     };
     match put_class(alloc, job, bytes.slice(), classes) {

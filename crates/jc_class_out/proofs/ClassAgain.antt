@@ -235,9 +235,15 @@ code_model_again slots ks s c h u l =
     let long : length (spell_table ks c.frames) < 2 ^ 32 = omega (arith, length_table ks c.frames (frames_room c) t4.1, small, few) in
     record {
       is_read = λ entry rest.
-        let regrouped : (body ++ (handlers ++ attributes)) ++ rest ≡ body ++ (handlers ++ (attributes ++ rest)) = simp append_assoc in
-        let hs = listed_again (handler_at slots (marks_of c.ins)) (spell_handler ks) c.handlers (attributes ++ rest) few (each_handler slots ks s (marks_of c.ins) marks-short c.handlers t2.0 x.0) in
-        rw (u2_again c.stack (to_be_bytes w16 c.locals ++ ((body ++ (handlers ++ attributes)) ++ rest)) (ltb-true c.stack 65536 a.0), u2_again c.locals ((body ++ (handlers ++ attributes)) ++ rest) (ltb-true c.locals 65536 b.0),
-          regrouped, code.is_read (handlers ++ (attributes ++ rest)), hs, code_attributes_again slots ks s (marks_of c.ins) marks-short entry c.frames rest t3.0 t4.0 long x.1) refl;
+          let regrouped : (body ++ (handlers ++ attributes)) ++ rest ≡ body ++ (handlers ++ (attributes ++ rest)) = simp append_assoc in
+          let hs = listed_again (handler_at slots (marks_of c.ins)) (spell_handler ks) c.handlers (attributes ++ rest) few (each_handler slots ks s (marks_of c.ins) marks-short c.handlers t2.0 x.0) in
+          rw (
+            u2_again c.stack (to_be_bytes w16 c.locals ++ ((body ++ (handlers ++ attributes)) ++ rest)) (ltb-true c.stack 65536 a.0),
+            u2_again c.locals ((body ++ (handlers ++ attributes)) ++ rest) (ltb-true c.locals 65536 b.0),
+            regrouped,
+            code.is_read (handlers ++ (attributes ++ rest)),
+            hs,
+            code_attributes_again slots ks s (marks_of c.ins) marks-short entry c.frames rest t3.0 t4.0 long x.1,
+          ) refl;
       short = omega (arith, l1, l2, l3, l4, code.size, small, few);
     }

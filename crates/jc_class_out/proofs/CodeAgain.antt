@@ -125,7 +125,7 @@ code_again slots ks s at (i ∷ is) lt h u l r =
     let here : length (spell_ins ks (at % 2 ^ 32) i) ≡ ins_size at i = one.size ∙ ap (λ (x : ℕ). ins_size x i) p in
     let more : CodeAgain slots ks (at + length (spell_ins ks (at % 2 ^ 32) i)) is = rw here (code_again slots ks s (at + ins_size at i) is (omega (arith, lt)) f.1 v.1 w.1 r.1) in
     let size : length (spell_ins ks (at % 2 ^ 32) i ++ spell_code ks (at + length (spell_ins ks (at % 2 ^ 32) i)) is) ≡ ins_size at i + size_from (at + ins_size at i) is =
-      omega (arith, length-append (spell_ins ks (at % 2 ^ 32) i) (spell_code ks (at + length (spell_ins ks (at % 2 ^ 32) i)) is), here, more.size, ap (λ (x : ℕ). size_from (at + x) is) here) in
+    omega (arith, length-append (spell_ins ks (at % 2 ^ 32) i) (spell_code ks (at + length (spell_ins ks (at % 2 ^ 32) i)) is), here, more.size, ap (λ (x : ℕ). size_from (at + x) is) here) in
     record { size = size; again = code_more slots ks at (at % 2 ^ 32) i is p one more here size }
 
 -- ---- jumps
@@ -196,13 +196,13 @@ body_again slots ks s is h u l =
     let e : length (spell_code ks 0 is) % 2 ^ 32 ≡ length (spell_code ks 0 is) = whole_u4 (length (spell_code ks 0 is)) (omega (arith, code.size, few)) in
     record {
       is_read = λ rest.
-        let l1 = length-append body rest in
-        let n = u4_again (length body) (body ++ rest) (omega (arith, code.size, few)) in
-        let read = code.again (length (body ++ rest)) (length body) (length body) rest (omega (arith, code.size)) (omega (arith, l1)) (omega (arith, few_ins 0 is, code.size)) in
-        let nz : eqb (length body) 0 ≡ false = ne_eqb (length body) 0 (λ z. omega (arith, z, some, code.size)) in
-        let small : leb (length body) 65535 ≡ true = le-leb _ _ (omega (arith, few, code.size)) in
-        let used : eqb (length (body ++ rest) - length rest) (length body) ≡ true = eq-eqb _ _ (omega (arith, l1)) in
-        rw (e, n, read, nz, small, used, all_land_again (marks_of is) (length (body ++ rest)) 0 is c.1) refl;
+          let l1 = length-append body rest in
+          let n = u4_again (length body) (body ++ rest) (omega (arith, code.size, few)) in
+          let read = code.again (length (body ++ rest)) (length body) (length body) rest (omega (arith, code.size)) (omega (arith, l1)) (omega (arith, few_ins 0 is, code.size)) in
+          let nz : eqb (length body) 0 ≡ false = ne_eqb (length body) 0 (λ z. omega (arith, z, some, code.size)) in
+          let small : leb (length body) 65535 ≡ true = le-leb _ _ (omega (arith, few, code.size)) in
+          let used : eqb (length (body ++ rest) - length rest) (length body) ≡ true = eq-eqb _ _ (omega (arith, l1)) in
+          rw (e, n, read, nz, small, used, all_land_again (marks_of is) (length (body ++ rest)) 0 is c.1) refl;
       size = omega (arith, code.size);
     }
 
@@ -222,6 +222,16 @@ handler_again slots ks s marks h rest lt f u =
     let e2 : h.to % 65536 ≡ h.to = whole_u2 h.to (omega (arith, l2, lt)) in
     let e3 : h.at % 65536 ≡ h.at = whole_u2 h.at (omega (arith, l3, lt)) in
     let class = spell_class_or_none ks h.class in
-    rw (e1, e2, e3, u2_again h.from (to_be_bytes w16 h.to ++ (to_be_bytes w16 h.at ++ (class ++ rest))) (omega (arith, l1, lt)), a.0,
-      u2_again h.to (to_be_bytes w16 h.at ++ (class ++ rest)) (omega (arith, l2, lt)), b.0, c.0,
-      u2_again h.at (class ++ rest) (omega (arith, l3, lt)), c.1, class_or_none_again ks slots s h.class rest u) refl
+    rw (
+      e1,
+      e2,
+      e3,
+      u2_again h.from (to_be_bytes w16 h.to ++ (to_be_bytes w16 h.at ++ (class ++ rest))) (omega (arith, l1, lt)),
+      a.0,
+      u2_again h.to (to_be_bytes w16 h.at ++ (class ++ rest)) (omega (arith, l2, lt)),
+      b.0,
+      c.0,
+      u2_again h.at (class ++ rest) (omega (arith, l3, lt)),
+      c.1,
+      class_or_none_again ks slots s h.class rest u,
+    ) refl

@@ -100,11 +100,11 @@ orderly_two : (ks : List Known) (n : ℤ) → Orderly ks → Orderly (add (add k
 orderly_two ks n o = record {
   spaced = spaced_two ks n (has ks (KnownLong n)) o.spaced o.twins refl;
   twins = λ m.
-    let a : has (add (add ks (KnownLong n)) (KnownBehind n)) (KnownLong m) ≡ (has ks (KnownLong m) || int_eq m n) =
+      let a : has (add (add ks (KnownLong n)) (KnownBehind n)) (KnownLong m) ≡ (has ks (KnownLong m) || int_eq m n) =
       has_add (add ks (KnownLong n)) (KnownBehind n) (KnownLong m) ∙ or_none (has (add ks (KnownLong n)) (KnownLong m)) ∙ has_add ks (KnownLong n) (KnownLong m) in
-    let b : has (add (add ks (KnownLong n)) (KnownBehind n)) (KnownBehind m) ≡ (has ks (KnownBehind m) || int_eq m n) =
+      let b : has (add (add ks (KnownLong n)) (KnownBehind n)) (KnownBehind m) ≡ (has ks (KnownBehind m) || int_eq m n) =
       has_add (add ks (KnownLong n)) (KnownBehind n) (KnownBehind m) ∙ ap (λ (x : Bool). x || int_eq m n) (has_add ks (KnownLong n) (KnownBehind m) ∙ or_none (has ks (KnownBehind m))) in
-    a ∙ ap (λ (x : Bool). x || int_eq m n) (o.twins m) ∙ sym b;
+      a ∙ ap (λ (x : Bool). x || int_eq m n) (o.twins m) ∙ sym b;
 }
 
 orderly_adds : (ks us : List Known) → Orderly ks → Paired None us → Orderly (adds ks us)

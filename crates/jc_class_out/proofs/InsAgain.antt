@@ -187,8 +187,8 @@ switch_again slots ks at (op.Switch otherwise cases) la h r =
     let count = to_be_bytes w32 (length cases) in
     record {
       is = λ left rest.
-        let regrouped : (zs ++ (way ++ (count ++ body))) ++ rest ≡ zs ++ (way ++ (count ++ (body ++ rest))) = simp append_assoc in
-        rw (e, regrouped, zeros_again (padding at) (way ++ (count ++ (body ++ rest))), u4_again (wide_distance at otherwise) (count ++ (body ++ rest)) (omega arith), u4_again (length cases) (body ++ rest) (omega (arith, few)), p.0, cases_again at None cases rest la p.1 r.1, reached at otherwise la r.0) refl;
+          let regrouped : (zs ++ (way ++ (count ++ body))) ++ rest ≡ zs ++ (way ++ (count ++ (body ++ rest))) = simp append_assoc in
+          rw (e, regrouped, zeros_again (padding at) (way ++ (count ++ (body ++ rest))), u4_again (wide_distance at otherwise) (count ++ (body ++ rest)) (omega arith), u4_again (length cases) (body ++ rest) (omega (arith, few)), p.0, cases_again at None cases rest la p.1 r.1, reached at otherwise la r.0) refl;
       size = omega (arith, length-append zs (way ++ (to_be_bytes w32 (length cases % 2 ^ 32) ++ body)), length-append way (to_be_bytes w32 (length cases % 2 ^ 32) ++ body), length-append (to_be_bytes w32 (length cases % 2 ^ 32)) body, length_cases at cases, length-replicate {A = ℕ} (padding at) 0);
     }
 switch_again slots ks at _ la h r = absurd cc
@@ -249,10 +249,10 @@ ins_by slots ks s at i true e la h u l r =
     let p = both_true (is_u8 i.code) (wide_fits (kind_of i.code) i.operand) f in
     record {
       is = λ rest.
-        let a : spell_ins ks at i ≡ 0xc4 ∷ i.code ∷ spell_wide i.operand = rw e refl in
-        let b : ins_at slots at ((0xc4 ∷ i.code ∷ spell_wide i.operand) ++ rest) ≡ done (record { code = i.code; wide = true; operand = i.operand }) rest =
+          let a : spell_ins ks at i ≡ 0xc4 ∷ i.code ∷ spell_wide i.operand = rw e refl in
+          let b : ins_at slots at ((0xc4 ∷ i.code ∷ spell_wide i.operand) ++ rest) ≡ done (record { code = i.code; wide = true; operand = i.operand }) rest =
           rw (wide_operand_again (length (i.code ∷ (spell_wide i.operand ++ rest))) (kind_of i.code) i.operand rest p.1) refl in
-        ap (λ (x : List ℕ). ins_at slots at (x ++ rest)) a ∙ b ∙ same_ins i true rest e;
+          ap (λ (x : List ℕ). ins_at slots at (x ++ rest)) a ∙ b ∙ same_ins i true rest e;
       size = rw (e) (omega (arith, wide_length (kind_of i.code) i.operand p.1));
     }
 ins_by slots ks s at i false e la h u l r =
@@ -263,10 +263,10 @@ ins_by slots ks s at i false e la h u l r =
     let o = operand_again slots ks s at (kind_of i.code) i.operand la q.1 u (λ t. subst (λ (b : Bool). Low ks (cond b (first_uses i.operand) [])) t l) r in
     record {
       is = λ rest.
-        let a : spell_ins ks at i ≡ i.code ∷ spell_operand ks at (kind_of i.code) i.operand = rw e refl in
-        let b : ins_at slots at ((i.code ∷ spell_operand ks at (kind_of i.code) i.operand) ++ rest) ≡ done (record { code = i.code; wide = false; operand = i.operand }) rest =
+          let a : spell_ins ks at i ≡ i.code ∷ spell_operand ks at (kind_of i.code) i.operand = rw e refl in
+          let b : ins_at slots at ((i.code ∷ spell_operand ks at (kind_of i.code) i.operand) ++ rest) ≡ done (record { code = i.code; wide = false; operand = i.operand }) rest =
           rw (n, o.is (length (i.code ∷ (spell_operand ks at (kind_of i.code) i.operand ++ rest))) rest) refl in
-        ap (λ (x : List ℕ). ins_at slots at (x ++ rest)) a ∙ b ∙ same_ins i false rest e;
+          ap (λ (x : List ℕ). ins_at slots at (x ++ rest)) a ∙ b ∙ same_ins i false rest e;
       size = rw (e) (omega (arith, o.size));
     }
 

@@ -140,9 +140,9 @@ one_more : (n : ℕ) → 1 + n ≡ suc n
 one_more n = omega arith
 
 found_by : (k x : Known) (ks : List Known) (b : Bool) → same_known k x ≡ b
-  → (has ks k ≡ true → (prefix_len (λ y. not (same_known k y)) ks < length ks) × (slice_get ks (prefix_len (λ y. not (same_known k y)) ks) ≡ Some k))
-  → has (x ∷ ks) k ≡ true
-  → (cond (not b) (1 + prefix_len (λ y. not (same_known k y)) ks) 0 < length (x ∷ ks)) × (slice_get (x ∷ ks) (cond (not b) (1 + prefix_len (λ y. not (same_known k y)) ks) 0) ≡ Some k)
+    → (has ks k ≡ true → (prefix_len (λ y. not (same_known k y)) ks < length ks) × (slice_get ks (prefix_len (λ y. not (same_known k y)) ks) ≡ Some k))
+    → has (x ∷ ks) k ≡ true
+    → (cond (not b) (1 + prefix_len (λ y. not (same_known k y)) ks) 0 < length (x ∷ ks)) × (slice_get (x ∷ ks) (cond (not b) (1 + prefix_len (λ y. not (same_known k y)) ks) 0) ≡ Some k)
 unfolding has
 found_by k x ks true e ih h = (omega arith, ap Some (sym (same_true k x e)))
 found_by k x ks false e ih h =

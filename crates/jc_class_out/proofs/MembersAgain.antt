@@ -36,10 +36,13 @@ field_again : (slots : List Slot) (ks : List Known) → Serves ks slots → (f :
 unfolding field_at spell_field field_fits field_uses
 field_again slots ks s f rest h u =
     let p = both_true (is_u16 f.flags) (is_field_descriptor f.descriptor) h in
-    rw (u2_again f.flags (index ks (KnownText f.name) ++ (index ks (KnownText f.descriptor) ++ (to_be_bytes w16 0 ++ rest))) (ltb-true f.flags 65536 p.0),
+    rw (
+      u2_again f.flags (index ks (KnownText f.name) ++ (index ks (KnownText f.descriptor) ++ (to_be_bytes w16 0 ++ rest))) (ltb-true f.flags 65536 p.0),
       named_again ks slots s f.name (index ks (KnownText f.descriptor) ++ (to_be_bytes w16 0 ++ rest)) u.0,
       descriptor_again slots ks s is_field_descriptor f.descriptor (to_be_bytes w16 0 ++ rest) p.1 u.1.0,
-      u2_again 0 rest (omega arith), none_more_again slots rest) refl
+      u2_again 0 rest (omega arith),
+      none_more_again slots rest,
+    ) refl
 
 each_field : (slots : List Slot) (ks : List Known) → Serves ks slots → (fs : List FieldModel) → list_all field_fits fs ≡ true → Have ks (flat_map field_uses fs) → EachAgain (field_at slots) (spell_field ks) fs
 each_field slots ks s [] h u = tt
@@ -81,10 +84,12 @@ method_again slots ks s class m rest h u l =
     let p = both_true (is_u16 m.flags) (is_method_descriptor m.descriptor && code_or_none_fits (is_bodiless m.flags) m.code) h in
     let q = both_true (is_method_descriptor m.descriptor) (code_or_none_fits (is_bodiless m.flags) m.code) p.1 in
     let code = spell_code_or_none ks m.code in
-    rw (u2_again m.flags (index ks (KnownText m.name) ++ (index ks (KnownText m.descriptor) ++ (code ++ rest))) (ltb-true m.flags 65536 p.0),
+    rw (
+      u2_again m.flags (index ks (KnownText m.name) ++ (index ks (KnownText m.descriptor) ++ (code ++ rest))) (ltb-true m.flags 65536 p.0),
       named_again ks slots s m.name (index ks (KnownText m.descriptor) ++ (code ++ rest)) u.0,
       descriptor_again slots ks s is_method_descriptor m.descriptor (code ++ rest) q.0 u.1.0,
-      code_again slots ks s (entry_locals class m.flags m.name m.descriptor) (is_bodiless m.flags) m.code rest q.1 u.1.1 l) refl
+      code_again slots ks s (entry_locals class m.flags m.name m.descriptor) (is_bodiless m.flags) m.code rest q.1 u.1.1 l,
+    ) refl
 
 each_method : (slots : List Slot) (ks : List Known) → Serves ks slots → (class : List ℕ) (ms : List MethodModel) → list_all method_fits ms ≡ true → Have ks (flat_map method_uses ms) → Low ks (flat_map method_first_uses ms) → EachAgain (method_at slots class) (spell_method ks) ms
 each_method slots ks s class [] h u l = tt
@@ -104,8 +109,13 @@ inner_again slots ks s i rest h u =
     let name = spell_name_or_none ks i.name in
     let flags = to_be_bytes w16 i.flags in
     let regrouped : (outer ++ (name ++ flags)) ++ rest ≡ outer ++ (name ++ (flags ++ rest)) = simp append_assoc in
-    rw (class_again ks slots s i.inner ((outer ++ (name ++ flags)) ++ rest) u.1.0, regrouped, class_or_none_again ks slots s i.outer (name ++ (flags ++ rest)) (has_class ks i.outer v.0),
-      name_or_none_again ks slots s i.name (flags ++ rest) (has_name ks i.name v.1), u2_again i.flags rest (ltb-true i.flags 65536 h)) refl
+    rw (
+      class_again ks slots s i.inner ((outer ++ (name ++ flags)) ++ rest) u.1.0,
+      regrouped,
+      class_or_none_again ks slots s i.outer (name ++ (flags ++ rest)) (has_class ks i.outer v.0),
+      name_or_none_again ks slots s i.name (flags ++ rest) (has_name ks i.name v.1),
+      u2_again i.flags rest (ltb-true i.flags 65536 h),
+    ) refl
 
 each_inner : (slots : List Slot) (ks : List Known) → Serves ks slots → (is : List InnerModel) → list_all inner_fits is ≡ true → Have ks (flat_map inner_uses is) → EachAgain (inner_at slots) (spell_inner ks) is
 each_inner slots ks s [] h u = tt
@@ -176,10 +186,13 @@ members_again slots ks s c rest h u l =
     let methods = counted (spell_method ks) c.methods in
     let inner = spell_inners ks c.inner in
     let regrouped : (super ++ (interfaces ++ (fields ++ (methods ++ inner)))) ++ rest ≡ super ++ (interfaces ++ (fields ++ (methods ++ (inner ++ rest)))) = simp append_assoc in
-    rw (u2_again c.flags (index ks (KnownClass c.name) ++ ((super ++ (interfaces ++ (fields ++ (methods ++ inner)))) ++ rest)) (ltb-true c.flags 65536 a.0),
-      class_again ks slots s c.name ((super ++ (interfaces ++ (fields ++ (methods ++ inner)))) ++ rest) v0.0.1.0, regrouped,
+    rw (
+      u2_again c.flags (index ks (KnownClass c.name) ++ ((super ++ (interfaces ++ (fields ++ (methods ++ inner)))) ++ rest)) (ltb-true c.flags 65536 a.0),
+      class_again ks slots s c.name ((super ++ (interfaces ++ (fields ++ (methods ++ inner)))) ++ rest) v0.0.1.0,
+      regrouped,
       class_or_none_again ks slots s c.superclass (interfaces ++ (fields ++ (methods ++ (inner ++ rest)))) (has_class ks c.superclass v1.0),
       listed_again (class_named_at slots) (spell_interface ks) c.interfaces (fields ++ (methods ++ (inner ++ rest))) (ltb-true (length c.interfaces) 65536 n1.0) (each_interface slots ks s c.interfaces v2.0),
       listed_again (field_at slots) (spell_field ks) c.fields (methods ++ (inner ++ rest)) (ltb-true (length c.fields) 65536 n2.0) (each_field slots ks s c.fields f1.0 v3.0),
       listed_again (method_at slots c.name) (spell_method ks) c.methods (inner ++ rest) (ltb-true (length c.methods) 65536 n3.0) (each_method slots ks s c.name c.methods f2.0 v4.0 l),
-      class_attributes_again slots ks s c.inner rest (ltb-true (length c.inner) 65536 n3.1) f2.1 v4.1) refl
+      class_attributes_again slots ks s c.inner rest (ltb-true (length c.inner) 65536 n3.1) f2.1 v4.1,
+    ) refl

@@ -91,7 +91,7 @@ slots_again all (k ∷ ks) None rest sp f =
     let whole = spell_entry all k ++ (flat_map (spell_entry all) ks ++ rest) in
     let regrouped : (spell_entry all k ++ flat_map (spell_entry all) ks) ++ rest ≡ spell_entry all k ++ (flat_map (spell_entry all) ks ++ rest) = append_assoc (spell_entry all k) (flat_map (spell_entry all) ks) rest in
     let ih = slots_again all ks (pending_of (length (spell_entry all k ++ (flat_map (spell_entry all) ks ++ rest))) (entry_for all k)) rest
-      (subst (λ (b : Bool). Spaced b ks) (waits_long all (length (spell_entry all k ++ (flat_map (spell_entry all) ks ++ rest))) k) sp.1) g.1 in
+    (subst (λ (b : Bool). Spaced b ks) (waits_long all (length (spell_entry all k ++ (flat_map (spell_entry all) ks ++ rest))) k) sp.1) g.1 in
     let one : Slot = record { left = length (spell_entry all k ++ (flat_map (spell_entry all) ks ++ rest)); entry = entry_for all k } in
     (one ∷ ih.0, rw (regrouped, entry_again all k (flat_map (spell_entry all) ks ++ rest) g.0 sp.0, ih.1) refl, ap (λ (x : List Entry). entry_for all k ∷ x) ih.2)
 

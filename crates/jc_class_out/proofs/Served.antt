@@ -59,7 +59,7 @@ entry_served ks slots s k h =
     let p = at_place ks k h s.short in
     let at = p.1 in
     let one : option_map (λ (x : Slot). x.entry) (slice_get slots p.0) ≡ Some (entry_for ks k) =
-      sym (slice_get-map (λ (x : Slot). x.entry) slots p.0) ∙ ap (λ (x : List Entry). slice_get x p.0) s.is ∙ slice_get-map (entry_for ks) ks p.0 ∙ ap (option_map (entry_for ks)) at.is in
+    sym (slice_get-map (λ (x : Slot). x.entry) slots p.0) ∙ ap (λ (x : List Entry). slice_get x p.0) s.is ∙ slice_get-map (entry_for ks) ks p.0 ∙ ap (option_map (entry_for ks)) at.is in
     rw (at.number_is) (the_entry (slice_get slots p.0) (entry_for ks k) one)
 
 pub text_served : (ks : List Known) (slots : List Slot) → Serves ks slots → (t : List ℕ) → has ks (KnownText t) ≡ true → text_of slots (number ks (KnownText t)) ≡ Some t

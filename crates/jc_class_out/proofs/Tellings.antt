@@ -16,7 +16,7 @@ pub told_more : {S X : Type 0} (sees : S → Known → S → Type 0) (uses : X �
     → i < length xs → x ≡ get_or xs i x → Told sees s (flat_map uses (take i xs)) m → Told sees m (uses x) t → Told sees s (flat_map uses (take (i + 1) xs)) t
 told_more sees uses xs i x s m t lt is h g =
     let e : flat_map uses (take (i + 1) xs) ≡ flat_map uses (take i xs) ++ uses x =
-      ap (flat_map uses) (take_more xs i x lt ∙ ap (λ (y : _). take i xs ++ y ∷ []) (sym is)) ∙ flat_map-append uses (take i xs) (x ∷ []) ∙ ap (λ (y : List Known). flat_map uses (take i xs) ++ y) (append-nil (uses x)) in
+    ap (flat_map uses) (take_more xs i x lt ∙ ap (λ (y : _). take i xs ++ y ∷ []) (sym is)) ∙ flat_map-append uses (take i xs) (x ∷ []) ∙ ap (λ (y : List Known). flat_map uses (take i xs) ++ y) (append-nil (uses x)) in
     subst (λ (us : List Known). Told sees s us t) (sym e) (told_append sees s m t (flat_map uses (take i xs)) (uses x) h g)
 
 -- who gathers them

@@ -77,7 +77,7 @@ Starts bytes = (x : ℕ) × (xs : List ℕ) × (bytes ≡ x ∷ xs)
 
 starts : (u : ℕ) → Starts (unit_bytes u)
 starts u = bytes_by (eqb u 0) (ltb u 0x80) (ltb u 0x800) [] [] [] [] 0xC0 u (0xC0 + u / 64) (0xE0 + u / 4096) (0x80 ∷ []) [] ((0x80 + u % 64) ∷ []) ((0x80 + u / 64 % 64) ∷ (0x80 + u % 64) ∷ []) Starts
-  (0xC0, 0x80 ∷ [], refl) (u, [], refl) (0xC0 + u / 64, (0x80 + u % 64) ∷ [], refl) (0xE0 + u / 4096, (0x80 + u / 64 % 64) ∷ (0x80 + u % 64) ∷ [], refl)
+    (0xC0, 0x80 ∷ [], refl) (u, [], refl) (0xC0 + u / 64, (0x80 + u % 64) ∷ [], refl) (0xE0 + u / 4096, (0x80 + u / 64 % 64) ∷ (0x80 + u % 64) ∷ [], refl)
 
 -- with room for the units that are left
 units_step : (n u : ℕ) (bytes more : List ℕ) (us : List ℕ) → Starts bytes → unit_at (bytes ++ more) ≡ Some (u, more) → units_on n more ≡ Some us → units_on (suc n) (bytes ++ more) ≡ Some (u ∷ us)

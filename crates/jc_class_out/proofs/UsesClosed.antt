@@ -61,8 +61,8 @@ Closed us = PartsIn us us
 parts_flat : {X : Type 0} (f g : X → List Known) → ((x : X) → PartsIn (g x) (f x)) → (xs : List X) → PartsIn (flat_map g xs) (flat_map f xs)
 parts_flat f g h [] = tt
 parts_flat f g h (x ∷ xs) = parts_append (g x ++ flat_map g xs) (f x) (flat_map f xs)
-  (all_more (g x) (g x ++ flat_map g xs) (λ k t. has_left (g x) (flat_map g xs) k t) (f x) (h x))
-  (all_more (flat_map g xs) (g x ++ flat_map g xs) (λ k t. has_right (g x) (flat_map g xs) k t) (flat_map f xs) (parts_flat f g h xs))
+    (all_more (g x) (g x ++ flat_map g xs) (λ k t. has_left (g x) (flat_map g xs) k t) (f x) (h x))
+    (all_more (flat_map g xs) (g x ++ flat_map g xs) (λ k t. has_right (g x) (flat_map g xs) k t) (flat_map f xs) (parts_flat f g h xs))
 
 closed_append : (us vs : List Known) → Closed us → Closed vs → Closed (us ++ vs)
 closed_append us vs p q = parts_append (us ++ vs) us vs (all_more us (us ++ vs) (λ k t. has_left us vs k t) us p) (all_more vs (us ++ vs) (λ k t. has_right us vs k t) vs q)
@@ -132,7 +132,7 @@ closed_table (f ∷ fs) = closed_text (codes "StackMapTable") (flat_map frame_us
 closed_code : (c : CodeModel) → Closed (code_uses c)
 unfolding code_uses
 closed_code c = closed_append (flat_map ins_uses c.ins) (flat_map handler_uses c.handlers ++ table_uses c.frames) (closed_flat ins_uses (λ i. closed_operand (kind_of i.code) i.operand) c.ins)
-  (closed_append (flat_map handler_uses c.handlers) (table_uses c.frames) (closed_flat handler_uses (λ h. closed_class_or_none h.class) c.handlers) (closed_table c.frames))
+    (closed_append (flat_map handler_uses c.handlers) (table_uses c.frames) (closed_flat handler_uses (λ h. closed_class_or_none h.class) c.handlers) (closed_table c.frames))
 
 closed_code_or_none : (o : Option CodeModel) → Closed (code_or_none_uses o)
 closed_code_or_none None = tt
@@ -158,10 +158,10 @@ closed_members : (c : ClassModel) → Closed (members_uses c)
 unfolding members_uses
 closed_members c =
     closed_append (class_uses c.name) (class_or_none_uses c.superclass ++ (flat_map class_uses c.interfaces ++ (flat_map field_uses c.fields ++ (flat_map method_uses c.methods ++ inners_uses c.inner)))) (closed_class c.name)
-      (closed_append (class_or_none_uses c.superclass) (flat_map class_uses c.interfaces ++ (flat_map field_uses c.fields ++ (flat_map method_uses c.methods ++ inners_uses c.inner))) (closed_class_or_none c.superclass)
-        (closed_append (flat_map class_uses c.interfaces) (flat_map field_uses c.fields ++ (flat_map method_uses c.methods ++ inners_uses c.inner)) (closed_flat class_uses closed_class c.interfaces)
-          (closed_append (flat_map field_uses c.fields) (flat_map method_uses c.methods ++ inners_uses c.inner) (closed_flat field_uses closed_field c.fields)
-            (closed_append (flat_map method_uses c.methods) (inners_uses c.inner) (closed_flat method_uses closed_method c.methods) (closed_inners c.inner)))))
+    (closed_append (class_or_none_uses c.superclass) (flat_map class_uses c.interfaces ++ (flat_map field_uses c.fields ++ (flat_map method_uses c.methods ++ inners_uses c.inner))) (closed_class_or_none c.superclass)
+    (closed_append (flat_map class_uses c.interfaces) (flat_map field_uses c.fields ++ (flat_map method_uses c.methods ++ inners_uses c.inner)) (closed_flat class_uses closed_class c.interfaces)
+    (closed_append (flat_map field_uses c.fields) (flat_map method_uses c.methods ++ inners_uses c.inner) (closed_flat field_uses closed_field c.fields)
+    (closed_append (flat_map method_uses c.methods) (inners_uses c.inner) (closed_flat method_uses closed_method c.methods) (closed_inners c.inner)))))
 
 -- ---- what ldc loads
 
@@ -183,7 +183,7 @@ code_loads None = tt
 code_loads (Some c) =
     let rest = flat_map handler_uses c.handlers ++ table_uses c.frames in
     all_more (flat_map ins_uses c.ins) (KnownText (codes "Code") ∷ (flat_map ins_uses c.ins ++ rest)) (λ k h. has_later (KnownText (codes "Code")) k (flat_map ins_uses c.ins ++ rest) (has_left (flat_map ins_uses c.ins) rest k h))
-      (flat_map ins_first_uses c.ins) (parts_flat ins_first_uses ins_uses load_parts c.ins)
+    (flat_map ins_first_uses c.ins) (parts_flat ins_first_uses ins_uses load_parts c.ins)
 
 method_loads : (m : MethodModel) → PartsIn (method_uses m) (method_first_uses m)
 unfolding method_uses
@@ -200,14 +200,14 @@ class_loads c =
     let us2 = flat_map class_uses c.interfaces ++ us3 in
     let us1 = class_or_none_uses c.superclass ++ us2 in
     all_more ms (class_uses c.name ++ us1)
-      (λ k h. has_right (class_uses c.name) us1 k (has_right (class_or_none_uses c.superclass) us2 k (has_right (flat_map class_uses c.interfaces) us3 k (has_right (flat_map field_uses c.fields) us4 k (has_left ms (inners_uses c.inner) k h)))))
-      (flat_map method_first_uses c.methods) (parts_flat method_first_uses method_uses method_loads c.methods)
+    (λ k h. has_right (class_uses c.name) us1 k (has_right (class_or_none_uses c.superclass) us2 k (has_right (flat_map class_uses c.interfaces) us3 k (has_right (flat_map field_uses c.fields) us4 k (has_left ms (inners_uses c.inner) k h)))))
+    (flat_map method_first_uses c.methods) (parts_flat method_first_uses method_uses method_loads c.methods)
 
 pub closed_uses : (c : ClassModel) → Closed (uses c)
 unfolding uses
 closed_uses c = parts_append (loads_of c ++ members_uses c) (loads_of c) (members_uses c)
-  (all_more (members_uses c) (loads_of c ++ members_uses c) (λ k h. has_right (loads_of c) (members_uses c) k h) (loads_of c) (class_loads c))
-  (all_more (members_uses c) (loads_of c ++ members_uses c) (λ k h. has_right (loads_of c) (members_uses c) k h) (members_uses c) (closed_members c))
+    (all_more (members_uses c) (loads_of c ++ members_uses c) (λ k h. has_right (loads_of c) (members_uses c) k h) (loads_of c) (class_loads c))
+    (all_more (members_uses c) (loads_of c ++ members_uses c) (λ k h. has_right (loads_of c) (members_uses c) k h) (members_uses c) (closed_members c))
 
 -- ---- longs
 
@@ -287,7 +287,7 @@ paired_table (f ∷ fs) = (refl, paired_flat frame_uses paired_frame (f ∷ fs))
 paired_code : (c : CodeModel) → Paired None (code_uses c)
 unfolding code_uses
 paired_code c = paired_append None (flat_map ins_uses c.ins) (flat_map handler_uses c.handlers ++ table_uses c.frames) (paired_flat ins_uses (λ i. paired_operand (kind_of i.code) i.operand) c.ins)
-  (paired_append None (flat_map handler_uses c.handlers) (table_uses c.frames) (paired_flat handler_uses (λ h. paired_class_or_none h.class) c.handlers) (paired_table c.frames))
+    (paired_append None (flat_map handler_uses c.handlers) (table_uses c.frames) (paired_flat handler_uses (λ h. paired_class_or_none h.class) c.handlers) (paired_table c.frames))
 
 paired_code_or_none : (o : Option CodeModel) → Paired None (code_or_none_uses o)
 paired_code_or_none None = tt
@@ -317,10 +317,10 @@ paired_members : (c : ClassModel) → Paired None (members_uses c)
 unfolding members_uses
 paired_members c =
     paired_append None (class_uses c.name) (class_or_none_uses c.superclass ++ (flat_map class_uses c.interfaces ++ (flat_map field_uses c.fields ++ (flat_map method_uses c.methods ++ inners_uses c.inner)))) (paired_class c.name)
-      (paired_append None (class_or_none_uses c.superclass) (flat_map class_uses c.interfaces ++ (flat_map field_uses c.fields ++ (flat_map method_uses c.methods ++ inners_uses c.inner))) (paired_class_or_none c.superclass)
-        (paired_append None (flat_map class_uses c.interfaces) (flat_map field_uses c.fields ++ (flat_map method_uses c.methods ++ inners_uses c.inner)) (paired_flat class_uses paired_class c.interfaces)
-          (paired_append None (flat_map field_uses c.fields) (flat_map method_uses c.methods ++ inners_uses c.inner) (paired_flat field_uses paired_field c.fields)
-            (paired_append None (flat_map method_uses c.methods) (inners_uses c.inner) (paired_flat method_uses paired_method c.methods) (paired_inners c.inner)))))
+    (paired_append None (class_or_none_uses c.superclass) (flat_map class_uses c.interfaces ++ (flat_map field_uses c.fields ++ (flat_map method_uses c.methods ++ inners_uses c.inner))) (paired_class_or_none c.superclass)
+    (paired_append None (flat_map class_uses c.interfaces) (flat_map field_uses c.fields ++ (flat_map method_uses c.methods ++ inners_uses c.inner)) (paired_flat class_uses paired_class c.interfaces)
+    (paired_append None (flat_map field_uses c.fields) (flat_map method_uses c.methods ++ inners_uses c.inner) (paired_flat field_uses paired_field c.fields)
+    (paired_append None (flat_map method_uses c.methods) (inners_uses c.inner) (paired_flat method_uses paired_method c.methods) (paired_inners c.inner)))))
 
 pub paired_uses : (c : ClassModel) → Paired None (uses c)
 unfolding uses loads_of

@@ -40,7 +40,7 @@ no_more_at pool n bytes = if n == 0 then Ok (0, bytes) else (named_at pool bytes
 unfoldable pub code_on : List Slot → ℕ → ℕ → ℕ → List ℕ → Result (List Ins × List ℕ) Flaw
 code_on pool start len zero bytes = Ok ([], bytes)
 code_on pool start len (suc n) bytes =
-  if nat_le len (start - length bytes) then Ok ([], bytes) else
+    if nat_le len (start - length bytes) then Ok ([], bytes) else
     (ins_at pool (start - length bytes) bytes >>= λ i. code_on pool start len n i.1 >>= λ more. Ok (i.0 ∷ more.0, more.1))
 
 -- of each byte of the code, whether an instruction begins there
@@ -110,7 +110,7 @@ unfoldable pub code_attributes_at : List Slot → List Bool → List Item → Li
 code_attributes_at pool marks entry bytes = do
   n ← number_at w16 bytes
   if n.0 == 0 then Ok ([], n.1) else
-    (frames_of_at pool marks entry n.1 >>= λ frames. no_more_at pool (n.0 - 1) frames.1 >>= λ more. Ok (frames.0, more.1))
+      (frames_of_at pool marks entry n.1 >>= λ frames. no_more_at pool (n.0 - 1) frames.1 >>= λ more. Ok (frames.0, more.1))
 
 -- `entry` is the locals at the method's entry
 unfoldable pub code_at : List Slot → List Item → List ℕ → Result (CodeModel × List ℕ) Flaw

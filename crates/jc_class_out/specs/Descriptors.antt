@@ -13,17 +13,17 @@ is_base u = u == 66 || u == 67 || u == 73 || u == 74 || u == 83 || u == 90
 unfoldable pub name_end : Bool → List ℕ → Option (List ℕ)
 name_end begins [] = None
 name_end begins (u ∷ us) =
-  if u == 59 then (if begins then None else Some us) else
-  if u == 47 then (if begins then None else name_end true us) else
-  if u == 46 || u == 91 then None else name_end false us
+    if u == 59 then (if begins then None else Some us) else
+    if u == 47 then (if begins then None else name_end true us) else
+    if u == 46 || u == 91 then None else name_end false us
 
 -- what stands behind a type; its dimensions are so many already, and at most 255
 unfoldable pub type_end : ℕ → List ℕ → Option (List ℕ)
 type_end dims [] = None
 type_end dims (u ∷ us) =
-  if is_base u then Some us else
-  if u == 76 then name_end true us else
-  if u == 91 && nat_lt dims 255 then type_end (dims + 1) us else None
+    if is_base u then Some us else
+    if u == 76 then name_end true us else
+    if u == 91 && nat_lt dims 255 then type_end (dims + 1) us else None
 
 abbrev pub nothing_left : Option (List ℕ) → Bool
 nothing_left None = false
@@ -44,9 +44,9 @@ unfoldable pub parameters_on : ℕ → ℕ → List ℕ → Option (ℕ × List 
 parameters_on n used [] = None
 parameters_on zero used (u ∷ us) = None
 parameters_on (suc n) used (u ∷ us) =
-  if u == 41 then Some (used, us) else
-  if nat_lt 255 (used + units_of_type u) then None else
-  option_and_then (λ (rest : List ℕ). parameters_on n (used + units_of_type u) rest) (type_end 0 (u ∷ us))
+    if u == 41 then Some (used, us) else
+    if nat_lt 255 (used + units_of_type u) then None else
+    option_and_then (λ (rest : List ℕ). parameters_on n (used + units_of_type u) rest) (type_end 0 (u ∷ us))
 
 -- V, or a type
 abbrev pub is_result : List ℕ → Bool
@@ -78,9 +78,9 @@ or_zero (Some n) = n
 abbrev pub item_of_type : List ℕ → Item
 item_of_type [] = Integer
 item_of_type (u ∷ us) =
-  if u == 74 then Long else
-  if u == 76 then Object (take (length us - 1) us) else
-  if u == 91 then Object (u ∷ us) else Integer
+    if u == 74 then Long else
+    if u == 76 then Object (take (length us - 1) us) else
+    if u == 91 then Object (u ∷ us) else Integer
 
 abbrev pub items_by : List ℕ → (List ℕ → List Item) → Option (List ℕ) → List Item
 items_by us later None = []

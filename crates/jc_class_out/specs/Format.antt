@@ -89,7 +89,7 @@ unfoldable pub class_attributes_at : List Slot → List ℕ → Result (List Inn
 class_attributes_at pool bytes = do
   n ← number_at w16 bytes
   if n.0 == 0 then Ok ([], n.1) else
-    (inners_at pool n.1 >>= λ rows. no_more_at pool (n.0 - 1) rows.1 >>= λ more. Ok (rows.0, more.1))
+      (inners_at pool n.1 >>= λ rows. no_more_at pool (n.0 - 1) rows.1 >>= λ more. Ok (rows.0, more.1))
 
 -- ---- the class
 
@@ -98,7 +98,7 @@ unfoldable pub head_at : List ℕ → Result (List Slot × List ℕ) Flaw
 head_at bytes = do
   magic ← number_at w32 bytes
   if not (magic.0 == 0xCAFEBABE) then Err Magic else
-    (number_at w16 magic.1 >>= λ minor. if not (minor.0 == 0) then Err Version else
+      (number_at w16 magic.1 >>= λ minor. if not (minor.0 == 0) then Err Version else
       (number_at w16 minor.1 >>= λ version. if not (version.0 == major) then Err Version else pool_at version.1))
 
 unfoldable pub members_at : List Slot → List ℕ → Result (ClassModel × List ℕ) Flaw

@@ -22,13 +22,13 @@ offset_item_at marks bytes = do
 
 unfoldable pub item_by : List Slot → List Bool → ℕ → ℕ → List ℕ → Result (Item × List ℕ) Flaw
 item_by pool marks left tag bytes =
-  if tag == 0 then Ok (Top, bytes) else
-  if tag == 1 then Ok (Integer, bytes) else
-  if tag == 4 then Ok (Long, bytes) else
-  if tag == 5 then Ok (NullItem, bytes) else
-  if tag == 6 then Ok (UninitializedThis, bytes) else
-  if tag == 7 then (class_named_at pool bytes >>= λ c. Ok (Object c.0, c.1)) else
-  if tag == 8 then offset_item_at marks bytes else Err (Tag left)
+    if tag == 0 then Ok (Top, bytes) else
+    if tag == 1 then Ok (Integer, bytes) else
+    if tag == 4 then Ok (Long, bytes) else
+    if tag == 5 then Ok (NullItem, bytes) else
+    if tag == 6 then Ok (UninitializedThis, bytes) else
+    if tag == 7 then (class_named_at pool bytes >>= λ c. Ok (Object c.0, c.1)) else
+    if tag == 8 then offset_item_at marks bytes else Err (Tag left)
 
 unfoldable pub item_at : List Slot → List Bool → List ℕ → Result (Item × List ℕ) Flaw
 item_at pool marks bytes = u8_at bytes >>= λ tag. item_by pool marks (length bytes) tag.0 tag.1
@@ -81,18 +81,18 @@ full_at pool marks before bytes = do
 -- of the forms with a tag of their own; 128 to 246 are no frames
 unfoldable pub frame_by : List Slot → List Bool → Option ℕ → List Item → ℕ → ℕ → List ℕ → Result (Frame × List ℕ) Flaw
 frame_by pool marks before locals left tag bytes =
-  if nat_lt tag 247 then Err (Tag left) else
-  if tag == 247 then same_item_extended_at pool marks before locals bytes else
-  if nat_lt tag 251 then chop_at marks before locals left (251 - tag) bytes else
-  if tag == 251 then same_extended_at marks before locals bytes else
-  if nat_lt tag 255 then append_at pool marks before locals (tag - 251) bytes else full_at pool marks before bytes
+    if nat_lt tag 247 then Err (Tag left) else
+    if tag == 247 then same_item_extended_at pool marks before locals bytes else
+    if nat_lt tag 251 then chop_at marks before locals left (251 - tag) bytes else
+    if tag == 251 then same_extended_at marks before locals bytes else
+    if nat_lt tag 255 then append_at pool marks before locals (tag - 251) bytes else full_at pool marks before bytes
 
 -- the delta of 0 to 63, and of 64 to 127, is in the tag
 unfoldable pub frame_at : List Slot → List Bool → Option ℕ → List Item → List ℕ → Result (Frame × List ℕ) Flaw
 frame_at pool marks before locals bytes = do
   tag ← u8_at bytes
   if nat_lt tag.0 64 then (wants (begins marks (place_of before tag.0)) (length bytes) >>= λ _. Ok (record { at = place_of before tag.0; locals = locals; stack = [] }, tag.1)) else
-    if nat_lt tag.0 128 then (wants (begins marks (place_of before (tag.0 - 64))) (length bytes) >>= λ _. same_item_at pool marks locals (place_of before (tag.0 - 64)) tag.1) else
+      if nat_lt tag.0 128 then (wants (begins marks (place_of before (tag.0 - 64))) (length bytes) >>= λ _. same_item_at pool marks locals (place_of before (tag.0 - 64)) tag.1) else
       frame_by pool marks before locals (length bytes) tag.0 tag.1
 
 -- so many frames, each seen from the one before it

@@ -62,28 +62,28 @@ is_class code = code == 0xbb || code == 0xbd || within 0xc0 0xc1 code
 
 unfoldable pub member_kind : ℕ → Kind
 member_kind code =
-  if within 0xb2 0xb5 code then Field else
-  if within 0xb6 0xb8 code then Method else
-  if code == 0xb9 then Interface else
-  if is_class code then Class else
-  if code == 0xc5 then Dims else Unknown
+    if within 0xb2 0xb5 code then Field else
+    if within 0xb6 0xb8 code then Method else
+    if code == 0xb9 then Interface else
+    if is_class code then Class else
+    if code == 0xc5 then Dims else Unknown
 
 unfoldable pub branch_kind : ℕ → Kind
 branch_kind code =
-  if is_local code then Local else
-  if code == 0x84 then Step else
-  if is_jump code then Jump else
-  if code == 0xab then Switch else member_kind code
+    if is_local code then Local else
+    if code == 0x84 then Step else
+    if is_jump code then Jump else
+    if code == 0xab then Switch else member_kind code
 
 unfoldable pub kind_of : ℕ → Kind
 kind_of code =
-  if is_plain code then Plain else
-  if code == 0x10 then Byte else
-  if code == 0x11 then Short else
-  if code == 0x12 then Load else
-  if code == 0x13 then LoadWide else
-  if code == 0x14 then LoadLong else
-  if code == 0xbc then ArrayOf else branch_kind code
+    if is_plain code then Plain else
+    if code == 0x10 then Byte else
+    if code == 0x11 then Short else
+    if code == 0x12 then Load else
+    if code == 0x13 then LoadWide else
+    if code == 0x14 then LoadLong else
+    if code == 0xbc then ArrayOf else branch_kind code
 
 -- the codes of newarray: boolean, char, byte, short, int, long
 abbrev pub is_array_code : ℕ → Bool

@@ -111,7 +111,7 @@ unfoldable pub text_at : List ℕ → Result (List ℕ × List ℕ) Flaw
 text_at bytes = do
   n ← number_at w16 bytes
   if nat_lt (length n.1) n.0 then Err Short else
-    (or_flaw (text_of_bytes (take n.0 n.1)) (BadText (length n.1)) >>= λ t. Ok (t, drop n.0 n.1))
+      (or_flaw (text_of_bytes (take n.0 n.1)) (BadText (length n.1)) >>= λ t. Ok (t, drop n.0 n.1))
 
 unfoldable pub two_at : List ℕ → Result (ℕ × ℕ × List ℕ) Flaw
 two_at bytes = do
@@ -121,15 +121,15 @@ two_at bytes = do
 
 unfoldable pub entry_by : ℕ → ℕ → List ℕ → Result (Entry × List ℕ) Flaw
 entry_by left tag bytes =
-  if tag == 1 then (text_at bytes >>= λ t. Ok (Text t.0, t.1)) else
-  if tag == 3 then (number_at w32 bytes >>= λ n. Ok (Whole (cast_signed w32 n.0), n.1)) else
-  if tag == 5 then (number_at w64 bytes >>= λ n. Ok (Long (cast_signed w64 n.0), n.1)) else
-  if tag == 7 then (number_at w16 bytes >>= λ n. Ok (Class n.0, n.1)) else
-  if tag == 8 then (number_at w16 bytes >>= λ n. Ok (Literal n.0, n.1)) else
-  if tag == 9 then (two_at bytes >>= λ n. Ok (Field n.0 n.1, n.2)) else
-  if tag == 10 then (two_at bytes >>= λ n. Ok (Method n.0 n.1, n.2)) else
-  if tag == 11 then (two_at bytes >>= λ n. Ok (Interface n.0 n.1, n.2)) else
-  if tag == 12 then (two_at bytes >>= λ n. Ok (Pair n.0 n.1, n.2)) else Err (Tag left)
+    if tag == 1 then (text_at bytes >>= λ t. Ok (Text t.0, t.1)) else
+    if tag == 3 then (number_at w32 bytes >>= λ n. Ok (Whole (cast_signed w32 n.0), n.1)) else
+    if tag == 5 then (number_at w64 bytes >>= λ n. Ok (Long (cast_signed w64 n.0), n.1)) else
+    if tag == 7 then (number_at w16 bytes >>= λ n. Ok (Class n.0, n.1)) else
+    if tag == 8 then (number_at w16 bytes >>= λ n. Ok (Literal n.0, n.1)) else
+    if tag == 9 then (two_at bytes >>= λ n. Ok (Field n.0 n.1, n.2)) else
+    if tag == 10 then (two_at bytes >>= λ n. Ok (Method n.0 n.1, n.2)) else
+    if tag == 11 then (two_at bytes >>= λ n. Ok (Interface n.0 n.1, n.2)) else
+    if tag == 12 then (two_at bytes >>= λ n. Ok (Pair n.0 n.1, n.2)) else Err (Tag left)
 
 unfoldable pub entry_at : List ℕ → Result (Entry × List ℕ) Flaw
 entry_at bytes = do
@@ -192,7 +192,7 @@ unfoldable pub pool_at : List ℕ → Result (List Slot × List ℕ) Flaw
 pool_at bytes = do
   n ← number_at w16 bytes
   if n.0 == 0 then Err (Index (length bytes)) else
-    (slots_at (n.0 - 1) None n.1 >>= λ s. checked s.0 s.0 >>= λ _. Ok s)
+      (slots_at (n.0 - 1) None n.1 >>= λ s. checked s.0 s.0 >>= λ _. Ok s)
 
 -- ---- indices into the pool
 

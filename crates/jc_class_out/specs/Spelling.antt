@@ -197,7 +197,7 @@ inners_uses (i ∷ is) = KnownText (codes "InnerClasses") ∷ flat_map inner_use
 
 unfoldable pub members_uses : ClassModel → List Known
 members_uses c = class_uses c.name ++ (class_or_none_uses c.superclass ++ (flat_map class_uses c.interfaces
-  ++ (flat_map field_uses c.fields ++ (flat_map method_uses c.methods ++ inners_uses c.inner))))
+    ++ (flat_map field_uses c.fields ++ (flat_map method_uses c.methods ++ inners_uses c.inner))))
 
 unfoldable pub loads_of : ClassModel → List Known
 loads_of c = flat_map method_first_uses c.methods
@@ -333,7 +333,7 @@ spell_interface ks name = index ks (KnownClass name)
 
 unfoldable pub spell_members : List Known → ClassModel → List ℕ
 spell_members ks c = to_be_bytes w16 c.flags ++ (index ks (KnownClass c.name) ++ (spell_class_or_none ks c.superclass ++ (counted (spell_interface ks) c.interfaces
-  ++ (counted (spell_field ks) c.fields ++ (counted (spell_method ks) c.methods ++ spell_inners ks c.inner)))))
+    ++ (counted (spell_field ks) c.fields ++ (counted (spell_method ks) c.methods ++ spell_inners ks c.inner)))))
 
 unfoldable pub spell_member_entry : List Known → ℕ → List ℕ → List ℕ → List ℕ → List ℕ
 spell_member_entry ks tag c n d = tag ∷ (index ks (KnownClass c) ++ index ks (KnownPair n d))

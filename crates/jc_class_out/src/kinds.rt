@@ -57,10 +57,7 @@ fn plain(code: u8) -> bool
 fn local(code: u8) -> bool
     ensures { result ≡ is_local code }
 {
-    (0x15 <= code && code <= 0x16)
-        || code == 0x19
-        || (0x36 <= code && code <= 0x37)
-        || code == 0x3a
+    (0x15 <= code && code <= 0x16) || code == 0x19 || (0x36 <= code && code <= 0x37) || code == 0x3a
 }
 
 fn jump(code: u8) -> bool

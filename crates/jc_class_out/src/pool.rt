@@ -3,9 +3,9 @@ ghost use Rattle.std.specs.Int.{w32, w64, to_be_bytes, cast_unsigned};
 ghost use Rattle.jc_class_out.specs.Pool.{KnownText};
 ghost use Rattle.jc_class_out.specs.Spelling.{knowns, known, add, number, index, spell_entry, spell_text, spell_member_entry, spell_pool, spell_head};
 
-use crate::texts::put_units;
-use crate::writing::{put_count, put_index, put_u16, put_u32, put_u64, put_u8};
 use crate::Constant;
+use crate::texts::put_units;
+use crate::writing::{put_count, put_index, put_u8, put_u16, put_u32, put_u64};
 use indexmap::IndexSet;
 use jc_rules::WantOfMemory;
 use std::alloc::Global;
@@ -18,9 +18,7 @@ pub type Pool<'a> = IndexSet<Constant<'a>>;
 
 pub static CODE: [u16; 4] = [67, 111, 100, 101];
 
-pub static STACK_MAP_TABLE: [u16; 13] = [
-    83, 116, 97, 99, 107, 77, 97, 112, 84, 97, 98, 108, 101,
-];
+pub static STACK_MAP_TABLE: [u16; 13] = [83, 116, 97, 99, 107, 77, 97, 112, 84, 97, 98, 108, 101];
 
 pub static INNER_CLASSES: [u16; 12] = [73, 110, 110, 101, 114, 67, 108, 97, 115, 115, 101, 115];
 
@@ -151,11 +149,7 @@ fn put_entry<'a>(
 }
 
 #[tactic(auto, unfolding(crate::specs::Spelling::spell_pool))]
-fn put_pool<'a>(
-    alloc: Global,
-    out: &mut Vec<u8>,
-    pool: &Pool<'a>,
-) -> Result<(), WantOfMemory>
+fn put_pool<'a>(alloc: Global, out: &mut Vec<u8>, pool: &Pool<'a>) -> Result<(), WantOfMemory>
     ensures { OnOk result (out.new.items ≡ out.old.items ++ spell_pool (knowns pool.now.keys)) }
 {
     put_count(out, pool.len() + 1)?;
@@ -167,11 +161,7 @@ fn put_pool<'a>(
 
 /// The file up to the end of the pool.
 #[tactic(auto, unfolding(crate::specs::Spelling::spell_head))]
-pub fn put_head<'a>(
-    alloc: Global,
-    out: &mut Vec<u8>,
-    pool: &Pool<'a>,
-) -> Result<(), WantOfMemory>
+pub fn put_head<'a>(alloc: Global, out: &mut Vec<u8>, pool: &Pool<'a>) -> Result<(), WantOfMemory>
     ensures { OnOk result (out.new.items ≡ out.old.items ++ spell_head (knowns pool.now.keys)) }
 {
     put_u32(out, 0xCAFE_BABE)?;

@@ -229,10 +229,7 @@ fn walk_table<'a, V: Visitor<'a>>(visitor: &mut V, frames: &'a [Frame]) -> Resul
 }
 
 #[tactic(auto, unfolding(crate::specs::Spelling::code_uses), using(crate::proofs::Tellings::told_append))]
-fn walk_code_model<'a, V: Visitor<'a>>(
-    visitor: &mut V,
-    code: &'a CodeModel,
-) -> Result<(), V::Stop>
+fn walk_code_model<'a, V: Visitor<'a>>(visitor: &mut V, code: &'a CodeModel) -> Result<(), V::Stop>
     ensures { OnOk result (Told V.sees visitor.old (code_uses code.now) visitor.new) }
 {
     walk_code(visitor, code.ins.slice())?;
@@ -258,10 +255,7 @@ fn walk_code_or_none<'a, V: Visitor<'a>>(
 }
 
 #[tactic(auto, unfolding(crate::specs::Spelling::method_uses))]
-fn walk_method<'a, V: Visitor<'a>>(
-    visitor: &mut V,
-    method: &'a MethodModel,
-) -> Result<(), V::Stop>
+fn walk_method<'a, V: Visitor<'a>>(visitor: &mut V, method: &'a MethodModel) -> Result<(), V::Stop>
     ensures { OnOk result (Told V.sees visitor.old (method_uses method.now) visitor.new) }
 {
     visitor.visit(Constant::Text(method.name.slice()))?;
@@ -297,10 +291,7 @@ fn walk_method_loads<'a, V: Visitor<'a>>(
 
 /// Tells the visitor what the class loads by ldc.
 #[tactic(auto, unfolding(crate::specs::Spelling::loads_of), using(crate::proofs::Tellings::told_more))]
-pub fn tell_loads<'a, V: Visitor<'a>>(
-    visitor: &mut V,
-    class: &'a ClassModel,
-) -> Result<(), V::Stop>
+pub fn tell_loads<'a, V: Visitor<'a>>(visitor: &mut V, class: &'a ClassModel) -> Result<(), V::Stop>
     ensures { OnOk result (Told V.sees visitor.old (loads_of class.now) visitor.new) }
 {
     let methods = class.methods.slice();
@@ -320,10 +311,7 @@ fn walk_field<'a, V: Visitor<'a>>(visitor: &mut V, field: &'a FieldModel) -> Res
 }
 
 #[tactic(auto, using(crate::proofs::Tellings::told_more))]
-fn walk_fields<'a, V: Visitor<'a>>(
-    visitor: &mut V,
-    fields: &'a [FieldModel],
-) -> Result<(), V::Stop>
+fn walk_fields<'a, V: Visitor<'a>>(visitor: &mut V, fields: &'a [FieldModel]) -> Result<(), V::Stop>
     ensures { OnOk result (Told V.sees visitor.old (flat_map field_uses fields.now) visitor.new) }
 {
     for field in fields {
@@ -379,10 +367,7 @@ fn walk_interfaces<'a, V: Visitor<'a>>(
 }
 
 #[tactic(auto, unfolding(crate::specs::Spelling::members_uses), using(crate::proofs::Tellings::told_append))]
-fn walk_members<'a, V: Visitor<'a>>(
-    visitor: &mut V,
-    class: &'a ClassModel,
-) -> Result<(), V::Stop>
+fn walk_members<'a, V: Visitor<'a>>(visitor: &mut V, class: &'a ClassModel) -> Result<(), V::Stop>
     ensures { OnOk result (Told V.sees visitor.old (members_uses class.now) visitor.new) }
 {
     walk_class(visitor, &class.name)?;
@@ -396,10 +381,7 @@ fn walk_members<'a, V: Visitor<'a>>(
 
 /// Tells the visitor each constant that the class uses, those of ldc first.
 #[tactic(auto, unfolding(crate::specs::Spelling::uses), using(crate::proofs::Tellings::told_append))]
-pub fn tell_uses<'a, V: Visitor<'a>>(
-    visitor: &mut V,
-    class: &'a ClassModel,
-) -> Result<(), V::Stop>
+pub fn tell_uses<'a, V: Visitor<'a>>(visitor: &mut V, class: &'a ClassModel) -> Result<(), V::Stop>
     ensures { OnOk result (Told V.sees visitor.old (uses class.now) visitor.new) }
 {
     tell_loads(visitor, class)?;

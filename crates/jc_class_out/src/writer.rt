@@ -4,8 +4,8 @@ ghost use Rattle.jc_class_out.specs.Fitting.{fits_of};
 ghost use Rattle.jc_class_out.specs.Format.{IsClassFile};
 ghost use Rattle.jc_class_out.specs.Spelling.{known, knowns, add, adds, uses, pool_for, file_of};
 
-use crate::pool::{intern, put_head, Pool};
-use crate::uses::{tell_uses, Visitor};
+use crate::pool::{Pool, intern, put_head};
+use crate::uses::{Visitor, tell_uses};
 use crate::writing::put_members;
 use crate::{ClassModel, Constant};
 use jc_rules::{Items, WantOfMemory};

@@ -8,7 +8,7 @@ ghost use Rattle.jc_class_out.specs.Instructions.{padding};
 
 use crate::descriptors::units_of_parameters;
 use crate::kinds::kind;
-use crate::pool::{number, Pool, CODE, INNER_CLASSES, STACK_MAP_TABLE};
+use crate::pool::{CODE, INNER_CLASSES, Pool, STACK_MAP_TABLE, number};
 use crate::{
     ClassModel, CodeModel, Constant, FieldModel, Frame, Handler, InnerModel, Ins, Item, Kind,
     Loaded, MethodModel, Operand, SwitchCase,
@@ -73,21 +73,33 @@ fn put_length(out: &mut Vec<u8>, length: usize) -> Result<(), WantOfMemory>
     Ok(())
 }
 
-pub fn put_index<'a>(out: &mut Vec<u8>, pool: &Pool<'a>, wanted: Constant<'a>) -> Result<(), WantOfMemory>
+pub fn put_index<'a>(
+    out: &mut Vec<u8>,
+    pool: &Pool<'a>,
+    wanted: Constant<'a>,
+) -> Result<(), WantOfMemory>
     ensures { OnOk result (out.new.items ≡ out.old.items ++ index (knowns pool.now.keys) (known wanted.entry)) }
 {
     put_u16(out, number(pool, wanted))?;
     Ok(())
 }
 
-fn put_class<'a>(out: &mut Vec<u8>, pool: &Pool<'a>, name: &'a Items<u16>) -> Result<(), WantOfMemory>
+fn put_class<'a>(
+    out: &mut Vec<u8>,
+    pool: &Pool<'a>,
+    name: &'a Items<u16>,
+) -> Result<(), WantOfMemory>
     ensures { OnOk result (out.new.items ≡ out.old.items ++ index (knowns pool.now.keys) (KnownClass name.now)) }
 {
     put_index(out, pool, Constant::Class(name.slice()))?;
     Ok(())
 }
 
-fn put_name<'a>(out: &mut Vec<u8>, pool: &Pool<'a>, name: &'a Items<u16>) -> Result<(), WantOfMemory>
+fn put_name<'a>(
+    out: &mut Vec<u8>,
+    pool: &Pool<'a>,
+    name: &'a Items<u16>,
+) -> Result<(), WantOfMemory>
     ensures { OnOk result (out.new.items ≡ out.old.items ++ index (knowns pool.now.keys) (KnownText name.now)) }
 {
     put_index(out, pool, Constant::Text(name.slice()))?;
@@ -349,11 +361,7 @@ fn put_ins<'a>(
 }
 
 /// The instructions into an empty `Vec`, so that its length is the place of the next one.
-fn put_code<'a>(
-    out: &mut Vec<u8>,
-    pool: &Pool<'a>,
-    list: &'a [Ins],
-) -> Result<(), WantOfMemory>
+fn put_code<'a>(out: &mut Vec<u8>, pool: &Pool<'a>, list: &'a [Ins]) -> Result<(), WantOfMemory>
     requires { out.old.items ≡ [] }
     ensures { OnOk result (out.new.items ≡ spell_code (knowns pool.now.keys) 0 list.now) }
 {

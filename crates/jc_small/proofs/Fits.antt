@@ -356,7 +356,7 @@ class_pool_fits program fit short =
     let room = grown main_base base_selfsame [] (head_known ++ flat_map ins_uses code) (length head_known + costs.cost) (costs_append (costs_others head_known) costs.costs) in
     rw (no_loads program fit, members_are program)
     (and_true _ _ (all_append known_fits head_known (flat_map ins_uses code) head_fits (each_known code fit))
-      (le-leb (length (adds [] (head_known ++ flat_map ins_uses code))) 65534 (omega (arith, room, missing_most [] main_base, costs.small, short))))
+    (le-leb (length (adds [] (head_known ++ flat_map ins_uses code))) 65534 (omega (arith, room, missing_most [] main_base, costs.small, short))))
 
 -- the class of a program that isn't too long has a file
 pub class_fits : (program : Program) → AllByRecursion IsSum program → length (main_code program) ≤ 16384 → fits_of (main_class program) ≡ true

@@ -5,4 +5,4 @@ use Rattle.jc_class_out.proofs.pool.put_pool.Given as goal
 
 abbrev pub invariant-loop-constant : goal.invariant-loop-constant
 invariant-loop-constant l =
-  l.out.items ++ flat_map (spell_entry (knowns l.pool.keys)) (knowns l.constant-iterator) ≡ l.initial.out.items ++ flat_map (spell_entry (knowns l.pool.keys)) (knowns l.pool.keys)
+    l.out.items ++ flat_map (spell_entry (knowns l.pool.keys)) (knowns l.constant-iterator) ≡ l.initial.out.items ++ flat_map (spell_entry (knowns l.pool.keys)) (knowns l.pool.keys)
