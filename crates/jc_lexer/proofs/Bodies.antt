@@ -1,5 +1,5 @@
 -- The loop that reads a string literal, turn by turn.
-use Rattle.std.proofs.Common.{◌≡◌, ℕ, zero, suc, ◌+◌, ◌-◌, ◌<◌, ◌≤◌, Bool, true, false, List, [], ◌∷◌, ◌++◌, length, drop, refl, sym, ap, ◌∙◌, arith, length-drop, append_assoc, subst}
+use Rattle.std.proofs.Common.{◌≡◌, ℕ, zero, suc, ◌+◌, ◌-◌, ◌<◌, ◌≤◌, true, false, List, [], ◌∷◌, ◌++◌, length, drop, refl, sym, ap, ◌∙◌, arith, length-drop, append_assoc, subst}
 use Rattle.std.specs.Prelude.{◌==◌}
 use Rattle.std.proofs.lemmas.List.{append-nil}
 use Rattle.jc_lexer.specs.declared.symbol.Symbol.{Symbol}
@@ -45,7 +45,7 @@ module _ (text : List Symbol) (units : List ℕ) (len : ℕ) (rest behind : List
         bound = t.0;
         enough = omega (arith, t.1, h.enough, shorter, ap length cut);
         same = h.same ∙ ap (with_units units len) (t.2 ∙ turn (λ n. string_from t.0 (drop n rest))) ∙ with_two units more len taken (string_from t.0 (drop taken rest))
-          ∙ ap (λ l. with_units (units ++ more) (len + taken) (string_from t.0 l)) (sym cut);
+            ∙ ap (λ l. with_units (units ++ more) (len + taken) (string_from t.0 l)) (sym cut);
       }
 
   pub unit_on : (unit taken : ℕ) (new : List ℕ) → One unit taken ≡ element_at rest → 0 < taken → taken ≤ length rest → behind ≡ drop taken rest →

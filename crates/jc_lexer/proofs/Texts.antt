@@ -40,7 +40,7 @@ reads_on bytes items more at len code odd next rest behind h z r some fits grown
     let shorter : length (drop len rest) ≡ length rest - len = length-drop len rest in
     let bound : length behind ≤ t.0 = omega (arith, t.1, h.enough, shorter, ap length cut) in
     let joined : text_of bytes ≡ more ++ tail =
-      h.same ∙ ap (λ l. items ++ l) t.2 ∙ sym (append_assoc items (record { code = code; from = at } ∷ []) tail) ∙ ap (λ l. l ++ tail) (sym grown) in
+    h.same ∙ ap (λ l. items ++ l) t.2 ∙ sym (append_assoc items (record { code = code; from = at } ∷ []) tail) ∙ ap (λ l. l ++ tail) (sym grown) in
     record { bound = t.0; enough = bound; same = joined ∙ ap (λ l. more ++ text_from t.0 (at + len) next l) (sym cut) }
 
 -- the text ends where the reading stops

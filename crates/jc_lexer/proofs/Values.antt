@@ -1,6 +1,6 @@
 -- The value of digits, one by one.
-use Rattle.std.proofs.Common.{◌≡◌, ℕ, zero, suc, ◌+◌, ◌*◌, ◌^◌, ◌<◌, ◌≤◌, Bool, true, false, cond, ◌&&◌, List, [], ◌∷◌, Option, Some, None, length, drop, refl, sym, ap, ◌∙◌, arith, ltb}
-use Rattle.std.specs.Prelude.{◌==◌, nat_lt, ◌||◌}
+use Rattle.std.proofs.Common.{◌≡◌, ℕ, ◌+◌, ◌*◌, ◌^◌, ◌<◌, ◌≤◌, Bool, true, false, cond, ◌&&◌, List, [], ◌∷◌, Some, None, refl, arith}
+use Rattle.std.specs.Prelude.{◌==◌, nat_lt}
 use Rattle.std.specs.List.{list_all}
 use Rattle.std.specs.Char.{digit_value}
 use Rattle.std.proofs.lemmas.Bool.Decides.{nat_tests}
@@ -16,8 +16,9 @@ grows : (base value : ℕ) (digits : List Symbol) → 1 ≤ base → value ≤ v
 grows base value [] h = omega arith
 grows base value (s ∷ digits) h =
     elim (s.code == 95) as (λ b. value ≤ value_from base (cond b value (value * base + digit_value s.code)) digits) [
-      true ↦ grows base value digits h
-    | false ↦ omega (arith, grows base (value * base + digit_value s.code) digits h, times_base value base h) ]
+      | true ↦ grows base value digits h
+      | false ↦ omega (arith, grows base (value * base + digit_value s.code) digits h, times_base value base h)
+    ]
 
 none_at : (b : Bool) (v : ℕ) → 2 ^ 64 ≤ v → cond (b && nat_lt v (2 ^ 64)) (Some v) None ≡ None
 none_at true v h = grind (arith, nat_tests)

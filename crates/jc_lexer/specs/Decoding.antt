@@ -1,10 +1,11 @@
 -- How bytes decode to a text: strict UTF-8 (Unicode 6.0, table 3-7), and Unicode escapes (JLS 3.3).
-use Rattle.std.specs.Prelude.{◌≡◌, Option, Some, None, option_and_then, ◌^◌, ℕ, zero, suc, ◌+◌, ◌-◌, ◌*◌, ◌%◌, ◌<◌, ◌≤◌, Bool, true, false, not, ◌&&◌, ◌||◌, ◌==◌, nat_le, nat_lt, List, [], ◌∷◌, length, get_or, drop, if◌then◌else◌}
+use Rattle.std.specs.Prelude.{Option, Some, None, option_and_then, ◌^◌, ℕ, zero, suc, ◌+◌, ◌-◌, ◌*◌, ◌%◌, ◌<◌, ◌≤◌, Bool, false, not, ◌&&◌, ◌==◌, nat_le, nat_lt, List, [], ◌∷◌, length, get_or, drop, if◌then◌else◌}
 use Rattle.std.specs.List.{prefix_len}
 use Rattle.std.specs.Char.{digit_value}
 use Rattle.jc_lexer.specs.declared.decode.Reading.{Reading}
 use Rattle.jc_lexer.specs.declared.decode.Reading.TheVariants.{Read, NotUtf8, BadEscape}
 use Rattle.jc_lexer.specs.declared.symbol.Symbol.{Symbol}
+use Rattle.jc_lexer.specs.Symbols.{is_high}
 use Rattle.jc_lexer.specs.declared.symbol.TheConstants.{END, NOT_UTF8, BAD_ESCAPE}
 
 -- a byte that goes on a sequence
@@ -82,9 +83,6 @@ unfoldable pub unit : List ℕ → Bool → Reading
 unit bytes odd =
     let backslash = get_or bytes 0 0 == 92 in
     if backslash && not odd && (get_or bytes 1 0 == 117) then escape bytes else utf8 bytes (backslash && not odd)
-
-abbrev pub is_high : ℕ → Bool
-is_high c = nat_le 0xD800 c && nat_le c 0xDBFF
 
 abbrev pub is_low : ℕ → Bool
 is_low c = nat_le 0xDC00 c && nat_le c 0xDFFF

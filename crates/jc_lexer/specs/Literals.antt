@@ -1,5 +1,5 @@
 -- Character and string literals (JLS 3.10.4, 3.10.5) and their escape sequences (JLS 3.10.6).
-use Rattle.std.specs.Prelude.{ℕ, zero, suc, ◌+◌, ◌-◌, ◌*◌, ◌/◌, ◌%◌, ◌<◌, ◌≤◌, Bool, not, ◌&&◌, ◌||◌, ◌==◌, nat_le, nat_lt, List, [], ◌∷◌, ◌++◌, length, drop, Option, Some, None, if◌then◌else◌}
+use Rattle.std.specs.Prelude.{ℕ, zero, suc, ◌+◌, ◌-◌, ◌*◌, ◌/◌, ◌%◌, ◌<◌, ◌≤◌, Bool, not, ◌&&◌, ◌==◌, nat_le, nat_lt, List, [], ◌∷◌, ◌++◌, length, drop, Option, Some, None, if◌then◌else◌}
 use Rattle.jc_lexer.specs.declared.literal.Flaw.{Flaw}
 use Rattle.jc_lexer.specs.declared.literal.Flaw.TheVariants.{Wrong, Open, Torn}
 use Rattle.jc_lexer.specs.declared.literal.Element.{Element}
@@ -65,6 +65,15 @@ abbrev pub FitsIn : List Symbol → Element → Type 0
 FitsIn text (One unit len) = (0 < len) × (len ≤ length text)
 FitsIn text (Pair high low) = 1 ≤ length text
 FitsIn text (Flawed flaw) = Unit {0}
+
+-- a literal's body and its quote are at most one symbol more than the text
+abbrev pub IsWithin : ℕ → CharBody → Type 0
+IsWithin room (Shut unit len) = len ≤ room + 1
+IsWithin room (Amiss flaw) = Unit {0}
+
+abbrev pub IsBodyWithin : ℕ → StringBody → Type 0
+IsBodyWithin room (Closed units len) = len ≤ room + 1
+IsBodyWithin room (Broken flaw) = Unit {0}
 
 abbrev pub char_after : Element → List Symbol → CharBody
 char_after (One unit len) text = if code_at text len == 39 then Shut unit (len + 1) else Amiss (flaw_at (code_at text len))

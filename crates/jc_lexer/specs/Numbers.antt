@@ -1,5 +1,5 @@
 -- Whole literals (JLS 3.10.1), and what tells them from floating-point ones (JLS 3.10.2).
-use Rattle.std.specs.Prelude.{◌≡◌, ℕ, zero, suc, ◌+◌, ◌-◌, ◌*◌, ◌^◌, Bool, true, false, not, ◌&&◌, ◌||◌, ◌==◌, nat_lt, List, [], ◌∷◌, length, take, drop, Option, Some, None, if◌then◌else◌}
+use Rattle.std.specs.Prelude.{ℕ, ◌+◌, ◌-◌, ◌*◌, ◌^◌, ◌<◌, Bool, true, false, not, ◌&&◌, ◌||◌, ◌==◌, nat_lt, List, [], ◌∷◌, length, take, drop, Option, Some, None, if◌then◌else◌}
 use Rattle.std.specs.List.{list_all}
 use Rattle.std.specs.Char.{digit_value}
 use Rattle.jc_lexer.specs.declared.number.Numeral.{Numeral}
@@ -27,6 +27,13 @@ whole_from base value digits =
 abbrev pub whole_value : ℕ → List Symbol → Option ℕ
 whole_value base digits = whole_from base 0 digits
 
+-- a whole literal is some symbols
+abbrev pub HasSymbols : Numeral → Type 0
+HasSymbols (Whole value decimal len) = 0 < len
+HasSymbols Malformed = Unit {0}
+HasSymbols Real = Unit {0}
+HasSymbols Cut = Unit {0}
+
 abbrev pub whole_of : Bool → ℕ → Option ℕ → Numeral
 whole_of decimal len (Some value) = Whole value decimal len
 whole_of decimal len None = Malformed
@@ -40,7 +47,7 @@ exponent text =
     if is_decimal (code_at text 0) then Follows
     else if is_break (code_at text 0) then Broken
     else if (code_at text 0 == 43) || (code_at text 0 == 45) then
-      (if is_decimal (code_at text 1) then Follows else if is_break (code_at text 1) then Broken else Absent)
+    (if is_decimal (code_at text 1) then Follows else if is_break (code_at text 1) then Broken else Absent)
     else Absent
 
 -- JLS 3.10.2, behind the digits of a decimal literal: a point, an exponent, or one of `f F d D`
@@ -89,7 +96,7 @@ decimal_number text =
     let len = run_length Digits text in
     let rest = drop len text in
     if is_break (code_at rest 0) then Cut
-    else if nat_lt 0 len && (code_at text (len - 1) == 95) then Malformed
+    else if (len == 0) || (code_at text (len - 1) == 95) then Malformed
     else decimal_after (fraction rest) (take len text)
 
 unfoldable pub hex_after : Tail → List Symbol → Numeral

@@ -1,5 +1,5 @@
 -- Separators and operators (JLS 3.11, 3.12).
-use Rattle.std.specs.Prelude.{ℕ, Bool, ◌&&◌, ◌||◌, ◌==◌, nat_lt, List, [], ◌∷◌, Option, Some, None, if◌then◌else◌}
+use Rattle.std.specs.Prelude.{Bool, ◌&&◌, ◌||◌, ◌==◌, nat_lt, List, [], ◌∷◌, Option, Some, None, if◌then◌else◌}
 use Rattle.jc_lexer.specs.declared.signs.Spelling.{Spelling}
 use Rattle.jc_lexer.specs.declared.signs.TheConstants.{SIGNS}
 use Rattle.jc_lexer.specs.declared.symbol.Symbol.{Symbol}

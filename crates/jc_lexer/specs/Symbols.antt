@@ -1,5 +1,5 @@
 -- The characters of a text, and the classes that JLS 3 sorts them into.
-use Rattle.std.specs.Prelude.{ℕ, Bool, true, false, not, ◌&&◌, ◌||◌, ◌==◌, nat_le, nat_lt, List, slice_get, Option, Some, None, option_map, unwrap_or}
+use Rattle.std.specs.Prelude.{ℕ, Bool, not, ◌&&◌, ◌||◌, ◌==◌, nat_le, nat_lt, List, slice_get, option_map, unwrap_or}
 use Rattle.std.specs.Char.{digit_value}
 use Rattle.std.specs.List.{prefix_len}
 use Rattle.unicode_ident.specs.Ident.{is_xid_start, is_xid_continue}
@@ -31,6 +31,10 @@ is_line_end c = (c == 10) || (c == 13) || (c == END)
 abbrev pub is_break : ℕ → Bool
 is_break c = (c == NOT_UTF8) || (c == BAD_ESCAPE)
 
+-- JLS 3.1: a unit that is the first of a pair
+abbrev pub is_high : ℕ → Bool
+is_high c = nat_le 0xD800 c && nat_le c 0xDBFF
+
 -- JLS 3.6: a space, a tab, a line feed, a carriage return or a form feed
 abbrev pub is_space : ℕ → Bool
 is_space c = (c == 32) || (c == 9) || (c == 10) || (c == 13) || (c == 12)
@@ -44,6 +48,10 @@ passes HexDigits c = nat_lt (digit_value c) 16 || (c == 95)
 -- the code of the symbol at a place
 abbrev pub code_at : List Symbol → ℕ → ℕ
 code_at text place = unwrap_or (option_map (λ (s : Symbol). s.code) (slice_get text place)) END
+
+-- the offset of the symbol at a place, where there is one
+abbrev pub from_at : List Symbol → ℕ → ℕ
+from_at text place = unwrap_or (option_map (λ (s : Symbol). s.from) (slice_get text place)) 0
 
 -- the longest run of a class that the text begins with
 abbrev pub run_length : Class → List Symbol → ℕ

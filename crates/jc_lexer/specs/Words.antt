@@ -1,14 +1,11 @@
 -- Identifiers (JLS 3.8) and keywords (JLS 3.9).
-use Rattle.std.specs.Prelude.{ℕ, List, [], ◌∷◌, map, take, codes, Option, Some, None, if◌then◌else◌}
-use Rattle.std.specs.Str.{bytes_eq, encode_utf8_all}
-use Rattle.std.specs.List.{prefix_len}
+use Rattle.std.specs.Prelude.{ℕ, List, [], ◌∷◌, codes, Option, Some, None, if◌then◌else◌}
+use Rattle.std.specs.Str.{bytes_eq}
 use Rattle.jc_lexer.specs.declared.keyword.TheConstants.{KEYS}
-use Rattle.jc_lexer.specs.declared.symbol.Symbol.{Symbol}
 use Rattle.jc_lexer.specs.declared.token.Key.{Key}
 use Rattle.jc_lexer.specs.declared.token.Key.TheVariants.{Abstract, Assert, Boolean, Break, Byte, Case, Catch, Char, Class, Const, Continue, Default, Do, Double, Else, Enum, Extends, Final, Finally, Float, For, Goto, If, Implements, Import, Instanceof, Int, Interface, Long, Native, New, Package, Private, Protected, Public, Return, Short, Static, Strictfp, Super, Switch, Synchronized, This, Throw, Throws, Transient, Try, Void, Volatile, While, True, False, Null}
 use Rattle.jc_lexer.specs.declared.token.TokenKind.{TokenKind}
 use Rattle.jc_lexer.specs.declared.token.TokenKind.TheVariants.{Word, Key as Keyed}
-use Rattle.jc_lexer.specs.Symbols.{is_word_part}
 
 -- how a keyword is spelled
 abbrev pub spelling : Key → List ℕ
@@ -70,14 +67,6 @@ spelling Null = codes "null"
 abbrev pub key_in : List Key → List ℕ → Option Key
 key_in [] text = None
 key_in (k ∷ keys) text = if bytes_eq (spelling k) text then Some k else key_in keys text
-
--- how many characters go on the word that a text begins with
-abbrev pub word_length : List Symbol → ℕ
-word_length text = prefix_len (λ (s : Symbol). is_word_part s.code) text
-
--- that word in UTF-8
-abbrev pub word_text : List Symbol → List ℕ
-word_text text = encode_utf8_all (map (λ (s : Symbol). s.code) (take (word_length text) text))
 
 abbrev pub word_or_key : List ℕ → Option Key → TokenKind
 word_or_key text None = Word text

@@ -1,7 +1,8 @@
 ghost use Rattle.std.specs.Prelude.{◌≡◌, ◌<◌, ◌≤◌, ◌^◌, length, get_or, IfOk, IfSome, IsTrue};
-ghost use Rattle.jc_lexer.specs.Decoding.{is_tail, two_bytes, three_bytes, four_bytes, utf8, hex_digit, four_digits, escape_marks, escape, unit, is_high, is_low, paired, character, text_of, Fits, IsShort};
+ghost use Rattle.jc_lexer.specs.Symbols.{is_high};
+ghost use Rattle.jc_lexer.specs.Decoding.{is_tail, two_bytes, three_bytes, four_bytes, utf8, hex_digit, four_digits, escape_marks, escape, unit, is_low, paired, character, text_of, Fits, IsShort};
 
-use crate::symbol::{BAD_ESCAPE, END, NOT_UTF8, Symbol, digit_value};
+use crate::symbol::{BAD_ESCAPE, END, NOT_UTF8, Symbol, digit_value, is_high};
 use jc_rules::{Items, WantOfMemory};
 use std::alloc::Global;
 
@@ -166,12 +167,6 @@ fn unit(bytes: &[u8], odd: bool) -> Reading
         return escape(bytes);
     }
     utf8(bytes, backslash && !odd)
-}
-
-fn is_high(code: u32) -> bool
-    ensures { result ≡ is_high code }
-{
-    0xD800 <= code && code <= 0xDBFF
 }
 
 fn is_low(code: u32) -> bool

@@ -3,7 +3,10 @@
 
 mod decode;
 mod fault;
+mod files;
 mod keyword;
+mod lexeme;
+mod lexing;
 mod literal;
 mod number;
 mod signs;
@@ -11,4 +14,6 @@ mod symbol;
 mod token;
 
 pub use fault::LexFault;
+pub use files::lex_all;
+pub use lexing::tokens;
 pub use token::{Key, Sign, Token, TokenKind};

@@ -1,6 +1,6 @@
 ghost use Rattle.std.specs.Prelude.{◌≡◌, ◌<◌, ◌≤◌, length, IfOk, IsTrue};
 ghost use Rattle.jc_lexer.specs.Symbols.{code_at};
-ghost use Rattle.jc_lexer.specs.Literals.{is_octal, flaw_at, simple_escape, octal_escape, escape_sequence, element_at, FitsIn, char_after, char_body, string_body};
+ghost use Rattle.jc_lexer.specs.Literals.{is_octal, flaw_at, simple_escape, octal_escape, escape_sequence, element_at, FitsIn, char_after, char_body, string_body, IsWithin, IsBodyWithin};
 
 use crate::symbol::{Symbol, behind, code_at, is, is_break, is_line_end, is_within};
 use jc_rules::{Items, WantOfMemory};
@@ -150,7 +150,8 @@ fn element_at(text: &[Symbol]) -> Element
 
 fn char_after(element: Element, text: &[Symbol]) -> CharBody
     requires { FitsIn text.now element }
-    ensures { result ≡ char_after element text.now }
+    ensures value { result ≡ char_after element text.now }
+    ensures room { IsWithin (length text.now) result }
 {
     match element {
         Element::Unit { unit, len } => {
@@ -169,7 +170,8 @@ fn char_after(element: Element, text: &[Symbol]) -> CharBody
 /// The character literal whose opening quote stands before the text.
 #[tactic(auto, unfolding(crate::specs::Literals::char_body))]
 pub fn char_body(text: &[Symbol]) -> CharBody
-    ensures { result ≡ char_body text.now }
+    ensures value { result ≡ char_body text.now }
+    ensures room { IsWithin (length text.now) result }
 {
     if is(code_at(text, 0), b'\'') {
         CharBody::Amiss(Flaw::Wrong)
@@ -180,7 +182,8 @@ pub fn char_body(text: &[Symbol]) -> CharBody
 
 /// The string literal whose opening quote stands before the text.
 pub fn string_body(alloc: Global, text: &[Symbol]) -> Result<StringBody, WantOfMemory>
-    ensures { IfOk result (λ body. body ≡ string_body text.now) }
+    ensures value { IfOk result (λ body. body ≡ string_body text.now) }
+    ensures room { IfOk result (λ body. IsBodyWithin (length text.now) body) }
 {
     let mut units = Items::new(alloc);
     let mut len = 0;

@@ -1,8 +1,10 @@
 ghost use Rattle.std.specs.Prelude.{◌≡◌, ◌+◌, ◌*◌, ◌^◌, ◌<◌, ◌≤◌, length};
 ghost use Rattle.std.specs.Option.{SomeIff};
-ghost use Rattle.jc_lexer.specs.Numbers.{whole_value, whole, exponent, fraction, power, hex_point, hex_tail, decimal_after, decimal_number, hex_after, hex_number, binary_after, binary_number, number};
+ghost use Rattle.jc_lexer.specs.Numbers.{whole_value, whole, exponent, fraction, power, hex_point, hex_tail, decimal_after, decimal_number, hex_after, hex_number, binary_after, binary_number, number, HasSymbols};
 
-use crate::symbol::{Class, Symbol, behind, code_at, digit_value, front, is, is_break, is_decimal, run_length};
+use crate::symbol::{
+    Class, Symbol, behind, code_at, digit_value, front, is, is_break, is_decimal, run_length,
+};
 
 /// What a text that begins with a digit begins with.
 #[derive(Clone, Copy, Debug)]
@@ -58,7 +60,8 @@ fn whole_value(base: u32, digits: &[Symbol]) -> Option<u64>
 
 fn whole(base: u32, decimal: bool, len: usize, digits: &[Symbol]) -> Numeral
     requires { 2 ≤ base }
-    ensures { result ≡ whole base decimal len digits.now }
+    ensures value { result ≡ whole base decimal len digits.now }
+    ensures some { 0 < len → HasSymbols result }
 {
     match whole_value(base, digits) {
         Some(value) => Numeral::Whole {
@@ -173,7 +176,8 @@ fn hex_tail(some: bool, text: &[Symbol]) -> Tail
 
 #[tactic(auto, unfolding(crate::specs::Numbers::decimal_after))]
 fn decimal_after(tail: Tail, digits: &[Symbol]) -> Numeral
-    ensures { result ≡ decimal_after tail digits.now }
+    ensures value { result ≡ decimal_after tail digits.now }
+    ensures some { 0 < length digits.now → HasSymbols result }
 {
     match tail {
         Tail::Follows => Numeral::Real,
@@ -191,14 +195,15 @@ fn decimal_after(tail: Tail, digits: &[Symbol]) -> Numeral
 /// The number of a text that begins with a digit and has no prefix of a base.
 #[tactic(auto, unfolding(crate::specs::Numbers::decimal_number))]
 fn decimal_number(text: &[Symbol]) -> Numeral
-    ensures { result ≡ decimal_number text.now }
+    ensures value { result ≡ decimal_number text.now }
+    ensures some { HasSymbols result }
 {
     let len = run_length(Class::Digits, text);
     let rest = behind(text, len);
     if is_break(code_at(rest, 0)) {
         return Numeral::Cut;
     }
-    if 0 < len && is(code_at(text, len - 1), b'_') {
+    if len == 0 || is(code_at(text, len - 1), b'_') {
         return Numeral::Malformed;
     }
     decimal_after(fraction(rest), front(text, len))
@@ -206,7 +211,8 @@ fn decimal_number(text: &[Symbol]) -> Numeral
 
 #[tactic(auto, unfolding(crate::specs::Numbers::hex_after))]
 fn hex_after(tail: Tail, digits: &[Symbol]) -> Numeral
-    ensures { result ≡ hex_after tail digits.now }
+    ensures value { result ≡ hex_after tail digits.now }
+    ensures some { HasSymbols result }
 {
     match tail {
         Tail::Follows => Numeral::Real,
@@ -224,7 +230,8 @@ fn hex_after(tail: Tail, digits: &[Symbol]) -> Numeral
 /// The number of a text that stands behind `0x`.
 #[tactic(auto, unfolding(crate::specs::Numbers::hex_number))]
 fn hex_number(text: &[Symbol]) -> Numeral
-    ensures { result ≡ hex_number text.now }
+    ensures value { result ≡ hex_number text.now }
+    ensures some { HasSymbols result }
 {
     if is(code_at(text, 0), b'_') {
         return Numeral::Malformed;
@@ -245,7 +252,8 @@ fn hex_number(text: &[Symbol]) -> Numeral
 #[tactic(auto, unfolding(crate::specs::Numbers::binary_after))]
 fn binary_after(value: Option<u64>, len: usize, text: &[Symbol]) -> Numeral
     requires { len ≤ length text.now }
-    ensures { result ≡ binary_after value len text.now }
+    ensures value { result ≡ binary_after value len text.now }
+    ensures some { HasSymbols result }
 {
     let Some(value) = value else {
         return Numeral::Malformed;
@@ -268,7 +276,8 @@ fn binary_after(value: Option<u64>, len: usize, text: &[Symbol]) -> Numeral
 
 #[tactic(auto, unfolding(crate::specs::Numbers::binary_number))]
 fn binary_number(text: &[Symbol]) -> Numeral
-    ensures { result ≡ binary_number text.now }
+    ensures value { result ≡ binary_number text.now }
+    ensures some { HasSymbols result }
 {
     let len = run_length(Class::Digits, text);
     binary_after(whole_value(2, front(text, len)), len, text)
@@ -277,7 +286,8 @@ fn binary_number(text: &[Symbol]) -> Numeral
 /// The number that a text begins with.
 #[tactic(auto, unfolding(crate::specs::Numbers::number))]
 pub fn number(text: &[Symbol]) -> Numeral
-    ensures { result ≡ number text.now }
+    ensures value { result ≡ number text.now }
+    ensures some { HasSymbols result }
 {
     let letter = code_at(text, 1);
     if !is(code_at(text, 0), b'0') {

@@ -1,7 +1,7 @@
 ghost use Rattle.std.specs.Prelude.{◌≡◌, true, ◌==◌, ◌&&◌, nat_le, ◌≤◌, length, take, drop};
 ghost use Rattle.std.specs.Char.{digit_value};
 ghost use Rattle.std.specs.Option.{SomeIff};
-ghost use Rattle.jc_lexer.specs.Symbols.{is_word_start, is_word_part, is_decimal, is_line_end, is_break, is_space, passes, code_at, run_length};
+ghost use Rattle.jc_lexer.specs.Symbols.{is_word_start, is_word_part, is_decimal, is_high, is_line_end, is_break, is_space, passes, code_at, from_at, run_length};
 
 /// A character of a decoded text: its code point, or a UTF-16 unit that is half of no pair, and the offset of its first byte
 /// in the source. The last symbol of a text is a mark of how the text ends, at the offset behind what was decoded.
@@ -108,6 +108,13 @@ pub fn is_break(code: u32) -> bool
     code == NOT_UTF8 || code == BAD_ESCAPE
 }
 
+/// Whether a UTF-16 unit is the first of a pair.
+pub fn is_high(code: u32) -> bool
+    ensures { result ≡ is_high code }
+{
+    0xD800 <= code && code <= 0xDBFF
+}
+
 pub fn is_space(code: u32) -> bool
     ensures { result ≡ is_space code }
 {
@@ -132,6 +139,16 @@ pub fn code_at(text: &[Symbol], place: usize) -> u32
     match text.get(place) {
         Some(symbol) => symbol.code,
         None => END,
+    }
+}
+
+/// The offset of a symbol, by its place.
+pub fn from_at(text: &[Symbol], place: usize) -> u32
+    ensures { result ≡ from_at text.now place }
+{
+    match text.get(place) {
+        Some(symbol) => symbol.from,
+        None => 0,
     }
 }
 

@@ -1,6 +1,5 @@
-use Rattle.std.proofs.Common.{◌≡◌, ◌<◌, ◌≤◌, ◌+◌, ℕ, length, arith, sym, ap, ◌∙◌, refl, ◌∷◌, [], length-drop, rules, subst, List}
+use Rattle.std.proofs.Common.{ℕ, length, arith, sym, ap, ◌∙◌, ◌∷◌, [], length-drop, subst, List}
 use Rattle.jc_lexer.specs.declared.symbol.Symbol.{Symbol}
-use Rattle.jc_lexer.specs.declared.symbol.TheConstants.{NOT_UTF8, BAD_ESCAPE}
 use Rattle.jc_lexer.specs.declared.decode.Reading.TheVariants.{NotUtf8, BadEscape}
 use Rattle.jc_lexer.proofs.Texts.{IsReadTo, begins_read, reads_on, stops_at, ends_at}
 use Rattle.jc_lexer.proofs.decode.decoded.Goals as goal
@@ -29,10 +28,11 @@ returns-in-loop-rest c =
     let from = c.loop-rest.from in
     let mark = λ (k : ℕ). at_place k from in
     elim c.match-character.branch [
-      in-NotUtf8 w ↦ c.of.ensures ∙ stops_at c.args.bytes.now c.loop-rest.text.items c.push-in-loop-rest.new.self.items from c.loop-rest.odd c.loop-rest.rest.now NotUtf8 (mark c.match-character.code)
-        c.loop-rest.invariant.read c.loop-rest-test.true w.in-NotUtf8.ensures.value (λ f. ap (λ (k : ℕ). mark k ∷ []) (sym w.code-is)) c.in_ok-push.ensures.items
-    | in-BadEscape w ↦ c.of.ensures ∙ stops_at c.args.bytes.now c.loop-rest.text.items c.push-in-loop-rest.new.self.items from c.loop-rest.odd c.loop-rest.rest.now BadEscape (mark c.match-character.code)
-        c.loop-rest.invariant.read c.loop-rest-test.true w.in-BadEscape.ensures.value (λ f. ap (λ (k : ℕ). mark k ∷ []) (sym w.code-is)) c.in_ok-push.ensures.items ]
+      | in-NotUtf8 w ↦ c.of.ensures ∙ stops_at c.args.bytes.now c.loop-rest.text.items c.push-in-loop-rest.new.self.items from c.loop-rest.odd c.loop-rest.rest.now NotUtf8 (mark c.match-character.code)
+          c.loop-rest.invariant.read c.loop-rest-test.true w.in-NotUtf8.ensures.value (λ f. ap (λ (k : ℕ). mark k ∷ []) (sym w.code-is)) c.in_ok-push.ensures.items
+      | in-BadEscape w ↦ c.of.ensures ∙ stops_at c.args.bytes.now c.loop-rest.text.items c.push-in-loop-rest.new.self.items from c.loop-rest.odd c.loop-rest.rest.now BadEscape (mark c.match-character.code)
+          c.loop-rest.invariant.read c.loop-rest-test.true w.in-BadEscape.ensures.value (λ f. ap (λ (k : ℕ). mark k ∷ []) (sym w.code-is)) c.in_ok-push.ensures.items
+    ]
 
 pub returns : goal.returns
 returns c = c.of-2.ensures ∙ ends_at c.args.bytes.now c.loop-rest.text.items c.push-2.new.self.items c.loop-rest.from c.loop-rest.odd c.loop-rest.rest.now c.loop-rest.invariant.read c.loop-rest-test.false c.in_ok-push-2.ensures.items

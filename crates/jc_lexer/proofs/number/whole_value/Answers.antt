@@ -21,4 +21,4 @@ returns-in_err-value c =
     let turn = whole_digit base value digit rest no_mark (omega (arith, c.digit_value-next.ensures, c.if-base-next.false)) in
     let next = ap (λ d. whole_from base (value * base + d) rest) (sym c.digit_value-next.ensures) in
     c.from_residual.ensures ∙ sym (c.loop-digit.invariant.same ∙ ap (whole_from base value) (drop_more digits place none within) ∙ turn ∙ next
-      ∙ whole_big base (value * base + c.digit_value-next.result) rest (omega (arith, c.requires)) big)
+    ∙ whole_big base (value * base + c.digit_value-next.result) rest (omega (arith, c.requires)) big)
