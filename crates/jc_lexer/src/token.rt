@@ -151,7 +151,7 @@ pub enum Sign {
 }
 
 /// What a token is, with its value.
-#[derive(Debug, Drop)]
+#[derive(Clone, Debug, Drop, PartialEq, Eq, Hash)]
 pub enum TokenKind {
     /// An identifier, its Unicode escapes translated.
     Word(Text),
@@ -171,7 +171,7 @@ pub enum TokenKind {
 
 /// A token: what it is, the offsets in the source of its first byte and behind its last one, and whether the next token begins
 /// where it ends.
-#[derive(Debug, Drop)]
+#[derive(Clone, Debug, Drop, PartialEq, Eq, Hash)]
 pub struct Token {
     pub kind: TokenKind,
     pub from: u32,
