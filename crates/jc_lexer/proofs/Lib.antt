@@ -1,5 +1,6 @@
 mod Bodies
 mod FileTurns
+mod Keywords
 mod LexemeTurns
 mod Table
 mod Texts

@@ -1,5 +1,5 @@
 -- Separators and operators (JLS 3.11, 3.12).
-use Rattle.std.specs.Prelude.{Bool, ◌&&◌, ◌||◌, ◌==◌, nat_lt, List, [], ◌∷◌, Option, Some, None, if◌then◌else◌}
+use Rattle.std.specs.Prelude.{◌≡◌, ◌≤◌, Bool, true, ◌&&◌, ◌||◌, ◌==◌, nat_lt, List, [], ◌∷◌, Option, Some, None, if◌then◌else◌}
 use Rattle.jc_lexer.specs.declared.signs.Spelling.{Spelling}
 use Rattle.jc_lexer.specs.declared.signs.TheConstants.{SIGNS}
 use Rattle.jc_lexer.specs.declared.symbol.Symbol.{Symbol}
@@ -14,6 +14,16 @@ begins s text =
 abbrev pub sign_in : List Spelling → List Symbol → Option Spelling
 sign_in [] text = None
 sign_in (s ∷ signs) text = if begins s text then Some s else sign_in signs text
+
+-- each sign of a list that a text begins with has the property
+abbrev pub EachBegins : List Spelling → List Symbol → (Spelling → Type 0) → Type 0
+EachBegins [] text P = Unit {0}
+EachBegins (s ∷ signs) text P = (begins s text ≡ true → P s) × EachBegins signs text P
+
+-- the sign is one that the text begins with, and the longest of those; or it begins with none
+abbrev pub IsLongest : List Symbol → Option Spelling → Type 0
+IsLongest text None = EachBegins SIGNS text (λ s. ⊥)
+IsLongest text (Some found) = (begins found text ≡ true) × EachBegins SIGNS text (λ s. s.len ≤ found.len)
 
 unfoldable pub sign_at : List Symbol → Option Spelling
 sign_at text = sign_in SIGNS text

@@ -1,10 +1,11 @@
-ghost use Rattle.std.specs.Prelude.{◌≡◌};
+ghost use Rattle.std.specs.Prelude.{◌≡◌, ℕ, List, length};
 ghost use Rattle.jc_lexer.specs.Words.{spelling, key_in};
+ghost use Rattle.jc_lexer.specs.declared.keyword.TheConstants.{KEYS};
 
 use crate::token::Key;
 
 /// The keywords of JLS 3.9, and the literals `true`, `false` and `null`.
-pub const KEYS: [Key; 53] = [
+const KEYS: [Key; 53] = [
     Key::Abstract,
     Key::Assert,
     Key::Boolean,
@@ -59,6 +60,77 @@ pub const KEYS: [Key; 53] = [
     Key::False,
     Key::Null,
 ];
+
+/// Those of two letters.
+const TWO: [Key; 2] = [Key::Do, Key::If];
+
+/// Those of three letters.
+const THREE: [Key; 4] = [Key::For, Key::Int, Key::New, Key::Try];
+
+/// Those of four letters.
+const FOUR: [Key; 11] = [
+    Key::Byte,
+    Key::Case,
+    Key::Char,
+    Key::Else,
+    Key::Enum,
+    Key::Goto,
+    Key::Long,
+    Key::This,
+    Key::Void,
+    Key::True,
+    Key::Null,
+];
+
+/// Those of five letters.
+const FIVE: [Key; 11] = [
+    Key::Break,
+    Key::Catch,
+    Key::Class,
+    Key::Const,
+    Key::Final,
+    Key::Float,
+    Key::Short,
+    Key::Super,
+    Key::Throw,
+    Key::While,
+    Key::False,
+];
+
+/// Those of six letters.
+const SIX: [Key; 9] = [
+    Key::Assert,
+    Key::Double,
+    Key::Import,
+    Key::Native,
+    Key::Public,
+    Key::Return,
+    Key::Static,
+    Key::Switch,
+    Key::Throws,
+];
+
+/// Those of seven letters.
+const SEVEN: [Key; 6] = [
+    Key::Boolean,
+    Key::Default,
+    Key::Extends,
+    Key::Finally,
+    Key::Package,
+    Key::Private,
+];
+
+/// Those of eight letters.
+const EIGHT: [Key; 4] = [Key::Abstract, Key::Continue, Key::Strictfp, Key::Volatile];
+
+/// Those of nine letters.
+const NINE: [Key; 3] = [Key::Interface, Key::Protected, Key::Transient];
+
+/// Those of ten letters.
+const TEN: [Key; 2] = [Key::Implements, Key::Instanceof];
+
+/// Those of twelve letters.
+const TWELVE: [Key; 1] = [Key::Synchronized];
 
 /// How a keyword is spelled.
 pub fn spelling(key: Key) -> &'static str
@@ -122,7 +194,7 @@ pub fn spelling(key: Key) -> &'static str
 }
 
 /// The keyword of the list that the text spells.
-pub fn key_in(keys: &[Key], text: &str) -> Option<Key>
+fn key_in(keys: &[Key], text: &str) -> Option<Key>
     ensures { result ≡ key_in keys.now text.now }
 {
     for key in keys {
@@ -131,4 +203,31 @@ pub fn key_in(keys: &[Key], text: &str) -> Option<Key>
         }
     }
     None
+}
+
+/// The keywords that a text of this length can spell, and maybe others.
+fn keys_of(len: usize) -> &'static [Key]
+    ensures { (text : List ℕ) → length text ≡ len → key_in result.now text ≡ key_in KEYS text }
+{
+    match len {
+        1 => &[],
+        2 => &TWO,
+        3 => &THREE,
+        4 => &FOUR,
+        5 => &FIVE,
+        6 => &SIX,
+        7 => &SEVEN,
+        8 => &EIGHT,
+        9 => &NINE,
+        10 => &TEN,
+        12 => &TWELVE,
+        _ => &KEYS,
+    }
+}
+
+/// The keyword that a text spells.
+pub fn key_of(text: &str) -> Option<Key>
+    ensures { result ≡ key_in KEYS text.now }
+{
+    key_in(keys_of(text.len()), text)
 }

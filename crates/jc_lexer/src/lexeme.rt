@@ -3,10 +3,10 @@ ghost use Rattle.jc_lexer.specs.Lexemes.{torn, is_ended, closes_at, closing, com
 ghost use Rattle.jc_lexer.specs.Numbers.{number};
 
 use crate::LexFault;
-use crate::keyword::{KEYS, key_in};
+use crate::keyword::key_of;
 use crate::literal::{CharBody, Flaw, StringBody, char_body, string_body};
 use crate::number::{Numeral, number};
-use crate::signs::{SIGNS, sign_in};
+use crate::signs::sign_at;
 use crate::symbol::{
     BAD_ESCAPE, Class, END, Symbol, behind, code_at, from_at, is, is_break, is_decimal, is_high,
     is_space, run_length, word_part, word_start,
@@ -92,7 +92,7 @@ fn comment(text: &[Symbol]) -> Step
 fn word_step(text: String, len: usize) -> Step
     ensures { result ≡ word_step (string_bytes text) len }
 {
-    let kind = match key_in(&KEYS, text.as_str()) {
+    let kind = match key_of(text.as_str()) {
         Some(key) => TokenKind::Key(key),
         None => TokenKind::Word(Text::of(text)),
     };
@@ -195,12 +195,12 @@ fn string(alloc: Global, text: &[Symbol]) -> Result<Step, WantOfMemory>
 }
 
 /// The sign that a text begins with, or the fault of its first symbol.
-#[tactic(auto, unfolding(crate::specs::Lexemes::sign, crate::specs::Signs::sign_at))]
+#[tactic(auto, unfolding(crate::specs::Lexemes::sign))]
 fn sign(text: &[Symbol]) -> Step
     ensures value { result ≡ sign text.now }
     ensures progress { IsProgress result }
 {
-    if let Some(spelling) = sign_in(&SIGNS, text) {
+    if let Some(spelling) = sign_at(text) {
         return Step::Lexeme {
             kind: TokenKind::Sign(spelling.sign),
             len: spelling.len,

@@ -1,5 +1,5 @@
-ghost use Rattle.std.specs.Prelude.{◌≡◌};
-ghost use Rattle.jc_lexer.specs.Signs.{begins, sign_in};
+ghost use Rattle.std.specs.Prelude.{◌≡◌, ◌<◌, IfSome};
+ghost use Rattle.jc_lexer.specs.Signs.{begins, sign_in, sign_at, IsLongest};
 
 use crate::symbol::{Symbol, code_at, is};
 use crate::token::Sign;
@@ -15,7 +15,7 @@ pub struct Spelling {
 }
 
 /// The separators and operators of JLS 3.11 and 3.12, with `@` and `...`: the longer ones first.
-pub const SIGNS: [Spelling; 43] = [
+const SIGNS: [Spelling; 43] = [
     Spelling {
         sign: Sign::Ellipsis,
         len: 3,
@@ -328,7 +328,7 @@ fn begins(spelling: &Spelling, text: &[Symbol]) -> bool
 }
 
 /// The first sign of the table that the text begins with.
-pub fn sign_in(signs: &[Spelling], text: &[Symbol]) -> Option<Spelling>
+fn sign_in(signs: &[Spelling], text: &[Symbol]) -> Option<Spelling>
     ensures { result ≡ sign_in signs.now text.now }
 {
     for spelling in signs {
@@ -337,4 +337,14 @@ pub fn sign_in(signs: &[Spelling], text: &[Symbol]) -> Option<Spelling>
         }
     }
     None
+}
+
+/// The longest sign that the text begins with.
+#[tactic(auto, unfolding(crate::specs::Signs::sign_at))]
+pub fn sign_at(text: &[Symbol]) -> Option<Spelling>
+    ensures value { result ≡ sign_at text.now }
+    ensures longest { IsLongest text.now result }
+    ensures some { IfSome result (λ found. 0 < found.len) }
+{
+    sign_in(&SIGNS, text)
 }
