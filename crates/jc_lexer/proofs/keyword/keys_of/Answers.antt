@@ -1,4 +1,4 @@
-use Rattle.std.proofs.Common.{◌≡◌, sym, ◌∙◌}
+use Rattle.std.proofs.Common.{◌∙◌}
 use Rattle.jc_lexer.proofs.Keywords.{key_in_of}
 use Rattle.jc_lexer.proofs.keyword.keys_of.Goals as goal
 

@@ -1,4 +1,3 @@
-use Rattle.std.proofs.Common.{◌≡◌, sym}
 use Rattle.jc_lexer.proofs.Table.{sign_some, sign_longest}
 use Rattle.jc_lexer.proofs.signs.sign_at.Goals as goal
 
