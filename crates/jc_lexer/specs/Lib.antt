@@ -1,0 +1,10 @@
+pub mod Decoding
+pub mod Faults
+pub mod Files
+pub mod Lexemes
+pub mod Lexing
+pub mod Literals
+pub mod Numbers
+pub mod Signs
+pub mod Symbols
+pub mod Words
