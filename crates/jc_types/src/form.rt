@@ -17,7 +17,7 @@ pub enum Primitive {
 /// `Class` is a class or interface type with its type arguments, of which a class without parameters has none (JLS 4.5).
 /// `Raw` is a generic class without its arguments (JLS 4.8). A `Meet` is an intersection type (JLS 4.9) with its parts in
 /// order. `NullTy` is the type of `null` (JLS 4.1).
-#[derive(Drop)]
+#[derive(PartialEq, Eq, Hash, Drop)]
 #[cycle(ty)]
 pub enum Ty {
     Prim(Primitive),
@@ -31,7 +31,7 @@ pub enum Ty {
 }
 
 /// A type argument (JLS 4.5.1): a type, or one of the wildcards `?`, `? extends T` and `? super T`.
-#[derive(Drop)]
+#[derive(PartialEq, Eq, Hash, Drop)]
 #[cycle(ty)]
 pub enum Arg {
     Exact(Ty),
