@@ -1,5 +1,5 @@
 -- Containment of arguments (JLS 4.5.1), and what a question of subtyping leads to (JLS 4.10).
-use Rattle.std.specs.Prelude.{◌==◌, ◌||◌, ◌&&◌, not, Option, Some, None, List, [], ◌∷◌, ◌++◌, length, map, if◌then◌else◌}
+use Rattle.std.specs.Prelude.{ℕ, ◌==◌, ◌||◌, ◌&&◌, not, Option, Some, None, List, [], ◌∷◌, ◌++◌, length, map, if◌then◌else◌}
 use Rattle.jc_types.specs.declared.form.Ty.{Ty, Ty-F, out-Ty}
 use Rattle.jc_types.specs.declared.form.Arg.{Arg, Arg-F, out-Arg}
 use Rattle.jc_types.specs.declared.ids.ClassId.{ClassId}
@@ -58,14 +58,14 @@ abbrev pub by_view : Table → List Bounds → Ty → Option Ty → Question
 by_view T fresh t None = Fails
 by_view T fresh t (Some v) = by_arguments fresh (arguments T v) (arguments T t)
 
--- two class or raw types: the captured S is viewed as T's class
-abbrev pub classes_at : Table → List Bounds → Ty → Ty → Option ClassId → Option ClassId → Question
-classes_at T env s t None o = Fails
-classes_at T env s t (Some j) None = Fails
-classes_at T env s t (Some j) (Some k) = let c = capture_one T (length env) s in by_view T c.fresh t (view T k c.ty)
+-- two class or raw types: S is captured, where n variables were captured before, and viewed as T's class
+abbrev pub classes_from : Table → ℕ → Ty → Ty → Option ClassId → Option ClassId → Question
+classes_from T n s t None o = Fails
+classes_from T n s t (Some j) None = Fails
+classes_from T n s t (Some j) (Some k) = let c = capture_one T n s in by_view T c.fresh t (view T k c.ty)
 
 unfoldable pub classes : Table → List Bounds → Ty → Ty → Question
-classes T env s t = classes_at T env s t (class_of s) (class_of t)
+classes T env s t = classes_from T (length env) s t (class_of s) (class_of t)
 
 -- two arrays of references: their elements are asked
 abbrev pub to_array_at : Ty → Layer → Question
