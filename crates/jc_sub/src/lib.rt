@@ -9,6 +9,8 @@ mod containing;
 mod kinds;
 mod meeting;
 mod questions;
+#[cfg(test)]
+mod tests;
 mod views;
 
 pub use answering::every;
