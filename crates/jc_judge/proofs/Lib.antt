@@ -1,0 +1,3 @@
+pub mod Finds
+pub mod Heights
+pub mod ShortPaths

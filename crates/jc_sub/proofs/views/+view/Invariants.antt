@@ -1,0 +1,15 @@
+use Rattle.std.proofs.Common.{◌≡◌, ◌+◌, ◌*◌, length}
+use Rattle.jc_judge.specs.Views.{view_within, first_of}
+use Rattle.jc_sub.proofs.views.+view.Given as goal
+
+abbrev pub decreases-view_within : goal.decreases-view_within
+decreases-view_within l = 2 * l.steps
+
+abbrev pub decreases-first_view : goal.decreases-first_view
+decreases-first_view l = 2 * l.steps + 1
+
+abbrev pub invariant-first_view-loop-rest : goal.invariant-first_view-loop-rest
+invariant-first_view-loop-rest l = first_of (view_within l.table l.steps l.k) l.types ≡ first_of (view_within l.table l.steps l.k) l.rest
+
+abbrev pub decreases-first_view-loop-rest : goal.decreases-first_view-loop-rest
+decreases-first_view-loop-rest l = length l.rest

@@ -1,0 +1,23 @@
+-- Types for variables in a type.
+use Rattle.std.specs.Prelude.{List, [], ◌∷◌, if◌then◌else◌, ◌==◌}
+use Rattle.jc_types.specs.declared.form.Ty.{Ty, Ty-F, roll-Ty, fold-Ty}
+use Rattle.jc_types.specs.declared.form.Ty.TheVariants.{Variable}
+use Rattle.jc_types.specs.declared.form.Arg.{Arg, roll-Arg, fold-Arg}
+use Rattle.jc_types.specs.declared.ids.VarId.{VarId}
+
+-- what stands for a variable: the type at its place, or itself
+abbrev pub replacement : List VarId → List Ty → VarId → Ty
+replacement [] by v = Variable v
+replacement (w ∷ vars) [] v = Variable v
+replacement (w ∷ vars) (t ∷ by) v = if w.0 == v.0 then t else replacement vars by v
+
+-- a layer whose parts are done
+abbrev pub subst_step : List VarId → List Ty → Ty-F Arg Ty → Ty
+subst_step vars by (Ty-F.Variable v) = replacement vars by v
+subst_step vars by layer = roll-Ty layer
+
+unfoldable pub subst : List VarId → List Ty → Ty → Ty
+subst vars by t = fold-Ty Arg Ty roll-Arg (subst_step vars by) t
+
+unfoldable pub subst_arg : List VarId → List Ty → Arg → Arg
+subst_arg vars by a = fold-Arg Arg Ty roll-Arg (subst_step vars by) a

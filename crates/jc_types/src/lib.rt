@@ -1,0 +1,50 @@
+//! The types of Java 7, and the table of what a program declares: classes, methods, fields, type variables, scopes and the
+//! types that bodies write. Every later layer speaks of these.
+#![tactic(auto)]
+
+mod accessors;
+mod breaks;
+mod constant;
+mod conversion;
+mod copy;
+mod declarations;
+mod environment;
+mod equality;
+mod erased;
+mod erasing;
+mod form;
+mod ids;
+mod index;
+mod reifying;
+mod scopes;
+mod sizes;
+mod substitution;
+mod table;
+#[cfg(test)]
+mod tests;
+
+pub use accessors::{
+    captured_lower, captured_uppers, class_at, class_fields, class_methods, class_named,
+    class_supers, class_vars, declared_bounds, field_at, field_type, is_interface, method_at,
+    method_params, method_vars, scope_at,
+};
+pub use breaks::{is_before, sooner};
+pub use constant::{Constant, ConstantExpr, ConstantPart, ConstantType, Op};
+pub use conversion::{Conversion, Phase, Step};
+pub use copy::{copy_arg, copy_args, copy_bounds, copy_type, copy_types};
+pub use declarations::{
+    Access, ClassDecl, FieldDecl, FieldValue, Kind, MethodDecl, MethodKind, Modifiers, Owner,
+    VariableDecl, Written, WrittenTypes,
+};
+pub use environment::{Bounds, Env};
+pub use equality::{same_arg, same_type};
+pub use erased::{Base, Erased};
+pub use erasing::erasure;
+pub use form::{Arg, Primitive, Ty};
+pub use ids::{CaptureId, ClassId, FieldId, MethodId, ScopeId, VarId};
+pub use index::Names;
+pub use reifying::{arguments, reifiable};
+pub use scopes::{Demand, Inherited, Scope, ScopeOf, Use};
+pub use sizes::size;
+pub use substitution::{substitute, substitute_all};
+pub use table::Table;
