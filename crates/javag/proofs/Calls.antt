@@ -3,12 +3,13 @@ use Rattle.std.proofs.Common.{◌≡◌, ◌≢◌, ◌≤◌, ◌+◌, ℕ, zer
 use Rattle.std.proofs.lemmas.List.{append-nil}
 use Rattle.jc_outside.specs.Told.{Files, Stays, Gets, GetsPart, Rose, IsMissing}
 use Rattle.jc_words.specs.declared.job.Job.{Job}
-use Rattle.jc_words.specs.Job.{IsJob}
+use Rattle.jc_words.specs.declared.fault.UsageFault.{UsageFault}
+use Rattle.jc_words.specs.Job.{IsJob, IsFault}
 use Rattle.javag.specs.declared.outcome.Outcome.{Outcome}
 use Rattle.javag.specs.declared.outcome.Outcome.TheVariants.{Done, Threw, Usage, Refused, StepsReached, WantOfMemory, ShelfFault, ClassFault, OutFault, KeysFault, ErrFault, NoMain, Exited}
 use Rattle.javag.specs.Closing.{closing, memory_line}
 use Rattle.javag.specs.Objects.{Object, Unchanged, Puts, PutsPart, Failed, Closes, HaveTexts, IsUnread}
-use Rattle.javag.specs.Causes.{Call, Work, work_of, Worked, Untouched, RanPart, RanTo, RanNothing, IsOutFault, IsShort, IsWorked, IsShelfFault, ClosedAs, Caused}
+use Rattle.javag.specs.Causes.{Call, Work, work_of, Worked, Untouched, RanPart, RanTo, RanNothing, IsOutFault, IsShort, IsWorked, IsShelfFault, ClosedAs, UsageClosed, Caused}
 
 take_all : {A : Type 0} (xs : List A) → take (length xs) xs ≡ xs
 take_all [] = refl
@@ -79,3 +80,8 @@ module _ (call : Call) (job : Job) (is_job : IsJob call.words job) where
   pub unread_caused : (number : ℕ) (result : Outcome) → IsUnread call.files job.files call.shelf_before call.shelf_after number → Untouched (work_of call) → ClosedAs job [] call.err (ShelfFault number) result → Caused call result
   unread_caused number result unread untouched (inl closed) = rw closed.0 (record { job = job; is_job = is_job; unread = unread; untouched = untouched; err = closed.1 })
   unread_caused number result unread untouched (inr short) = rw short.0 (record { work = inl untouched; err = short.1 })
+
+-- the outcome of words that are no job
+pub usage_caused : (call : Call) (fault : UsageFault) (result : Outcome) → IsFault call.words fault → Untouched (work_of call) → UsageClosed call.err fault result → Caused call result
+usage_caused call fault result is untouched (inl closed) = rw closed.0 (record { is_fault = is; untouched = untouched; err = closed.1 })
+usage_caused call fault result is untouched (inr short) = rw short.0 (record { work = inl untouched; err = short.1 })

@@ -212,6 +212,10 @@ pub record IsShort (call : Call) : Type 0 where
 abbrev pub ClosedAs : Job → List (List ℕ) → Object ℕ → Outcome → Outcome → Type 0
 ClosedAs job texts err outcome result = ((result ≡ outcome) × Closes err (closing job texts outcome)) ⊎ ((result ≡ WantOfMemory) × PutsPart err memory_line)
 
+-- the same of words that are no job
+abbrev pub UsageClosed : Object ℕ → UsageFault → Outcome → Type 0
+UsageClosed err fault result = ((result ≡ Usage fault) × Closes err usage_line) ⊎ ((result ≡ WantOfMemory) × PutsPart err memory_line)
+
 -- when each outcome comes, and what the call leaves behind
 abbrev pub Caused : Call → Outcome → Type 0
 Caused call (Usage fault) = IsUsage call fault

@@ -12,7 +12,8 @@ use jc_rules::{Items, Refusal, Text, WantOfMemory, line_of, text_of};
 use jc_words::Job;
 use std::alloc::Global;
 
-pub const USAGE_LINE: &str = "javag: usage: javag [--out DIR] [--run CLASS] [--steps N] FILE.java ... [ARGUMENT ...]\n";
+pub const USAGE_LINE: &str =
+    "javag: usage: javag [--out DIR] [--run CLASS] [--steps N] FILE.java ... [ARGUMENT ...]\n";
 
 const MEMORY_LINE: &str = "javag: out of memory\n";
 

@@ -3,7 +3,7 @@ ghost use Rattle.std.specs.Prelude.{◌≡◌, map, string_bytes, List, ℕ};
 ghost use Rattle.jc_words.specs.Job.{IsJob};
 ghost use Rattle.javag.specs.Closing.{memory_line};
 ghost use Rattle.javag.specs.Objects.{PutsPart};
-ghost use Rattle.javag.specs.Causes.{Caused, ClosedAs};
+ghost use Rattle.javag.specs.Causes.{Caused, ClosedAs, UsageClosed};
 
 use crate::closing::{USAGE_LINE, closing_line, put_line, put_memory_line};
 use crate::outcome::Outcome;
@@ -11,11 +11,11 @@ use crate::sources::read_sources;
 use crate::work::work;
 use jc_outside::{ClassShelf, Keys, Paper, Shelf};
 use jc_rules::{Items, Stop, WantOfMemory};
-use jc_words::{Job, read_words};
+use jc_words::{Job, UsageFault, read_words};
 use std::alloc::Global;
 
 /// Ends for want of memory, with as much of its line as there is room for.
-fn end_short<E: Paper>(err: &mut E) -> Outcome
+pub fn end_short<E: Paper>(err: &mut E) -> Outcome
     ensures outcome { result ≡ Outcome.WantOfMemory }
     ensures err { PutsPart (record { before = E.out err.old; after = E.out err.new; faults_before = E.faults err.old; faults_after = E.faults err.new }) memory_line }
 {
@@ -38,6 +38,16 @@ fn close<E: Paper>(
     };
     match put_line(line.as_str(), err) {
         Ok(()) => outcome,
+        Err(WantOfMemory) => end_short(err),
+    }
+}
+
+/// Refuses words that are no job.
+pub fn refuse_words<E: Paper>(fault: UsageFault, err: &mut E) -> Outcome
+    ensures { UsageClosed (record { before = E.out err.old; after = E.out err.new; faults_before = E.faults err.old; faults_after = E.faults err.new }) fault result }
+{
+    match put_line(USAGE_LINE, err) {
+        Ok(()) => Outcome::Usage { fault },
         Err(WantOfMemory) => end_short(err),
     }
 }
@@ -100,10 +110,7 @@ pub fn drive<S: Shelf, C: ClassShelf, K: Keys, O: Paper, E: Paper>(
 {
     match read_words(alloc, words) {
         Ok(job) => drive_job(alloc, &job, shelf, classes, keys, out, err),
-        Err(Stop::Refused(fault)) => match put_line(USAGE_LINE, err) {
-            Ok(()) => Outcome::Usage { fault },
-            Err(WantOfMemory) => end_short(err),
-        },
+        Err(Stop::Refused(fault)) => refuse_words(fault, err),
         Err(Stop::WantOfMemory) => end_short(err),
     }
 }

@@ -21,8 +21,8 @@ returns-in-Ok-run_main-clause-worked g c =
     let started-so = started c.args.job.now c.args.texts.now c.args.class c.requires.class in
     rw c.ran_outcome.ensures
     (did_run c.args.job.now c.args.texts.now c.args.class c.requires.class c.requires.main c.in-Ok.bytes c.in-Ok.ensures _ (rw (sym c.slice.ensures) c.in-Ok-put_class.ensures.ok)
-        c.in-Ok-run_main.ran _ c.in-Some.is (has_outcome c.args.job.now c.args.texts.now c.args.class c.requires.class c.in-Ok-run_main.ran c.args.job.now.steps _ (c.in-Ok-run_main.ensures.ends s started-so))
-        (c.in-Ok-run_main.ensures.ends s started-so) (λ e. c.run_main.ensures.fault (c.in-Ok-run_main.is ∙ ap Ok e)) (c.run_main.ensures.part s started-so))
+    c.in-Ok-run_main.ran _ c.in-Some.is (has_outcome c.args.job.now c.args.texts.now c.args.class c.requires.class c.in-Ok-run_main.ran c.args.job.now.steps _ (c.in-Ok-run_main.ensures.ends s started-so))
+    (c.in-Ok-run_main.ensures.ends s started-so) (λ e. c.run_main.ensures.fault (c.in-Ok-run_main.is ∙ ap Ok e)) (c.run_main.ensures.part s started-so))
 
 pub returns-clause-worked : goal.returns-clause-worked
 returns-clause-worked g c =

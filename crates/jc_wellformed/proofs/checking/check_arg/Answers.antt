@@ -23,6 +23,6 @@ returns-clause-checked c =
       upper_is = along _ _ _ _ _ uppers c.in_ok-upper.ensures.answer;
       lower_is = along _ _ _ _ _ lowers c.in_ok-lower.ensures.answer;
       found_is = c.arg_fault.ensures
-        ∙ ap (λ p. arg_fault c.args.i c.in_ok-upper.upper c.in_ok-lower.lower p c.in_ok-meets.meets) c.is_primitive_arg.ensures
-        ∙ ap (λ m. arg_fault c.args.i c.in_ok-upper.upper c.in_ok-lower.lower (is_primitive_arg arg) m) c.in_ok-meets.ensures;
+          ∙ ap (λ p. arg_fault c.args.i c.in_ok-upper.upper c.in_ok-lower.lower p c.in_ok-meets.meets) c.is_primitive_arg.ensures
+          ∙ ap (λ m. arg_fault c.args.i c.in_ok-upper.upper c.in_ok-lower.lower (is_primitive_arg arg) m) c.in_ok-meets.ensures;
     }
