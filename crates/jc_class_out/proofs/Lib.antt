@@ -4,6 +4,7 @@ pub mod Codes
 pub mod FileAgain
 pub mod InsAgain
 pub mod Known
+pub mod Marks
 pub mod MembersAgain
 pub mod Numbers
 pub mod PoolAgain
