@@ -2,6 +2,7 @@
 #![tactic(auto)]
 
 mod descriptors;
+mod fits;
 mod fitting;
 mod format;
 mod kinds;
