@@ -1,3 +1,4 @@
+pub mod Census
 pub mod ClassAgain
 pub mod CodeAgain
 pub mod Codes

@@ -1,4 +1,5 @@
-ghost use Rattle.std.specs.Prelude.{◌≡◌, ◌+◌, ◌-◌, ◌^◌, ◌<◌, ◌&&◌, ◌||◌, min, true, cond, length, take, nat_lt};
+ghost use Rattle.std.specs.Prelude.{◌≡◌, ◌+◌, ◌-◌, ◌^◌, ◌<◌, ◌&&◌, ◌||◌, min, true, cond, length, take, nat_lt, nat_le};
+ghost use Rattle.std.specs.List.{list_all};
 ghost use Rattle.jc_class_out.specs.Texts.{unit_bytes, text_bytes};
 ghost use Rattle.jc_class_out.specs.Pool.{is_descriptor};
 ghost use Rattle.jc_class_out.specs.Spelling.{known, same_known, has, loads_of, uses};
@@ -177,4 +178,97 @@ impl<'a> Visitor<'a> for Census<'a> {
         self.at = self.at.saturating_add(1);
         Ok(())
     }
+}
+
+/// Whether each constant that the class uses can stand in a pool.
+fn constants_fit(class: &ClassModel) -> bool
+    ensures { result ≡ list_all known_fits (uses class.now) }
+{
+    let mut checker = Checker { fits: true };
+    match tell_uses(&mut checker, class) {
+        Ok(()) => checker.fits,
+        Err(never) => match never {},
+    }
+}
+
+/// How often ldc loads a constant, up to a limit.
+fn count_of_loads(class: &ClassModel) -> u32
+    ensures { result ≡ min (length (loads_of class.now)) 65535 }
+{
+    let mut counter = Counter { count: 0 };
+    match tell_loads(&mut counter, class) {
+        Ok(()) => counter.count,
+        Err(never) => match never {},
+    }
+}
+
+/// How often the class uses a constant, up to a limit.
+fn count_of_uses(class: &ClassModel) -> u32
+    ensures { result ≡ min (length (uses class.now)) 65535 }
+{
+    let mut counter = Counter { count: 0 };
+    match tell_uses(&mut counter, class) {
+        Ok(()) => counter.count,
+        Err(never) => match never {},
+    }
+}
+
+fn distinct_loads(class: &ClassModel) -> u64
+    requires { members_fit class.now ≡ true }
+    ensures { result ≡ places (loads_of class.now) }
+{
+    let mut census = Census {
+        class,
+        at: 0,
+        count: 0,
+    };
+    match tell_loads(&mut census, class) {
+        Ok(()) => census.count,
+        Err(never) => match never {},
+    }
+}
+
+fn distinct_uses(class: &ClassModel) -> u64
+    requires { members_fit class.now ≡ true }
+    ensures { result ≡ places (uses class.now) }
+{
+    let mut census = Census {
+        class,
+        at: 0,
+        count: 0,
+    };
+    match tell_uses(&mut census, class) {
+        Ok(()) => census.count,
+        Err(never) => match never {},
+    }
+}
+
+/// Whether one byte is enough for the number of each constant that ldc loads.
+#[tactic(auto, using(crate::proofs::Census::places_few))]
+fn few_loads(class: &ClassModel) -> bool
+    requires { members_fit class.now ≡ true }
+    ensures { result ≡ nat_le (places (loads_of class.now)) 255 }
+{
+    count_of_loads(class) <= 255 || distinct_loads(class) <= 255
+}
+
+/// Whether the pool has room.
+#[tactic(auto, using(crate::proofs::Census::places_few))]
+fn few_uses(class: &ClassModel) -> bool
+    requires { members_fit class.now ≡ true }
+    ensures { result ≡ nat_le (places (uses class.now)) 65534 }
+{
+    count_of_uses(class) <= 65534 || distinct_uses(class) <= 65534
+}
+
+/// Whether `class_bytes` can write the class: each number has room in its field, operands go with their opcodes, jumps,
+/// handlers and frames name instructions, descriptors are well formed, and the pool has room for the constants, each once.
+///
+/// It takes no memory. It is linear in the class where the plain number of uses of constants is below 65,535, and that of
+/// constants of ldc below 256; above that it compares uses with each other.
+#[tactic(auto, unfolding(crate::specs::Fitting::fits_of, crate::specs::Fitting::pool_fits))]
+pub fn fits(class: &ClassModel) -> bool
+    ensures { result ≡ fits_of class.now }
+{
+    members(class) && constants_fit(class) && few_loads(class) && few_uses(class)
 }
