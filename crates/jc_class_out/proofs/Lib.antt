@@ -14,3 +14,4 @@ pub mod Served
 pub mod Tellings
 pub mod TextsAgain
 pub mod UsesClosed
+pub mod UsesFew
