@@ -173,7 +173,7 @@ all_reach marks (i ∷ is) lt h =
     (operand_reaches marks i.operand lt p.0, all_reach marks is lt p.1)
 
 -- no more instructions than bytes
-few_ins : (at : ℕ) (is : List Ins) → length is ≤ size_from at is
+pub few_ins : (at : ℕ) (is : List Ins) → length is ≤ size_from at is
 unfolding size_from
 few_ins at [] = omega arith
 few_ins at (i ∷ is) = omega (arith, ins_some at i, few_ins (at + ins_size at i) is)

@@ -157,7 +157,7 @@ have_all all (u ∷ us) w = (w u (has_first u us), have_all all us (λ x h. w x 
 
 -- ---- what ldc loads has a small number
 
-adds_append : (ks us vs : List Known) → adds ks (us ++ vs) ≡ adds (adds ks us) vs
+pub adds_append : (ks us vs : List Known) → adds ks (us ++ vs) ≡ adds (adds ks us) vs
 unfolding adds
 adds_append ks [] vs = refl
 adds_append ks (u ∷ us) vs = adds_append (add ks u) us vs

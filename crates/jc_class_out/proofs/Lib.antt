@@ -1,9 +1,11 @@
+pub mod Census
 pub mod ClassAgain
 pub mod CodeAgain
 pub mod Codes
 pub mod FileAgain
 pub mod InsAgain
 pub mod Known
+pub mod Marks
 pub mod MembersAgain
 pub mod Numbers
 pub mod PoolAgain
@@ -12,3 +14,4 @@ pub mod Served
 pub mod Tellings
 pub mod TextsAgain
 pub mod UsesClosed
+pub mod UsesFew

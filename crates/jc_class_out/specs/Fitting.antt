@@ -1,6 +1,6 @@
 -- Which classes the writer can spell: each number has room in its field, jumps and handlers go to instructions, operands go
 -- with their opcodes, and the pool has room for each constant that is used.
-use Rattle.std.specs.Prelude.{ℕ, zero, suc, ◌+◌, ◌-◌, ◌*◌, ◌^◌, ℤ, pos, negsuc, Bool, true, false, not, ◌||◌, ◌&&◌, ◌==◌, nat_lt, nat_le, int_lt, int_le, List, [], ◌∷◌, length, Option, Some, None, if◌then◌else◌}
+use Rattle.std.specs.Prelude.{◌≡◌, ◌<◌, ◌≤◌, ℕ, zero, suc, ◌+◌, ◌-◌, ◌*◌, ◌^◌, ℤ, pos, negsuc, Bool, true, false, not, ◌||◌, ◌&&◌, ◌==◌, nat_lt, nat_le, int_lt, int_le, List, [], ◌∷◌, length, Option, Some, None, if◌then◌else◌}
 use Rattle.std.specs.List.{list_all}
 use Rattle.jc_class_out.specs.declared.format.Kind.{Kind}
 use Rattle.jc_class_out.specs.declared.format.Kind.TheVariants.{Plain, Byte, Short, ArrayOf, Load, LoadWide, LoadLong, Local, Step, Jump, Switch, Field, Method, Interface, Class, Dims, Unknown}
@@ -261,3 +261,19 @@ pool_fits c = list_all known_fits (uses c) && (nat_le (places (loads_of c)) 255 
 
 unfoldable pub fits_of : ClassModel → Bool
 fits_of c = members_fit c && pool_fits c
+
+-- the size of code in which each instruction fits
+pub record IsSize (ins : List Ins) (size : ℕ) : Type 0 where
+  pub fit : all_fit 0 ins ≡ true
+  pub is : size ≡ size_from 0 ins
+  pub small : size < 65536
+
+-- the bytes of items, and of a frame, that fit
+pub record ItemsTake (marks : List Bool) (items : List Item) (size : ℕ) : Type 0 where
+  pub fit : items_fit marks items ≡ true
+  pub is : size ≡ items_length items
+  pub small : size ≤ 3 * 65536
+
+pub record FrameTakes (marks : List Bool) (before : Option ℕ) (f : Frame) (size : ℕ) : Type 0 where
+  pub fit : frame_fits marks before f ≡ true
+  pub is : size ≡ frame_length f

@@ -8,3 +8,4 @@ pub mod Code
 pub mod Format
 pub mod Spelling
 pub mod Fitting
+pub mod FinderSees

@@ -1,4 +1,4 @@
-ghost use Rattle.std.specs.Prelude.{◌≡◌, ◌≤◌, ◌+◌, ◌*◌, ◌<◌, ◌^◌, ◌&&◌, true, None, Some, length, replicate};
+ghost use Rattle.std.specs.Prelude.{◌≡◌, ◌≤◌, ◌+◌, ◌*◌, ◌<◌, ◌^◌, ◌&&◌, true, false, nat_lt, MatchOption, None, Some, length, replicate};
 ghost use Rattle.std.specs.List.{list_all};
 ghost use Rattle.jc_class_out.specs.Descriptors.{parameter_units, or_zero, is_field_descriptor, is_method_descriptor};
 ghost use Rattle.jc_class_out.specs.Pool.{is_descriptor};
@@ -7,7 +7,7 @@ ghost use Rattle.jc_class_out.specs.Instructions.{target, is_above, operand_size
 ghost use Rattle.jc_class_out.specs.Frames.{begins};
 ghost use Rattle.jc_class_out.specs.Code.{marks_of, marks_from, size_from, ends};
 ghost use Rattle.jc_class_out.specs.Format.{is_bodiless};
-ghost use Rattle.jc_class_out.specs.Fitting.{is_u8, is_u16, is_signed, is_count, text_fits, known_fits, is_nothing, is_number, is_array_number, is_array, is_local_below, is_step_below, is_loaded, is_load_of, is_load_long, is_member, is_interface_member, is_class_operand, is_dims, is_jump_from, cases_ascend, is_switch, operand_fits, wide_fits, ins_fits, all_fit, case_lands, operand_lands, ins_lands, handler_fits, item_fits, is_behind, items_fit, frame_fits, frames_fit, item_length, items_length, frame_length, frames_within, frames_room, ins_all_fit, tables_fit, code_fits, code_or_none_fits, method_fits, field_fits, inner_fits, counts_fit, members_fit};
+ghost use Rattle.jc_class_out.specs.Fitting.{IsSize, ItemsTake, FrameTakes, is_u8, is_u16, is_signed, is_count, text_fits, known_fits, is_nothing, is_number, is_array_number, is_array, is_local_below, is_step_below, is_loaded, is_load_of, is_load_long, is_member, is_interface_member, is_class_operand, is_dims, is_jump_from, cases_ascend, is_switch, operand_fits, wide_fits, ins_fits, all_fit, case_lands, operand_lands, ins_lands, handler_fits, item_fits, is_behind, items_fit, frame_fits, frames_fit, item_length, items_length, frame_length, frames_within, frames_room, ins_all_fit, tables_fit, code_fits, code_or_none_fits, method_fits, field_fits, inner_fits, counts_fit, members_fit};
 
 use crate::descriptors::{field_descriptor, method_descriptor, units_of_parameters};
 use crate::kinds::{array_code, kind};
@@ -250,4 +250,399 @@ fn instruction(at: u32, ins: &Ins) -> bool
     } else {
         one_byte(ins.code) && ins.code != 0xc4 && operand_with(at, kind(ins.code), &ins.operand)
     }
+}
+
+/// How many bytes the operand of a switch takes.
+#[tactic(auto, unfolding(crate::specs::Instructions::operand_size))]
+fn switch_bytes(at: u32, operand: &Operand) -> u64
+    requires { is_switch operand.now ≡ true }
+    ensures value { result ≡ operand_size at Kind.Switch operand.now }
+    ensures small { result < 2 ^ 40 }
+{
+    match operand {
+        Operand::Switch { cases, .. } => u64::from(gap(at)) + 8 + 8 * (cases.slice().len() as u64),
+        _ => 0,
+    }
+}
+
+#[tactic(auto, unfolding(crate::specs::Instructions::operand_size, crate::specs::Fitting::operand_fits))]
+fn operand_bytes(at: u32, kind: Kind, operand: &Operand) -> u64
+    requires { operand_fits at kind operand.now ≡ true }
+    ensures value { result ≡ operand_size at kind operand.now }
+    ensures small { result < 2 ^ 40 }
+{
+    match kind {
+        Kind::Plain => 0,
+        Kind::Byte => 1,
+        Kind::Short => 2,
+        Kind::ArrayOf => 1,
+        Kind::Load => 1,
+        Kind::LoadWide => 2,
+        Kind::LoadLong => 2,
+        Kind::Local => 1,
+        Kind::Step => 2,
+        Kind::Jump => 2,
+        Kind::Switch => switch_bytes(at, operand),
+        Kind::Field => 2,
+        Kind::Method => 2,
+        Kind::Interface => 4,
+        Kind::Class => 2,
+        Kind::Dims => 3,
+        Kind::Unknown => 0,
+    }
+}
+
+fn wide_bytes(operand: &Operand) -> u64
+    ensures value { result ≡ wide_size operand.now }
+    ensures small { result ≤ 4 }
+{
+    match operand {
+        Operand::Step { .. } => 4,
+        _ => 2,
+    }
+}
+
+/// How many bytes an instruction takes at that place.
+#[tactic(auto, unfolding(crate::specs::Fitting::ins_fits))]
+fn bytes_of(at: u32, ins: &Ins) -> u64
+    requires { ins_fits at ins.now ≡ true }
+    ensures value { result ≡ ins_size at ins.now }
+    ensures some { 1 ≤ result }
+    ensures small { result < 2 ^ 41 }
+{
+    if ins.wide {
+        2 + wide_bytes(&ins.operand)
+    } else {
+        1 + operand_bytes(at, kind(ins.code), &ins.operand)
+    }
+}
+
+/// The size of code in which each instruction fits, where it is below 65,536.
+#[tactic(auto, unfolding(crate::specs::Fitting::all_fit, crate::specs::Code::size_from))]
+fn measured(list: &[Ins]) -> Option<u32>
+    ensures { MatchOption result ((all_fit 0 list.now && nat_lt (size_from 0 list.now) 65536) ≡ false) (λ n. IsSize list.now n) }
+{
+    let mut at: u32 = 0;
+    for ins in list {
+        if !instruction(at, ins) {
+            return None;
+        }
+        let size = bytes_of(at, ins);
+        if u64::from(at) + size > 65535 {
+            return None;
+        }
+        at += size as u32;
+    }
+    Some(at)
+}
+
+/// Whether an instruction begins there.
+#[tactic(auto, unfolding(crate::specs::Fitting::all_fit))]
+fn begins_at(list: &[Ins], to: u32) -> bool
+    requires { all_fit 0 list.now ≡ true }
+    ensures { result ≡ begins (marks_of list.now) to }
+{
+    let mut left = to;
+    for ins in list {
+        if left == 0 {
+            return true;
+        }
+        let size = bytes_of(to - left, ins);
+        if u64::from(left) < size {
+            return false;
+        }
+        left -= size as u32;
+    }
+    false
+}
+
+fn cases_begin(list: &[Ins], cases: &[SwitchCase]) -> bool
+    requires { all_fit 0 list.now ≡ true }
+    ensures { result ≡ list_all (case_lands (marks_of list.now)) cases.now }
+{
+    for case in cases {
+        if !begins_at(list, case.at) {
+            return false;
+        }
+    }
+    true
+}
+
+/// Whether the operand names places at which instructions begin.
+fn goes_to(list: &[Ins], operand: &Operand) -> bool
+    requires { all_fit 0 list.now ≡ true }
+    ensures { result ≡ operand_lands (marks_of list.now) operand.now }
+{
+    match operand {
+        Operand::Jump(to) => begins_at(list, *to),
+        Operand::Switch { otherwise, cases } => {
+            begins_at(list, *otherwise) && cases_begin(list, cases.slice())
+        }
+        _ => true,
+    }
+}
+
+fn all_go(list: &[Ins]) -> bool
+    requires { all_fit 0 list.now ≡ true }
+    ensures { result ≡ list_all (ins_lands (marks_of list.now)) list.now }
+{
+    for ins in list {
+        if !goes_to(list, &ins.operand) {
+            return false;
+        }
+    }
+    true
+}
+
+/// Whether an instruction begins there, or the code ends.
+#[tactic(auto, using(crate::proofs::CodeAgain::length_marks))]
+fn ends_at(list: &[Ins], size: u32, to: u32) -> bool
+    requires { IsSize list.now size }
+    ensures { result ≡ ends (marks_of list.now) to }
+{
+    begins_at(list, to) || to == size
+}
+
+#[tactic(auto, unfolding(crate::specs::Fitting::handler_fits))]
+fn handler(list: &[Ins], size: u32, row: &Handler) -> bool
+    requires { IsSize list.now size }
+    ensures { result ≡ handler_fits (marks_of list.now) row.now }
+{
+    begins_at(list, row.from)
+        && ends_at(list, size, row.to)
+        && row.from < row.to
+        && begins_at(list, row.at)
+}
+
+fn handlers(list: &[Ins], size: u32, rows: &[Handler]) -> bool
+    requires { IsSize list.now size }
+    ensures { result ≡ list_all (handler_fits (marks_of list.now)) rows.now }
+{
+    for row in rows {
+        if !handler(list, size, row) {
+            return false;
+        }
+    }
+    true
+}
+
+fn item(list: &[Ins], item: &Item) -> bool
+    requires { all_fit 0 list.now ≡ true }
+    ensures { result ≡ item_fits (marks_of list.now) item.now }
+{
+    match item {
+        Item::Uninitialized(at) => begins_at(list, *at),
+        _ => true,
+    }
+}
+
+fn each_item(list: &[Ins], items: &[Item]) -> bool
+    requires { all_fit 0 list.now ≡ true }
+    ensures { result ≡ list_all (item_fits (marks_of list.now)) items.now }
+{
+    for one in items {
+        if !item(list, one) {
+            return false;
+        }
+    }
+    true
+}
+
+fn behind(before: Option<u32>, at: u32) -> bool
+    ensures { result ≡ is_behind before at }
+{
+    match before {
+        None => true,
+        Some(before) => before < at,
+    }
+}
+
+fn item_bytes(item: &Item) -> u64
+    ensures value { result ≡ item_length item.now }
+    ensures few { result ≤ 3 }
+{
+    match item {
+        Item::Object(_) => 3,
+        Item::Uninitialized(_) => 3,
+        _ => 1,
+    }
+}
+
+#[tactic(auto, unfolding(crate::specs::Fitting::items_length))]
+fn items_bytes(items: &[Item]) -> u64
+    requires { length items.now < 65536 }
+    ensures value { result ≡ items_length items.now }
+    ensures few { result ≤ 3 * 65536 }
+{
+    let mut total = 0;
+    for item in items {
+        total += item_bytes(item);
+    }
+    total
+}
+
+
+/// How many bytes the items take, where they fit.
+#[tactic(auto, unfolding(crate::specs::Fitting::items_fit))]
+fn items(list: &[Ins], items: &[Item]) -> Option<u64>
+    requires { all_fit 0 list.now ≡ true }
+    ensures { MatchOption result (items_fit (marks_of list.now) items.now ≡ false) (λ n. ItemsTake (marks_of list.now) items.now n) }
+{
+    if items.len() < 65536 && each_item(list, items) {
+        Some(items_bytes(items))
+    } else {
+        None
+    }
+}
+
+/// How many bytes the frame takes, where it fits.
+#[tactic(auto, unfolding(crate::specs::Fitting::frame_fits))]
+fn frame(list: &[Ins], before: Option<u32>, frame: &Frame) -> Option<u64>
+    requires { all_fit 0 list.now ≡ true }
+    ensures { MatchOption result (frame_fits (marks_of list.now) before frame.now ≡ false) (λ n. FrameTakes (marks_of list.now) before frame.now n) }
+{
+    if !begins_at(list, frame.at) || !behind(before, frame.at) {
+        return None;
+    }
+    let locals = items(list, frame.locals.slice())?;
+    let stack = items(list, frame.stack.slice())?;
+    Some(7 + (locals + stack))
+}
+
+/// Whether the frames fit, and take at most so many bytes.
+#[tactic(auto, unfolding(crate::specs::Fitting::frames_fit, crate::specs::Fitting::frames_within))]
+fn frames(list: &[Ins], room: u64, table: &[Frame]) -> bool
+    requires { all_fit 0 list.now ≡ true }
+    ensures { result ≡ (frames_fit (marks_of list.now) None table.now && frames_within room table.now) }
+{
+    let mut left = room;
+    let mut before = None;
+    for one in table {
+        match frame(list, before, one) {
+            None => return false,
+            Some(bytes) => {
+                if bytes > left {
+                    return false;
+                }
+                left -= bytes;
+            }
+        }
+        before = Some(one.at);
+    }
+    true
+}
+
+/// Whether the exception table and the frames fit in a Code attribute.
+#[tactic(auto, unfolding(crate::specs::Fitting::tables_fit))]
+fn tables(size: u32, code: &CodeModel) -> bool
+    requires { IsSize code.now.ins size }
+    ensures { result ≡ tables_fit (marks_of code.now.ins) code.now }
+{
+    let list = code.ins.slice();
+    let rows = code.handlers.slice();
+    if rows.len() >= 65536 || code.frames.slice().len() >= 65536 {
+        return false;
+    }
+    let room = 0xffff_ffff - (20 + u64::from(size) + 8 * (rows.len() as u64));
+    handlers(list, size, rows) && frames(list, room, code.frames.slice())
+}
+
+#[tactic(auto, unfolding(crate::specs::Fitting::code_fits, crate::specs::Fitting::ins_all_fit))]
+fn code(code: &CodeModel) -> bool
+    ensures { result ≡ code_fits code.now }
+{
+    if !two_bytes(code.stack) || !two_bytes(code.locals) {
+        return false;
+    }
+    match measured(code.ins.slice()) {
+        None => false,
+        Some(size) => 0 < size && all_go(code.ins.slice()) && tables(size, code),
+    }
+}
+
+fn code_or_none(bodiless: bool, code_or_none: &Option<CodeModel>) -> bool
+    ensures { result ≡ code_or_none_fits bodiless code_or_none.now }
+{
+    match code_or_none {
+        None => bodiless,
+        Some(model) => !bodiless && code(model),
+    }
+}
+
+/// Whether the flags say abstract or native (JVMS 4.6).
+pub fn without_body(flags: u16) -> bool
+    ensures { result ≡ is_bodiless flags }
+{
+    flags / 0x100 % 2 == 1 || flags / 0x400 % 2 == 1
+}
+
+#[tactic(auto, unfolding(crate::specs::Fitting::method_fits))]
+fn method(method: &MethodModel) -> bool
+    ensures { result ≡ method_fits method.now }
+{
+    two_bytes(method.flags)
+        && method_descriptor(method.descriptor.slice())
+        && code_or_none(without_body(method.flags), &method.code)
+}
+
+fn methods(list: &[MethodModel]) -> bool
+    ensures { result ≡ list_all method_fits list.now }
+{
+    for one in list {
+        if !method(one) {
+            return false;
+        }
+    }
+    true
+}
+
+#[tactic(auto, unfolding(crate::specs::Fitting::field_fits))]
+fn field(field: &FieldModel) -> bool
+    ensures { result ≡ field_fits field.now }
+{
+    two_bytes(field.flags) && field_descriptor(field.descriptor.slice())
+}
+
+fn fields(list: &[FieldModel]) -> bool
+    ensures { result ≡ list_all field_fits list.now }
+{
+    for one in list {
+        if !field(one) {
+            return false;
+        }
+    }
+    true
+}
+
+fn rows(list: &[InnerModel]) -> bool
+    ensures { result ≡ list_all inner_fits list.now }
+{
+    for one in list {
+        if !two_bytes(one.flags) {
+            return false;
+        }
+    }
+    true
+}
+
+#[tactic(auto, unfolding(crate::specs::Fitting::counts_fit))]
+fn counts(class: &ClassModel) -> bool
+    ensures { result ≡ counts_fit class.now }
+{
+    class.interfaces.slice().len() < 65536
+        && class.fields.slice().len() < 65536
+        && class.methods.slice().len() < 65536
+        && class.inner.slice().len() < 65536
+}
+
+/// Whether the class fits, its pool left out.
+#[tactic(auto, unfolding(crate::specs::Fitting::members_fit))]
+pub fn members(class: &ClassModel) -> bool
+    ensures { result ≡ members_fit class.now }
+{
+    two_bytes(class.flags)
+        && counts(class)
+        && fields(class.fields.slice())
+        && methods(class.methods.slice())
+        && rows(class.inner.slice())
 }

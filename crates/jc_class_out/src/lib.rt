@@ -2,6 +2,7 @@
 #![tactic(auto)]
 
 mod descriptors;
+mod room;
 mod fitting;
 mod format;
 mod kinds;
@@ -12,6 +13,7 @@ mod uses;
 mod writer;
 mod writing;
 
+pub use room::fits;
 pub use format::{Constant, Entry, Flaw, Kind, Slot};
 pub use kinds::{array_code, kind};
 pub use model::{

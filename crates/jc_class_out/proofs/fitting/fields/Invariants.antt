@@ -1,0 +1,7 @@
+use Rattle.std.proofs.Common.{◌≡◌, drop}
+use Rattle.std.specs.List.{list_all}
+use Rattle.jc_class_out.specs.Fitting.{field_fits}
+use Rattle.jc_class_out.proofs.fitting.fields.Given as goal
+
+abbrev pub invariant-loop-one : goal.invariant-loop-one
+invariant-loop-one l = list_all field_fits (drop l.one-index l.list) ≡ list_all field_fits l.list

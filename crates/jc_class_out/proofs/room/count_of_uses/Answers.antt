@@ -1,0 +1,10 @@
+use Rattle.std.proofs.Common.{ℕ, ◌+◌, length, arith, ◌∙◌, ap, min, ◌≡◌}
+use Rattle.jc_class_out.specs.declared.room.Counter.{Counter}
+use Rattle.jc_class_out.specs.Spelling.{uses}
+use Rattle.jc_class_out.proofs.Census.{told_counts}
+use Rattle.jc_class_out.proofs.room.count_of_uses.Goals as goal
+
+pub returns : goal.returns
+returns c =
+    let e : 0 + length (uses c.args.class.now) ≡ length (uses c.args.class.now) = omega arith in
+    told_counts (λ (s : Counter). s.count) _ c.tell_uses.new.visitor (uses c.args.class.now) (omega arith) c.in-Ok.ensures ∙ ap (λ (n : ℕ). min n 65535) e
