@@ -121,7 +121,7 @@ told_census class at count c s t front (u ∷ us) rest e few is place counted h 
     let before : take (at s) (uses (class s)) ≡ front = rw (is, place, e) (take_at front (u ∷ (us ++ rest)) (length front) refl) in
     let next : count h.0 ≡ cond (has front u) (count s) (min (count s + 1) (2 ^ 64 - 1)) = one.counts ∙ ap (λ (x : List Known). cond (has x u) (count s) (min (count s + 1) (2 ^ 64 - 1))) before in
     let now : count h.0 ≡ places (front ++ u ∷ []) =
-      next ∙ sym (cond_few (has front u) (count s) (2 ^ 64 - 1) (places (front ++ u ∷ [])) (omega (arith, counted, places_few front, short, few)) (omega (arith, places_few (front ++ u ∷ []), length-append front (u ∷ []), short, few)) (rw counted (sym (places_push front u)))) in
+    next ∙ sym (cond_few (has front u) (count s) (2 ^ 64 - 1) (places (front ++ u ∷ [])) (omega (arith, counted, places_few front, short, few)) (omega (arith, places_few (front ++ u ∷ []), length-append front (u ∷ []), short, few)) (rw counted (sym (places_push front u)))) in
     let on : at h.0 ≡ length (front ++ u ∷ []) = omega (arith, one.on, place, length-append front (u ∷ []), short, few) in
     let split : uses c ≡ (front ++ u ∷ []) ++ (us ++ rest) = e ∙ sym (append_assoc front (u ∷ []) (us ++ rest)) in
     told_census class at count c h.0 t (front ++ u ∷ []) us rest split few (one.same ∙ is) on now h.2 ∙ ap places (append_assoc front (u ∷ []) us)

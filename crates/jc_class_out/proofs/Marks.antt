@@ -40,7 +40,7 @@ behind list i ins at zero whole lt is some le so_far = absurd (omega (arith, som
 behind list i ins at (suc d) whole lt is some le so_far =
     let rest = marks_from (at + ins_size at ins) (drop (i + 1) list) in
     let one : begins (marks_from at (drop i list)) (suc d) ≡ begins rest (d - (ins_size at ins - 1)) =
-      ap (λ (x : List Ins). begins (marks_from at x) (suc d)) (first_of list i ins lt is) ∙ past_false (ins_size at ins - 1) rest d (omega (arith, le, some)) in
+    ap (λ (x : List Ins). begins (marks_from at x) (suc d)) (first_of list i ins lt is) ∙ past_false (ins_size at ins - 1) rest d (omega (arith, le, some)) in
     let e : suc d - ins_size at ins ≡ d - (ins_size at ins - 1) = omega (arith, some) in
     ap (begins rest) e ∙ sym one ∙ so_far
 

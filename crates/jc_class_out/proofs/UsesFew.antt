@@ -120,8 +120,19 @@ few_code c h =
     let hs = ltb-true (length c.handlers) 65536 t1.0 in
     let fs = ltb-true (length c.frames) 65536 t3.0 in
     record {
-      all = omega (arith, small, few, hs, fs, flat_any ins_uses 6 (λ i. few_operand (kind_of i.code) i.operand) c.ins, flat_any handler_uses 2 (λ h. few_class h.class) c.handlers, few_frames (marks_of c.ins) None c.frames t4.0, few_table c.frames,
-        length-append (flat_map ins_uses c.ins) (flat_map handler_uses c.handlers ++ table_uses c.frames), length-append (flat_map handler_uses c.handlers) (table_uses c.frames));
+      all = omega (
+        arith,
+        small,
+        few,
+        hs,
+        fs,
+        flat_any ins_uses 6 (λ i. few_operand (kind_of i.code) i.operand) c.ins,
+        flat_any handler_uses 2 (λ h. few_class h.class) c.handlers,
+        few_frames (marks_of c.ins) None c.frames t4.0,
+        few_table c.frames,
+        length-append (flat_map ins_uses c.ins) (flat_map handler_uses c.handlers ++ table_uses c.frames),
+        length-append (flat_map handler_uses c.handlers) (table_uses c.frames),
+      );
       loads = omega (arith, small, few, flat_any ins_first_uses 1 few_load c.ins);
     }
 

@@ -481,7 +481,6 @@ fn items_bytes(items: &[Item]) -> u64
     total
 }
 
-
 /// How many bytes the items take, where they fit.
 #[tactic(auto, unfolding(crate::specs::Fitting::items_fit))]
 fn items(list: &[Ins], items: &[Item]) -> Option<u64>

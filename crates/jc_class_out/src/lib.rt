@@ -2,22 +2,22 @@
 #![tactic(auto)]
 
 mod descriptors;
-mod room;
 mod fitting;
 mod format;
 mod kinds;
 mod model;
 mod pool;
+mod room;
 mod texts;
 mod uses;
 mod writer;
 mod writing;
 
-pub use room::fits;
 pub use format::{Constant, Entry, Flaw, Kind, Slot};
 pub use kinds::{array_code, kind};
 pub use model::{
     ClassModel, CodeModel, FieldModel, Frame, Handler, InnerModel, Ins, Item, Loaded, MethodModel,
     Operand, SwitchCase,
 };
+pub use room::fits;
 pub use writer::class_bytes;

@@ -7,7 +7,7 @@ ghost use Rattle.jc_class_out.specs.Fitting.{is_signed, text_fits, known_fits, p
 
 use crate::descriptors::{field_descriptor, method_descriptor};
 use crate::fitting::{members, signed};
-use crate::uses::{tell_loads, tell_uses, Visitor};
+use crate::uses::{Visitor, tell_loads, tell_uses};
 use crate::{ClassModel, Constant};
 use std::convert::Infallible;
 

@@ -25,8 +25,8 @@ loop-ins-preserved c =
     record {
       fit = rw e (fit_more c.args.list.now c.loop-ins.ins-index c.ins-item.result (c.args.to - c.loop-ins.left) c.loop-ins-test.true c.ins-item.is c.loop-ins.invariant.fit);
       same = ap (λ (x : ℕ). begins (marks_from x (drop (c.loop-ins.ins-index + 1) c.args.list.now)) (c.loop-ins.left - c.bytes_of-size.result)) e
-        ∙ ap (λ (x : ℕ). begins (marks_from ((c.args.to - c.loop-ins.left) + ins_size (c.args.to - c.loop-ins.left) c.ins-item.result) (drop (c.loop-ins.ins-index + 1) c.args.list.now)) x) g
-        ∙ behind c.args.list.now c.loop-ins.ins-index c.ins-item.result (c.args.to - c.loop-ins.left) c.loop-ins.left (begins (marks_of c.args.list.now) c.args.to) c.loop-ins-test.true c.ins-item.is some le c.loop-ins.invariant.same;
+          ∙ ap (λ (x : ℕ). begins (marks_from ((c.args.to - c.loop-ins.left) + ins_size (c.args.to - c.loop-ins.left) c.ins-item.result) (drop (c.loop-ins.ins-index + 1) c.args.list.now)) x) g
+          ∙ behind c.args.list.now c.loop-ins.ins-index c.ins-item.result (c.args.to - c.loop-ins.left) c.loop-ins.left (begins (marks_of c.args.list.now) c.args.to) c.loop-ins-test.true c.ins-item.is some le c.loop-ins.invariant.same;
       less = omega (arith, c.loop-ins.invariant.less);
     }
 
