@@ -210,7 +210,9 @@ fn behind_name(words: &[String]) -> &[String]
 /// The job that words are, where the first word is the program's name, or their first fault.
 pub fn read_words(alloc: Global, words: &[String]) -> Result<Job, Stop<UsageFault>>
     ensures job { IfOk result (λ job. IsJob (map string_bytes words.now) job) }
+    ensures only { IfOk result (λ job. (other : Job) → IsJob (map string_bytes words.now) other → other ≡ job) }
     ensures fault { (fault : UsageFault) → result ≡ Err (Stop.Refused fault) → IsFault (map string_bytes words.now) fault }
+    ensures no_job { (fault : UsageFault) → result ≡ Err (Stop.Refused fault) → (job : Job) → IsJob (map string_bytes words.now) job → ⊥ }
 {
     let Some(line) = read_line(alloc, behind_name(words))? else {
         return Err(Stop::Refused(UsageFault::Line));
