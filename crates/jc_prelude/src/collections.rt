@@ -2,19 +2,14 @@
 pub const COLLECTIONS: &str = r#"package java.util;
 
 public class NoSuchElementException extends RuntimeException {
-    public NoSuchElementException() {
-    }
+    public NoSuchElementException() { }
 
-    public NoSuchElementException(String message) {
-        super(message);
-    }
+    public NoSuchElementException(String message) { super(message); }
 }
 
 public interface Iterator<E> {
     boolean hasNext();
-
     E next();
-
     void remove();
 }
 
@@ -24,29 +19,19 @@ public interface Comparator<T> {
 
 public interface Collection<E> extends Iterable<E> {
     boolean add(E element);
-
     boolean addAll(Collection<? extends E> elements);
-
     boolean remove(Object element);
-
     boolean contains(Object element);
-
     int size();
-
     boolean isEmpty();
-
     void clear();
-
     Iterator<E> iterator();
 }
 
 public interface List<E> extends Collection<E> {
     E get(int index);
-
     E set(int index, E element);
-
     E remove(int index);
-
     int indexOf(Object element);
 }
 
@@ -55,26 +40,17 @@ public interface Set<E> extends Collection<E> {
 
 public interface Map<K, V> {
     V get(Object key);
-
     V put(K key, V value);
-
     V remove(Object key);
-
     boolean containsKey(Object key);
-
     int size();
-
     boolean isEmpty();
-
     void clear();
-
     Set<K> keySet();
-
     Set<Map.Entry<K, V>> entrySet();
 
     public interface Entry<K, V> {
         K getKey();
-
         V getValue();
     }
 }
@@ -120,8 +96,7 @@ public class ArrayList<E> implements List<E> {
         }
     }
 
-    public ArrayList() {
-    }
+    public ArrayList() { }
 
     private Node<E> node(int path) {
         Node<E> node = root;
@@ -403,8 +378,7 @@ public class HashMap<K, V> implements Map<K, V> {
         }
     }
 
-    public HashMap() {
-    }
+    public HashMap() { }
 
     private static int hashOf(Object key) {
         return key == null ? 0 : key.hashCode();

@@ -358,10 +358,6 @@ public final class Byte extends Number implements Comparable<Byte> {
         return value;
     }
 
-    public short shortValue() {
-        return value;
-    }
-
     public int intValue() {
         return value;
     }
@@ -409,10 +405,6 @@ public final class Short extends Number implements Comparable<Short> {
             KEPT[value + 128] = kept;
         }
         return kept;
-    }
-
-    public byte byteValue() {
-        return (byte) value;
     }
 
     public short shortValue() {
@@ -474,14 +466,6 @@ public final class Integer extends Number implements Comparable<Integer> {
             throw new NumberFormatException("For input string: \"".concat(text).concat("\""));
         }
         return (int) value;
-    }
-
-    public byte byteValue() {
-        return (byte) value;
-    }
-
-    public short shortValue() {
-        return (short) value;
     }
 
     public int intValue() {
@@ -570,14 +554,6 @@ public final class Long extends Number implements Comparable<Long> {
             }
         }
         return -1;
-    }
-
-    public byte byteValue() {
-        return (byte) value;
-    }
-
-    public short shortValue() {
-        return (short) value;
     }
 
     public int intValue() {
@@ -683,8 +659,7 @@ public final class Boolean implements Comparable<Boolean> {
 }
 
 public final class Math {
-    private Math() {
-    }
+    private Math() { }
 
     public static int abs(int number) {
         return number < 0 ? -number : number;
@@ -715,8 +690,7 @@ public final class System {
     public static final InputStream in = new Input();
     public static final PrintStream out = new PrintStream();
 
-    private System() {
-    }
+    private System() { }
 
     public static void exit(int status) {
         halt(status);

@@ -2,12 +2,9 @@
 pub const STREAMS: &str = r#"package java.io;
 
 public class IOException extends Exception {
-    public IOException() {
-    }
+    public IOException() { }
 
-    public IOException(String message) {
-        super(message);
-    }
+    public IOException(String message) { super(message); }
 }
 
 public abstract class InputStream {

@@ -26,164 +26,110 @@ public class Throwable {
 }
 
 public class Exception extends Throwable {
-    public Exception() {
-    }
+    public Exception() { }
 
-    public Exception(String message) {
-        super(message);
-    }
+    public Exception(String message) { super(message); }
 }
 
 public class RuntimeException extends Exception {
-    public RuntimeException() {
-    }
+    public RuntimeException() { }
 
-    public RuntimeException(String message) {
-        super(message);
-    }
+    public RuntimeException(String message) { super(message); }
 }
 
 public class Error extends Throwable {
-    public Error() {
-    }
+    public Error() { }
 
-    public Error(String message) {
-        super(message);
-    }
+    public Error(String message) { super(message); }
 }
 
 public class LinkageError extends Error {
-    public LinkageError() {
-    }
+    public LinkageError() { }
 
-    public LinkageError(String message) {
-        super(message);
-    }
+    public LinkageError(String message) { super(message); }
 }
 
 public class ExceptionInInitializerError extends LinkageError {
-    public ExceptionInInitializerError() {
-    }
+    public ExceptionInInitializerError() { }
 
-    public ExceptionInInitializerError(String message) {
-        super(message);
-    }
+    public ExceptionInInitializerError(String message) { super(message); }
 }
 
 public class NoClassDefFoundError extends LinkageError {
-    public NoClassDefFoundError() {
-    }
+    public NoClassDefFoundError() { }
 
-    public NoClassDefFoundError(String message) {
-        super(message);
-    }
+    public NoClassDefFoundError(String message) { super(message); }
 }
 
 public class ArithmeticException extends RuntimeException {
-    public ArithmeticException() {
-    }
+    public ArithmeticException() { }
 
-    public ArithmeticException(String message) {
-        super(message);
-    }
+    public ArithmeticException(String message) { super(message); }
 }
 
 public class ArrayStoreException extends RuntimeException {
-    public ArrayStoreException() {
-    }
+    public ArrayStoreException() { }
 
-    public ArrayStoreException(String message) {
-        super(message);
-    }
+    public ArrayStoreException(String message) { super(message); }
 }
 
 public class ClassCastException extends RuntimeException {
-    public ClassCastException() {
-    }
+    public ClassCastException() { }
 
-    public ClassCastException(String message) {
-        super(message);
-    }
+    public ClassCastException(String message) { super(message); }
 }
 
 public class NegativeArraySizeException extends RuntimeException {
-    public NegativeArraySizeException() {
-    }
+    public NegativeArraySizeException() { }
 
-    public NegativeArraySizeException(String message) {
-        super(message);
-    }
+    public NegativeArraySizeException(String message) { super(message); }
 }
 
 public class NullPointerException extends RuntimeException {
-    public NullPointerException() {
-    }
+    public NullPointerException() { }
 
-    public NullPointerException(String message) {
-        super(message);
-    }
+    public NullPointerException(String message) { super(message); }
 }
 
 public class IndexOutOfBoundsException extends RuntimeException {
-    public IndexOutOfBoundsException() {
-    }
+    public IndexOutOfBoundsException() { }
 
-    public IndexOutOfBoundsException(String message) {
-        super(message);
-    }
+    public IndexOutOfBoundsException(String message) { super(message); }
 }
 
 public class ArrayIndexOutOfBoundsException extends IndexOutOfBoundsException {
-    public ArrayIndexOutOfBoundsException() {
-    }
+    public ArrayIndexOutOfBoundsException() { }
 
-    public ArrayIndexOutOfBoundsException(String message) {
-        super(message);
-    }
+    public ArrayIndexOutOfBoundsException(String message) { super(message); }
 }
 
 public class StringIndexOutOfBoundsException extends IndexOutOfBoundsException {
-    public StringIndexOutOfBoundsException() {
-    }
+    public StringIndexOutOfBoundsException() { }
 
-    public StringIndexOutOfBoundsException(String message) {
-        super(message);
-    }
+    public StringIndexOutOfBoundsException(String message) { super(message); }
 }
 
 public class IllegalArgumentException extends RuntimeException {
-    public IllegalArgumentException() {
-    }
+    public IllegalArgumentException() { }
 
-    public IllegalArgumentException(String message) {
-        super(message);
-    }
+    public IllegalArgumentException(String message) { super(message); }
 }
 
 public class NumberFormatException extends IllegalArgumentException {
-    public NumberFormatException() {
-    }
+    public NumberFormatException() { }
 
-    public NumberFormatException(String message) {
-        super(message);
-    }
+    public NumberFormatException(String message) { super(message); }
 }
 
 public class IllegalStateException extends RuntimeException {
-    public IllegalStateException() {
-    }
+    public IllegalStateException() { }
 
-    public IllegalStateException(String message) {
-        super(message);
-    }
+    public IllegalStateException(String message) { super(message); }
 }
 
 public class UnsupportedOperationException extends RuntimeException {
-    public UnsupportedOperationException() {
-    }
+    public UnsupportedOperationException() { }
 
-    public UnsupportedOperationException(String message) {
-        super(message);
-    }
+    public UnsupportedOperationException(String message) { super(message); }
 }
 "#;
