@@ -2,6 +2,7 @@
 #![tactic(auto)]
 
 mod expression;
+mod height;
 mod name;
 mod statement;
 mod types;
@@ -10,6 +11,7 @@ pub use expression::{
     ArrayInit, AssignOp, BinaryOp, Creation, Expr, Init, Literal, Operand, PostfixOp, PrefixOp,
     PrefixSign, Skip, SkipPart,
 };
+pub use height::{array_height, class_height, expr_height, source_height, type_height};
 pub use name::Ident;
 pub use statement::{
     Annotation, AnnotationValue, Clause, ClauseHead, Declaration, DeclarationHead, ForHead,
