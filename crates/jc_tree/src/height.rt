@@ -1,9 +1,0 @@
-//! How deep the nodes of a tree lie in each other.
-mod expressions;
-mod parts;
-mod statements;
-mod types;
-
-pub use expressions::{array_height, expr_height};
-pub use statements::source_height;
-pub use types::{class_height, type_height};
