@@ -197,7 +197,7 @@ pub enum Creation {
         /// The body of an anonymous class, which javag has not: none, or one.
         body: Items<Skip>,
     },
-    Array {
+    Sized {
         element: BaseTree,
         first: Boxed<Expr>,
         more: Items<Expr>,
@@ -225,7 +225,7 @@ pub struct ArrayInit {
 #[cycle(expressions)]
 pub enum Init {
     Value(Expr),
-    Array(ArrayInit),
+    Nested(ArrayInit),
 }
 
 /// What stands between braces that javag skips.

@@ -1,0 +1,5 @@
+pub mod Expressions
+pub mod Shapes
+pub mod Spelling
+pub mod Told
+pub mod Types

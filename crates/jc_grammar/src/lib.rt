@@ -1,0 +1,43 @@
+//! The grammar of Java 7's types and expressions (JLS 18), as definitions over trees and tokens.
+#![tactic(auto)]
+
+ghost use Rattle.std.specs.Prelude.{◌≡◌};
+ghost use Rattle.jc_grammar.specs.Shapes.{binary_level};
+ghost use Rattle.jc_grammar.specs.Types.{primitive_key};
+ghost use Rattle.jc_grammar.specs.Spelling.{SpellsType, BeginsType, NoTypeBegins, SpellsExpr, BeginsExpr, NoExprBegins};
+
+use jc_lexer::Key;
+use jc_tree::{BinaryOp, PrimitiveWord};
+
+/// The keyword of a primitive type.
+pub fn primitive_key(word: PrimitiveWord) -> Key
+    ensures { result ≡ primitive_key word }
+{
+    match word {
+        PrimitiveWord::Boolean => Key::Boolean,
+        PrimitiveWord::Byte => Key::Byte,
+        PrimitiveWord::Short => Key::Short,
+        PrimitiveWord::Char => Key::Char,
+        PrimitiveWord::Int => Key::Int,
+        PrimitiveWord::Long => Key::Long,
+    }
+}
+
+/// The level of a binary operator, from 2 for `||` to 11 for `*`.
+pub fn binary_level(op: BinaryOp) -> u32
+    ensures { result ≡ binary_level op }
+{
+    match op {
+        BinaryOp::OrElse => 2,
+        BinaryOp::AndAlso => 3,
+        BinaryOp::Or => 4,
+        BinaryOp::Xor => 5,
+        BinaryOp::And => 6,
+        BinaryOp::Equal | BinaryOp::NotEqual => 7,
+        BinaryOp::Less | BinaryOp::Greater => 8,
+        BinaryOp::LessEqual | BinaryOp::GreaterEqual => 8,
+        BinaryOp::ShiftLeft | BinaryOp::ShiftRight | BinaryOp::ShiftRightZero => 9,
+        BinaryOp::Plus | BinaryOp::Minus => 10,
+        BinaryOp::Times | BinaryOp::Divide | BinaryOp::Remainder => 11,
+    }
+}

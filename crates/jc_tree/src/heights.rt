@@ -1,0 +1,9 @@
+//! How deep the nodes of a tree lie in each other.
+mod expressions;
+mod parts;
+mod statements;
+mod types;
+
+pub use expressions::{array_height, expr_height};
+pub use statements::height;
+pub use types::{class_height, type_height};
