@@ -10,6 +10,7 @@ const HI: &str =
     "class Main { public static void main(String[] args) { System.out.write(70 + 2); System.out.write(105); } }";
 
 /// What a call left: its outcome, and what went to out and err.
+#[derive(Drop)]
 struct Left {
     outcome: Outcome,
     out: MemPaper,
