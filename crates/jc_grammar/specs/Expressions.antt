@@ -16,10 +16,10 @@ use Rattle.jc_tree.specs.declared.expression.PostfixOp.{PostfixOp}
 use Rattle.jc_tree.specs.declared.expression.PostfixOp.TheVariants as postfix_of
 use Rattle.jc_tree.specs.declared.expression.Literal.{Literal}
 use Rattle.jc_tree.specs.declared.expression.Literal.TheVariants as literal_of
-use Rattle.jc_tree.specs.declared.expression.Creation.{Creation-F}
+use Rattle.jc_tree.specs.declared.expression.Creation.{Creation-F, Creation, fold-Creation}
 use Rattle.jc_tree.specs.declared.expression.Expr.{Expr, Expr-F, fold-Expr}
 use Rattle.jc_tree.specs.declared.expression.Init.{Init, Init-F, fold-Init}
-use Rattle.jc_tree.specs.declared.expression.Operand.{Operand-F}
+use Rattle.jc_tree.specs.declared.expression.Operand.{Operand-F, Operand, fold-Operand}
 use Rattle.jc_tree.specs.declared.expression.ArrayInit.{ArrayInit, ArrayInit-F, fold-ArrayInit}
 use Rattle.jc_tree.specs.declared.expression.Skip.{Skip, Skip-F, fold-Skip}
 use Rattle.jc_tree.specs.declared.expression.SkipPart.{SkipPart-F}
@@ -173,3 +173,9 @@ array_tokens array = fold-ArrayInit Spelled Spelled Spelled Spelled Spelled crea
 
 unfoldable pub init_tokens : Init → Spelled
 init_tokens init = fold-Init Spelled Spelled Spelled Spelled Spelled creation_told expr_told init_told operand_told array_told init
+
+unfoldable pub operand_tokens : Operand → Spelled
+operand_tokens operand = fold-Operand Spelled Spelled Spelled Spelled Spelled creation_told expr_told init_told operand_told array_told operand
+
+unfoldable pub creation_tokens : Creation → Spelled
+creation_tokens creation = fold-Creation Spelled Spelled Spelled Spelled Spelled creation_told expr_told init_told operand_told array_told creation

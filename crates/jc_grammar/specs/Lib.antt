@@ -1,4 +1,5 @@
 pub mod Expressions
+pub mod Laws
 pub mod Parts
 pub mod Shapes
 pub mod Spelling
