@@ -1,5 +1,5 @@
 -- The tokens of expressions (JLS 15).
-use Rattle.std.specs.Prelude.{ℕ, Bool, true, false, List, [], ◌∷◌, map, if◌then◌else◌, Option, Some, None}
+use Rattle.std.specs.Prelude.{Bool, true, false, List, [], ◌∷◌, map, Some, None}
 use Rattle.jc_lexer.specs.declared.token.Key.TheVariants as key_of
 use Rattle.jc_lexer.specs.declared.token.Sign.{Sign}
 use Rattle.jc_lexer.specs.declared.token.Sign.TheVariants as sign_of
@@ -16,13 +16,13 @@ use Rattle.jc_tree.specs.declared.expression.PostfixOp.{PostfixOp}
 use Rattle.jc_tree.specs.declared.expression.PostfixOp.TheVariants as postfix_of
 use Rattle.jc_tree.specs.declared.expression.Literal.{Literal}
 use Rattle.jc_tree.specs.declared.expression.Literal.TheVariants as literal_of
-use Rattle.jc_tree.specs.declared.expression.Creation.{Creation, Creation-F, fold-Creation}
+use Rattle.jc_tree.specs.declared.expression.Creation.{Creation-F, Creation, fold-Creation}
 use Rattle.jc_tree.specs.declared.expression.Expr.{Expr, Expr-F, fold-Expr}
 use Rattle.jc_tree.specs.declared.expression.Init.{Init, Init-F, fold-Init}
-use Rattle.jc_tree.specs.declared.expression.Operand.{Operand, Operand-F, fold-Operand}
+use Rattle.jc_tree.specs.declared.expression.Operand.{Operand-F, Operand, fold-Operand}
 use Rattle.jc_tree.specs.declared.expression.ArrayInit.{ArrayInit, ArrayInit-F, fold-ArrayInit}
 use Rattle.jc_tree.specs.declared.expression.Skip.{Skip, Skip-F, fold-Skip}
-use Rattle.jc_tree.specs.declared.expression.SkipPart.{SkipPart, SkipPart-F, fold-SkipPart}
+use Rattle.jc_tree.specs.declared.expression.SkipPart.{SkipPart-F}
 use Rattle.jc_grammar.specs.Told.{Told, Spelled, told, sign, sign_at, key, key_at, ident, each, commas, actuals, names_after, brackets}
 use Rattle.jc_grammar.specs.Types.{type_tokens, base_tokens, class_tokens, args_tokens}
 
@@ -170,3 +170,12 @@ expr_tokens expr = fold-Expr Spelled Spelled Spelled Spelled Spelled creation_to
 
 unfoldable pub array_tokens : ArrayInit → Spelled
 array_tokens array = fold-ArrayInit Spelled Spelled Spelled Spelled Spelled creation_told expr_told init_told operand_told array_told array
+
+unfoldable pub init_tokens : Init → Spelled
+init_tokens init = fold-Init Spelled Spelled Spelled Spelled Spelled creation_told expr_told init_told operand_told array_told init
+
+unfoldable pub operand_tokens : Operand → Spelled
+operand_tokens operand = fold-Operand Spelled Spelled Spelled Spelled Spelled creation_told expr_told init_told operand_told array_told operand
+
+unfoldable pub creation_tokens : Creation → Spelled
+creation_tokens creation = fold-Creation Spelled Spelled Spelled Spelled Spelled creation_told expr_told init_told operand_told array_told creation

@@ -1,5 +1,5 @@
 -- Which expressions may stand where: the levels of the grammar, loosest first (JLS 15).
-use Rattle.std.specs.Prelude.{ℕ, ◌+◌, Bool, true, false, not, ◌&&◌, ◌||◌, ◌==◌, nat_le, List, [], ◌∷◌, length, map, if◌then◌else◌}
+use Rattle.std.specs.Prelude.{ℕ, ◌+◌, Bool, true, false, not, ◌&&◌, ◌||◌, ◌==◌, nat_le, List, [], ◌∷◌, length, if◌then◌else◌}
 use Rattle.std.specs.List.{list_all}
 use Rattle.jc_lexer.specs.declared.token.Sign.{Sign}
 use Rattle.jc_lexer.specs.declared.token.Sign.TheVariants as sign_of
@@ -14,13 +14,13 @@ use Rattle.jc_tree.specs.declared.expression.BinaryOp.{BinaryOp}
 use Rattle.jc_tree.specs.declared.expression.BinaryOp.TheVariants as binary_of
 use Rattle.jc_tree.specs.declared.expression.PrefixSign.{PrefixSign}
 use Rattle.jc_tree.specs.declared.expression.PrefixSign.TheVariants as prefix_of
-use Rattle.jc_tree.specs.declared.expression.Creation.{Creation, Creation-F}
+use Rattle.jc_tree.specs.declared.expression.Creation.{Creation-F}
 use Rattle.jc_tree.specs.declared.expression.Expr.{Expr, Expr-F, fold-Expr}
-use Rattle.jc_tree.specs.declared.expression.Init.{Init, Init-F}
-use Rattle.jc_tree.specs.declared.expression.Operand.{Operand, Operand-F}
-use Rattle.jc_tree.specs.declared.expression.ArrayInit.{ArrayInit, ArrayInit-F}
+use Rattle.jc_tree.specs.declared.expression.Init.{Init, Init-F, fold-Init}
+use Rattle.jc_tree.specs.declared.expression.Operand.{Operand-F}
+use Rattle.jc_tree.specs.declared.expression.ArrayInit.{ArrayInit-F}
 use Rattle.jc_tree.specs.declared.expression.Skip.{Skip, Skip-F, fold-Skip}
-use Rattle.jc_tree.specs.declared.expression.SkipPart.{SkipPart, SkipPart-F}
+use Rattle.jc_tree.specs.declared.expression.SkipPart.{SkipPart-F}
 
 abbrev pub any_level : ℕ
 any_level = 0
@@ -213,3 +213,7 @@ is_expr expr = stands any_level (expr_shape expr)
 -- an expression that may be a statement: an assignment, `++`, `--`, a call, or the creation of an object
 abbrev pub is_effect : Expr → Bool
 is_effect expr = (expr_shape expr).effect
+
+-- the same of an initialiser
+unfoldable pub is_init : Init → Bool
+is_init init = fold-Init CreationShape Shape Bool OperandShape Bool creation_shape expr_shape_step init_good operand_shape array_good init

@@ -7,11 +7,14 @@ use Rattle.jc_lexer.specs.declared.token.TokenKind.{TokenKind}
 use Rattle.jc_lexer.specs.declared.token.TokenKind.TheVariants.{Sign as Signed}
 use Rattle.jc_tree.specs.declared.types.TypeTree.{TypeTree}
 use Rattle.jc_tree.specs.declared.expression.Expr.{Expr}
-use Rattle.jc_tree.specs.Heights.{type_height, expr_height}
+use Rattle.jc_tree.specs.Heights.{type_height, expr_height, source_height}
 use Rattle.jc_grammar.specs.Told.{Told}
 use Rattle.jc_grammar.specs.Types.{type_tokens}
 use Rattle.jc_grammar.specs.Expressions.{expr_tokens}
 use Rattle.jc_grammar.specs.Shapes.{is_expr}
+use Rattle.jc_grammar.specs.Statements.{file_tokens}
+use Rattle.jc_grammar.specs.Units.{is_file}
+use Rattle.jc_tree.specs.declared.statement.SourceFile.{SourceFile}
 
 abbrev pub is_greater_sign : Sign → Bool
 is_greater_sign sign_of.Greater = true
@@ -60,3 +63,13 @@ BeginsExpr height tokens = (expr : Expr) × (more : List Token) × SpellsExpr he
 
 abbrev pub NoExprBegins : ℕ → List Token → Type 0
 NoExprBegins height tokens = (expr : Expr) (more : List Token) → SpellsExpr height (tokens ++ more) expr [] → ⊥
+
+-- the tokens are those of a source file of at most this height
+abbrev pub SpellsFile : ℕ → List Token → SourceFile → Type 0
+SpellsFile height tokens file = (source_height file ≤ height) × (is_file file ≡ true) × AreTold false (file_tokens file []) tokens
+
+abbrev pub BeginsFile : ℕ → List Token → Type 0
+BeginsFile height tokens = (file : SourceFile) × (more : List Token) × SpellsFile height (tokens ++ more) file
+
+abbrev pub NoFileBegins : ℕ → List Token → Type 0
+NoFileBegins height tokens = (file : SourceFile) (more : List Token) → SpellsFile height (tokens ++ more) file → ⊥

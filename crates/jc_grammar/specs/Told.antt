@@ -1,5 +1,5 @@
 -- What a tree tells of its tokens.
-use Rattle.std.specs.Prelude.{ℕ, zero, suc, Bool, true, false, List, [], ◌∷◌, Option, Some, None}
+use Rattle.std.specs.Prelude.{ℕ, zero, suc, Bool, false, List, [], ◌∷◌, Option, Some, None}
 use Rattle.jc_lexer.specs.declared.token.Key.{Key}
 use Rattle.jc_lexer.specs.declared.token.Sign.{Sign}
 use Rattle.jc_lexer.specs.declared.token.Sign.TheVariants.{Comma, Dot, LeftBracket, RightBracket, LeftParen, RightParen}

@@ -1,6 +1,6 @@
 -- The tokens of types: Type = (Prim | ClassT) {"[" "]"}, ClassT = Id [Args] {"." Id [Args]}, Args = "<" Arg {"," Arg} ">",
 -- Arg = Type | "?" [("extends" | "super") Type] (JLS 4).
-use Rattle.std.specs.Prelude.{ℕ, List, [], ◌∷◌, map}
+use Rattle.std.specs.Prelude.{List, [], ◌∷◌, map}
 use Rattle.jc_lexer.specs.declared.token.Key.{Key}
 use Rattle.jc_lexer.specs.declared.token.Key.TheVariants as key_of
 use Rattle.jc_lexer.specs.declared.token.Sign.TheVariants.{Less, Greater, Question}
@@ -11,7 +11,7 @@ use Rattle.jc_tree.specs.declared.types.TypePart.{TypePart, TypePart-F, fold-Typ
 use Rattle.jc_tree.specs.declared.types.TypeTree.{TypeTree, TypeTree-F, fold-TypeTree}
 use Rattle.jc_tree.specs.declared.types.PrimitiveWord.{PrimitiveWord}
 use Rattle.jc_tree.specs.declared.types.PrimitiveWord.TheVariants as word_of
-use Rattle.jc_grammar.specs.Told.{Told, Spelled, sign, sign_at, key, key_at, ident, commas, after_dots, brackets}
+use Rattle.jc_grammar.specs.Told.{Spelled, sign, sign_at, key, key_at, ident, commas, after_dots, brackets}
 
 abbrev pub primitive_key : PrimitiveWord → Key
 primitive_key word_of.Boolean = key_of.Boolean

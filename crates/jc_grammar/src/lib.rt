@@ -1,10 +1,12 @@
-//! The grammar of Java 7's types and expressions (JLS 18), as definitions over trees and tokens.
+//! The grammar of Java 7 (JLS 18), as definitions over trees and tokens: what tokens a tree tells, which trees the grammar has, and what
+//! begins one.
 #![tactic(auto)]
 
 ghost use Rattle.std.specs.Prelude.{◌≡◌};
 ghost use Rattle.jc_grammar.specs.Shapes.{binary_level};
 ghost use Rattle.jc_grammar.specs.Types.{primitive_key};
-ghost use Rattle.jc_grammar.specs.Spelling.{SpellsType, BeginsType, NoTypeBegins, SpellsExpr, BeginsExpr, NoExprBegins};
+ghost use Rattle.jc_grammar.specs.Laws.{TypesAreTold, ExpressionsAreTold};
+ghost use Rattle.jc_grammar.specs.Spelling.{SpellsType, BeginsType, NoTypeBegins, SpellsExpr, BeginsExpr, NoExprBegins, SpellsFile, BeginsFile, NoFileBegins};
 
 use jc_lexer::Key;
 use jc_tree::{BinaryOp, PrimitiveWord};
@@ -41,3 +43,13 @@ pub fn binary_level(op: BinaryOp) -> u32
         BinaryOp::Times | BinaryOp::Divide | BinaryOp::Remainder => 11,
     }
 }
+
+/// A law: the tokens of a type are those of its parts, in order.
+pub fn types_are_told()
+    ensures { TypesAreTold }
+{}
+
+/// A law: the tokens of an expression are those of its parts, with the signs and keywords between them.
+pub fn expressions_are_told()
+    ensures { ExpressionsAreTold }
+{}
