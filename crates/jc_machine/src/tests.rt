@@ -1,7 +1,7 @@
 use crate::{Machine, Ran, Stepped};
 use jc_class_out::{ClassModel, CodeModel, Ins, Loaded, MethodModel, Operand};
-use jc_outside::{Fail, MemPaper, SureKeys};
-use jc_rules::{Items, Text, WantOfMemory};
+use jc_outside::{Fail, MemPaper, SureKeys, SurePaper};
+use jc_rules::{Items, NoMain, Stop, Text, WantOfMemory};
 use std::alloc::Global;
 use std::test::Fail as TestFail;
 
@@ -94,67 +94,53 @@ fn hi(alloc: Global) -> Result<Items<ClassModel>, WantOfMemory> {
     class(alloc, "Main", code)
 }
 
-// How a run of at most so many steps ends, and what it puts on a paper with these faults.
-fn run(alloc: Global, steps: u64, fails: Items<Fail>) -> Result<(Ran, MemPaper), TestFail> {
-    let mut keys = SureKeys::new(Items::new(alloc));
-    let mut out = MemPaper::new(alloc, fails);
-    let mut machine = Machine::load(alloc, hi(alloc)?, &text(alloc, "Main")?, &[])?;
-    let ran = machine.run_for(steps, &mut keys, &mut out)?;
-    Ok((ran, out))
-}
-
 #[test]
 fn a_main_runs_to_its_end(rt: HostRuntime) -> Result<(), TestFail> {
     let alloc = rt.alloc();
-    let (ran, out) = run(alloc, 11, Items::new(alloc))?;
-    assert!(rt; ran == Ran::Ended);
-    assert!(rt; out.out() == b"Hi".as_slice());
-    Ok(())
-}
-
-#[test]
-fn a_run_stops_after_its_steps(rt: HostRuntime) -> Result<(), TestFail> {
-    let alloc = rt.alloc();
-    let (ran, out) = run(alloc, 10, Items::new(alloc))?;
-    assert!(rt; ran == Ran::StepsReached);
-    assert!(rt; out.out() == b"Hi".as_slice());
-    Ok(())
-}
-
-#[test]
-fn a_run_stops_where_the_paper_fails(rt: HostRuntime) -> Result<(), TestFail> {
-    let alloc = rt.alloc();
+    let mut keys = SureKeys::new(Items::new(alloc));
+    let mut out = SurePaper::new(alloc);
+    let mut machine = Machine::load(alloc, hi(alloc)?, &text(alloc, "Main")?, &[])?;
+    assert_eq!(rt;
+        machine.run_for(10, &mut keys, &mut out)?,
+        Ran::StepsReached
+    );
+    assert_eq!(rt; out.out(), b"Hi".as_slice());
+    assert_eq!(rt; machine.run_for(1, &mut keys, &mut out)?, Ran::Ended);
+    assert_eq!(rt; machine.step(&mut keys)?, Stepped::Ended);
+    assert_eq!(rt; machine.run_for(5, &mut keys, &mut out)?, Ran::Ended);
+    assert_eq!(rt; out.out(), b"Hi".as_slice());
     let mut fails = Items::new(alloc);
     fails.push(Fail { call: 1, first: 1 })?;
-    let (ran, out) = run(alloc, 100, fails)?;
-    assert!(rt; ran == Ran::OutFault);
-    assert!(rt; out.out() == b"H".as_slice());
+    let mut out = MemPaper::new(alloc, fails);
+    let mut machine = Machine::load(alloc, hi(alloc)?, &text(alloc, "Main")?, &[])?;
+    assert_eq!(rt; machine.run_for(100, &mut keys, &mut out)?, Ran::OutFault);
+    assert_eq!(rt; out.out(), b"H".as_slice());
     Ok(())
-}
-
-// A class whose name has units beyond one byte, and what this step of its main answers, if a main has this name.
-fn step_of(alloc: Global, name: &str, number: u32) -> Result<Option<Stepped>, TestFail> {
-    let mut code = Vec::new(alloc);
-    code.push(get_out(alloc)?)?;
-    code.push(member(alloc, 0xb7, ["java/lang/Object", "<init>", "()V"])?)?;
-    code.push(ins(0x19, Operand::Local(0)))?;
-    code.push(ins(0x60, Operand::Nothing))?;
-    let classes = class(alloc, "p/\u{c9}t\u{1d400}", code)?;
-    let Ok(mut machine) = Machine::load(alloc, classes, &text(alloc, name)?, &[]) else {
-        return Ok(None);
-    };
-    let mut keys = SureKeys::new(Items::new(alloc));
-    for _ in 1..number {
-        machine.step(&mut keys)?;
-    }
-    Ok(Some(machine.step(&mut keys)?))
 }
 
 #[test]
 fn a_main_is_found_by_its_binary_name(rt: HostRuntime) -> Result<(), TestFail> {
     let alloc = rt.alloc();
-    assert!(rt; step_of(alloc, "p.Et", 1)?.is_none());
-    assert!(rt; step_of(alloc, "p.\u{c9}t\u{1d400}", 3)? == Some(Stepped::Went));
-    assert!(rt; step_of(alloc, "p.\u{c9}t\u{1d400}", 5)? == Some(Stepped::Stuck));
+    let mut keys = SureKeys::new(Items::new(alloc));
+    for (name, found) in [("p.\u{c9}t\u{1d400}", true), ("p.Et", false), ("p", false)] {
+        let mut code = Vec::new(alloc);
+        code.push(get_out(alloc)?)?;
+        code.push(member(alloc, 0xb7, ["java/lang/Object", "<init>", "()V"])?)?;
+        code.push(ins(0x19, Operand::Local(0)))?;
+        code.push(ins(0x60, Operand::Nothing))?;
+        let classes = class(alloc, "p/\u{c9}t\u{1d400}", code)?;
+        match Machine::load(alloc, classes, &text(alloc, name)?, &[]) {
+            Ok(mut machine) => {
+                assert!(rt; found, "{name}");
+                assert_eq!(rt; machine.step(&mut keys)?, Stepped::Went);
+                assert_eq!(rt; machine.step(&mut keys)?, Stepped::Went);
+                assert_eq!(rt; machine.step(&mut keys)?, Stepped::Went);
+                assert_eq!(rt; machine.step(&mut keys)?, Stepped::Stuck);
+                assert_eq!(rt; machine.step(&mut keys)?, Stepped::Stuck);
+            }
+            Err(Stop::Refused(NoMain)) => assert!(rt; !found, "{name}"),
+            Err(Stop::WantOfMemory) => assert!(rt; false),
+        }
+    }
     Ok(())
 }
