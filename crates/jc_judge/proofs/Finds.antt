@@ -31,7 +31,7 @@ layer_class vars by (Ty-F.Captured v) k e = cc
 layer_class vars by (Ty-F.Meet ts) k e = cc
 layer_class vars by Ty-F.NullTy k e = cc
 
-put_class : (vars : List VarId) (by : List Ty) (t : Ty) (k : ClassId) → class_of t ≡ Some k → class_of (put vars by t) ≡ Some k
+pub put_class : (vars : List VarId) (by : List Ty) (t : Ty) (k : ClassId) → class_of t ≡ Some k → class_of (put vars by t) ≡ Some k
 unfolding class_of
 put_class vars by t k e = ap class_of (subst_out vars by t) ∙ layer_class vars by (out-Ty t) k e
 
@@ -47,7 +47,7 @@ erased_layer t (Ty-F.Captured v) k e f = e
 erased_layer t (Ty-F.Meet ts) k e f = e
 erased_layer t Ty-F.NullTy k e f = e
 
-erased_class : (t : Ty) (k : ClassId) → class_of t ≡ Some k → class_of (erased t) ≡ Some k
+pub erased_class : (t : Ty) (k : ClassId) → class_of t ≡ Some k → class_of (erased t) ≡ Some k
 unfolding class_of erased
 erased_class t k e = erased_layer t (out-Ty t) k e e
 

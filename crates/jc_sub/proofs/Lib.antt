@@ -1,3 +1,4 @@
 mod Decided
 mod Joined
+mod Reached
 mod Ups

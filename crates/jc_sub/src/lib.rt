@@ -9,6 +9,7 @@ mod containing;
 mod kinds;
 mod meeting;
 mod questions;
+mod reaching;
 #[cfg(test)]
 mod tests;
 mod views;

@@ -1,232 +1,9 @@
 use crate::{Answer, below, capture, contained};
-use jc_rules::{Boxed, Items, Place, Text, WantOfMemory};
-use jc_types::{
-    Access, Arg, ClassDecl, ClassId, Env, Kind, Modifiers, Names, Owner, Primitive, ScopeId, Table,
-    Ty, VarId, VariableDecl, WrittenTypes, same_type,
-};
+use jc_rules::{Items, WantOfMemory};
+use jc_sample::{library, typed};
+use jc_types::{Arg, CaptureId, ClassId, Env, Table, Ty, same_type};
 use std::alloc::Global;
 use std::test::Fail;
-
-const NOWHERE: Place = Place { file: 0, at: 0 };
-
-// The letters of the classes, in the order of their ids: Object, Number, Integer, String, Comparable, Iterable, Collection, List,
-// ArrayList, `B<T extends Number>`, a pair, `X<Z>`, `Y<T> extends X<X<? super Y<Y<T>>>>`, `F<E extends F<E>>`, M below F<M>, an
-// interface D, R below the raw ArrayList, and Q below ArrayList<String>.
-const LETTERS: &[u8] = b"ONISKECLABPXYFMDRQ";
-
-// The supertypes of a class, in the notation of `push_all`.
-fn supers_of(letter: u8) -> &'static [u8] {
-    match letter {
-        b'O' => b"",
-        b'I' => b"NIK",
-        b'S' => b"OSKD",
-        b'C' => b"OcE",
-        b'L' => b"OdC",
-        b'A' => b"OeL",
-        b'Y' => b"jYY-XX",
-        b'M' => b"MF",
-        b'R' => b"!A",
-        b'Q' => b"SA",
-        _ => b"O",
-    }
-}
-
-// The number of a class's parameters, and the number of the first of their variables.
-fn params_of(letter: u8) -> (u64, u64) {
-    match letter {
-        b'K' => (1, 0),
-        b'E' => (1, 1),
-        b'C' => (1, 2),
-        b'L' => (1, 3),
-        b'A' => (1, 4),
-        b'B' => (1, 5),
-        b'P' => (2, 6),
-        b'X' => (1, 8),
-        b'Y' => (1, 9),
-        b'F' => (1, 10),
-        _ => (0, 0),
-    }
-}
-
-// The bound of each variable: those of the classes, from a to k, and then `t`, `u extends Number`, `v extends t` and
-// `w extends Comparable<w>`.
-const BOUNDS: [&[u8]; 15] = [
-    b"O", b"O", b"O", b"O", b"O", b"N", b"O", b"O", b"O", b"O", b"kF", b"O", b"N", b"t", b"wK",
-];
-
-fn popped(stack: &mut Items<Arg>) -> Ty {
-    match stack.pop() {
-        Some(Arg::Exact(t)) => t,
-        _ => Ty::NullTy,
-    }
-}
-
-fn argument(stack: &mut Items<Arg>) -> Arg {
-    match stack.pop() {
-        Some(arg) => arg,
-        None => Arg::Any,
-    }
-}
-
-// Types with their arguments before them: `?` is a wildcard, `+` and `-` make one of the type before, `[` an array, `!` stands
-// before a raw class. Digits are primitive types, and 0 is the null type.
-fn push_all(alloc: Global, text: &[u8], stack: &mut Items<Arg>) -> Result<(), WantOfMemory> {
-    let mut raw = false;
-    for letter in text {
-        if *letter == b'!' {
-            raw = true;
-        } else {
-            push_letter(alloc, *letter, raw, stack)?;
-            raw = false;
-        }
-    }
-    Ok(())
-}
-
-fn push_letter(
-    alloc: Global,
-    letter: u8,
-    raw: bool,
-    stack: &mut Items<Arg>,
-) -> Result<(), WantOfMemory> {
-    match letter {
-        b'?' => stack.push(Arg::Any),
-        b'+' => {
-            let upper = popped(stack);
-            stack.push(Arg::Extends(upper))
-        }
-        b'-' => {
-            let lower = popped(stack);
-            stack.push(Arg::Super(lower))
-        }
-        b'[' => {
-            let of = popped(stack);
-            stack.push(Arg::Exact(Ty::Array {
-                of: Boxed::new(alloc, of)?,
-            }))
-        }
-        b'0'..=b'6' => stack.push(Arg::Exact(simple(letter))),
-        b'a'..=b'k' => stack.push(Arg::Exact(Ty::Variable(VarId((letter - b'a') as u64)))),
-        b't'..=b'w' => stack.push(Arg::Exact(Ty::Variable(VarId((letter - b't') as u64 + 11)))),
-        _ => push_class(alloc, letter, raw, stack),
-    }
-}
-
-fn simple(letter: u8) -> Ty {
-    match letter {
-        b'1' => Ty::Prim(Primitive::Boolean),
-        b'2' => Ty::Prim(Primitive::Byte),
-        b'3' => Ty::Prim(Primitive::Short),
-        b'4' => Ty::Prim(Primitive::Char),
-        b'5' => Ty::Prim(Primitive::Int),
-        b'6' => Ty::Prim(Primitive::Long),
-        _ => Ty::NullTy,
-    }
-}
-
-fn push_class(
-    alloc: Global,
-    letter: u8,
-    raw: bool,
-    stack: &mut Items<Arg>,
-) -> Result<(), WantOfMemory> {
-    let at = LETTERS.iter().position(|x| *x == letter).unwrap_or(0);
-    let id = ClassId(at as u64);
-    if raw {
-        return stack.push(Arg::Exact(Ty::Raw { id }));
-    }
-    let mut args = Items::new(alloc);
-    match params_of(letter).0 {
-        0 => {}
-        1 => args.push(argument(stack))?,
-        _ => {
-            let second = argument(stack);
-            args.push(argument(stack))?;
-            args.push(second)?;
-        }
-    }
-    stack.push(Arg::Exact(Ty::Class { id, args }))
-}
-
-fn typed(alloc: Global, text: &[u8]) -> Result<Ty, WantOfMemory> {
-    let mut stack = Items::new(alloc);
-    push_all(alloc, text, &mut stack)?;
-    Ok(popped(&mut stack))
-}
-
-fn one_type(alloc: Global, text: &[u8]) -> Result<WrittenTypes, WantOfMemory> {
-    let mut stack = Items::new(alloc);
-    push_all(alloc, text, &mut stack)?;
-    let mut types = Items::new(alloc);
-    for arg in stack.into_vec() {
-        if let Arg::Exact(t) = arg {
-            types.push(t)?;
-        }
-    }
-    Ok(WrittenTypes {
-        types,
-        places: Items::new(alloc),
-    })
-}
-
-fn class(alloc: Global, letter: u8) -> Result<ClassDecl, WantOfMemory> {
-    let mut vars = Items::new(alloc);
-    let (count, first) = params_of(letter);
-    for i in 0..count {
-        vars.push(VarId(first.wrapping_add(i)))?;
-    }
-    let kind = match letter {
-        b'K' | b'E' | b'C' | b'L' | b'D' => Kind::Interface,
-        _ => Kind::Class,
-    };
-    Ok(ClassDecl {
-        place: NOWHERE,
-        name: Text::of(String::new(alloc)),
-        binary: Text::of(String::new(alloc)),
-        outer: None,
-        scope: ScopeId(0),
-        modifiers: Modifiers {
-            access: Access::Public,
-            is_abstract: false,
-            is_static: false,
-            is_final: false,
-            is_native: false,
-            is_transient: false,
-            is_volatile: false,
-            says_override: false,
-        },
-        kind,
-        vars,
-        supers: one_type(alloc, supers_of(letter))?,
-        methods: Items::new(alloc),
-        fields: Items::new(alloc),
-    })
-}
-
-fn library(alloc: Global) -> Result<Table, WantOfMemory> {
-    let mut classes = Items::new(alloc);
-    for letter in LETTERS {
-        classes.push(class(alloc, *letter)?)?;
-    }
-    let mut variables = Items::new(alloc);
-    for bound in BOUNDS {
-        variables.push(VariableDecl {
-            place: NOWHERE,
-            name: Text::of(String::new(alloc)),
-            owner: Owner::Class(ClassId(0)),
-            bounds: one_type(alloc, bound)?,
-        })?;
-    }
-    Ok(Table {
-        classes,
-        methods: Items::new(alloc),
-        fields: Items::new(alloc),
-        variables,
-        scopes: Items::new(alloc),
-        uses: Items::new(alloc),
-        index: Names::new(alloc),
-    })
-}
 
 // The number of the first row whose answer is another one, from 1, and 0 where there is none. In a row the types stand on both
 // sides of `<` for Yes, `#` for No and `~` for Deep.
@@ -303,16 +80,20 @@ fn expansive_types_are_deep(rt: HostRuntime) -> Result<(), Fail> {
 }
 
 // List<? extends .. > n times round a class.
-fn nested(alloc: Global, n: u32, letter: u8) -> Result<Ty, WantOfMemory> {
-    let mut stack = Items::new(alloc);
-    push_letter(alloc, letter, false, &mut stack)?;
+fn nested(alloc: Global, n: u32, letter: &[u8]) -> Result<Ty, WantOfMemory> {
+    let mut ty = typed(alloc, letter)?;
     for _ in 0..n {
-        push_all(alloc, b"+L", &mut stack)?;
+        let mut args = Items::new(alloc);
+        args.push(Arg::Extends(ty))?;
+        ty = Ty::Class {
+            id: ClassId(7),
+            args,
+        };
     }
-    Ok(popped(&mut stack))
+    Ok(ty)
 }
 
-fn nested_answer(alloc: Global, n: u32, from: u8, to: u8) -> Result<Answer, WantOfMemory> {
+fn nested_answer(alloc: Global, n: u32, from: &[u8], to: &[u8]) -> Result<Answer, WantOfMemory> {
     let table = library(alloc)?;
     let env = Env {
         bounds: Items::new(alloc),
@@ -329,9 +110,9 @@ fn nested_answer(alloc: Global, n: u32, from: u8, to: u8) -> Result<Answer, Want
 #[test]
 fn a_proof_of_height_65_is_not_found(rt: HostRuntime) -> Result<(), Fail> {
     let alloc = rt.alloc();
-    assert!(rt; nested_answer(alloc, 31, b'I', b'N')? == Answer::Yes);
-    assert!(rt; nested_answer(alloc, 32, b'I', b'N')? == Answer::Deep);
-    assert!(rt; nested_answer(alloc, 31, b'N', b'I')? == Answer::No);
+    assert!(rt; nested_answer(alloc, 31, b"I", b"N")? == Answer::Yes);
+    assert!(rt; nested_answer(alloc, 32, b"I", b"N")? == Answer::Deep);
+    assert!(rt; nested_answer(alloc, 31, b"N", b"I")? == Answer::No);
     Ok(())
 }
 
@@ -344,7 +125,7 @@ fn capture_of_a_list(rt: HostRuntime) -> Result<(), Fail> {
     };
     let captured = capture(alloc, &table, &mut env, &typed(alloc, b"N+L")?)?;
     let mut args = Items::new(alloc);
-    args.push(Arg::Exact(Ty::Captured(jc_types::CaptureId(0))))?;
+    args.push(Arg::Exact(Ty::Captured(CaptureId(0))))?;
     let wanted = Ty::Class {
         id: ClassId(7),
         args,

@@ -4,6 +4,7 @@ ghost use Rattle.jc_judge.specs.Kinds.{class_of};
 ghost use Rattle.jc_judge.specs.Views.{view, view_within, first_of, is_class, supers, erased, exacts, class_supers};
 
 use crate::kinds::class_of;
+use crate::reaching::may_view;
 use jc_rules::{Items, WantOfMemory};
 use jc_types::{
     Arg, ClassId, Table, Ty, arguments, class_supers, class_vars, copy_type, copy_types,
@@ -54,12 +55,32 @@ fn first_view(
 {
     let mut rest = types;
     while let [t, more @ ..] = rest {
-        if let Some(v) = view_within(alloc, table, steps, k, t)? {
+        if let Some(v) = one_view(alloc, table, steps, k, t, more)? {
             return Ok(Some(v));
         }
         rest = more;
     }
     Ok(None)
+}
+
+// The view of one of several supertypes. Where others follow, it is entered only if it may have one.
+#[cycle(view)]
+fn one_view(
+    alloc: Global,
+    table: &Table,
+    steps: usize,
+    k: ClassId,
+    t: &Ty,
+    others: &[Ty],
+) -> Result<Option<Ty>, WantOfMemory>
+    ensures { IfOk result (λ r. r ≡ view_within table.now steps k t.now) }
+{
+    if !others.is_empty() {
+        if !may_view(alloc, table, k, t)? {
+            return Ok(None);
+        }
+    }
+    view_within(alloc, table, steps, k, t)
 }
 
 fn is_of_class(t: &Ty, k: ClassId) -> bool

@@ -4,6 +4,8 @@
 
 mod checking;
 mod inside;
+#[cfg(test)]
+mod tests;
 
 pub use checking::check_type;
 pub use jc_judge::TypeFault;
