@@ -19,12 +19,10 @@ pub use expression::{
 pub use heights::{array_height, class_height, expr_height, height, type_height};
 pub use name::Ident;
 pub use offsets::{
-    first_offset_of_arg, first_offset_of_array, first_offset_of_base, first_offset_of_class,
-    first_offset_of_clause, first_offset_of_creation, first_offset_of_declaration,
-    first_offset_of_expr, first_offset_of_file, first_offset_of_formal, first_offset_of_head,
-    first_offset_of_init, first_offset_of_locals, first_offset_of_member, first_offset_of_method,
-    first_offset_of_modifier, first_offset_of_result, first_offset_of_stmt, first_offset_of_top,
-    first_offset_of_type, first_offset_of_value,
+    first_offset_of_arg, first_offset_of_class, first_offset_of_clause, first_offset_of_creation,
+    first_offset_of_declaration, first_offset_of_expr, first_offset_of_file,
+    first_offset_of_formal, first_offset_of_init, first_offset_of_locals, first_offset_of_member,
+    first_offset_of_method, first_offset_of_stmt, first_offset_of_type, first_offset_of_value,
 };
 pub use statement::{
     Annotation, AnnotationValue, Clause, ClauseHead, Declaration, DeclarationHead, ForHead,
