@@ -1,3 +1,4 @@
+pub mod Before
 pub mod Expressions
 pub mod Firsts
 pub mod Laws
