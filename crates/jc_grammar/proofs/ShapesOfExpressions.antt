@@ -102,7 +102,7 @@ expr_shape-Call of_it type_args name actuals = expr_shape-at (anExpr.Call of_it 
 pub expr_shape-Index : (of_it : Expr) (index : Expr) → expr_shape (anExpr.Index of_it index) ≡ plainly prime_level (stands prime_level (expr_shape of_it) && not (expr_shape of_it).sized && stands any_level (expr_shape index)) false
 expr_shape-Index of_it index = expr_shape-at (anExpr.Index of_it index) _ (anExpr.outs-Index of_it index)
 
-pub expr_shape-InnerNew : (of_it : Expr) (creation : Creation) → expr_shape (anExpr.InnerNew of_it creation) ≡ plainly prime_level (stands prime_level (expr_shape of_it) && (creation_shape creation).good) (creation_shape creation).object
+pub expr_shape-InnerNew : (of_it : Expr) (creation : Creation) → expr_shape (anExpr.InnerNew of_it creation) ≡ record { level = prime_level; good = stands prime_level (expr_shape of_it) && (creation_shape creation).good; prefix = false; sized = (creation_shape creation).sized; effect = (creation_shape creation).object }
 expr_shape-InnerNew of_it creation = expr_shape-at (anExpr.InnerNew of_it creation) _ (anExpr.outs-InnerNew of_it creation)
 
 pub expr_shape-Literal : (at : ℕ) (value : Literal) → expr_shape (anExpr.Literal at value) ≡ plainly prime_level true false

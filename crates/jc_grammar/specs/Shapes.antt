@@ -195,7 +195,8 @@ expr_shape_step (Expr-F.Postfix of_it op) = plainly post_level (stands post_leve
 expr_shape_step (Expr-F.Field of_it name) = plainly prime_level (stands prime_level of_it) false
 expr_shape_step (Expr-F.Call of_it type_args name actuals) = plainly prime_level (stands prime_level of_it && all_stand any_level actuals) true
 expr_shape_step (Expr-F.Index of_it index) = plainly prime_level (stands prime_level of_it && not of_it.sized && stands any_level index) false
-expr_shape_step (Expr-F.InnerNew of_it creation) = plainly prime_level (stands prime_level of_it && creation.good) creation.object
+expr_shape_step (Expr-F.InnerNew of_it creation) =
+    record { level = prime_level; good = stands prime_level of_it && creation.good; prefix = false; sized = creation.sized; effect = creation.object }
 expr_shape_step (Expr-F.Literal at value) = plainly prime_level true false
 expr_shape_step (Expr-F.This at) = plainly prime_level true false
 expr_shape_step (Expr-F.SuperField at name) = plainly prime_level true false

@@ -78,6 +78,10 @@ lists = named 76 0 (anArg.Exact (named 76 2 (anArg.Exact (named 83 4 []) ∷ [])
 abbrev pub indexed_creation : Expr
 indexed_creation = an.Index (an.New 0 (aCreation.Sized (aBase.Primitive 4 word_of.Int) (name 110 8) [] 0)) (name 48 11)
 
+-- `a.new int[n][0]`, were the last brackets a selector
+abbrev pub indexed_inner : Expr
+indexed_inner = an.Index (an.InnerNew (name 97 0) (aCreation.Sized (aBase.Primitive 6 word_of.Int) (name 110 10) [] 0)) (name 48 13)
+
 abbrev pub arm : ℕ → ℕ → List Stmt → Clause
 arm at code items = roll-Clause (record { at = at; head = clause_of.If (name code (at + 4)); items = items })
 
@@ -137,6 +141,7 @@ pub record WorkedTrees : Type 0 where
   pub lists_height : type_height lists ≡ 3
   -- after a creation with lengths a bracket is no selector
   pub creation_takes_no_selector : is_expr indexed_creation ≡ false
+  pub inner_creation_takes_no_selector : is_expr indexed_inner ≡ false
   -- a chain of `else if` is one node, and an `else` belongs to the nearest `if`
   pub branches_tokens : stmt_tokens branches [] ≡ key_at key_of.If 0 ∷ sign sign_of.LeftParen ∷ ident (letter 97 4) ∷ sign sign_of.RightParen ∷ sign_at sign_of.Semicolon 7 ∷ key key_of.Else ∷ key_at key_of.If 14 ∷ sign sign_of.LeftParen ∷ ident (letter 98 18) ∷ sign sign_of.RightParen ∷ sign_at sign_of.Semicolon 21 ∷ key key_of.Else ∷ sign_at sign_of.Semicolon 28 ∷ []
   pub branches_good : (stmt_shape branches).good ≡ true
