@@ -1,0 +1,4 @@
+pub mod Codes
+pub mod Forms
+pub mod Pairs
+pub mod Steps
