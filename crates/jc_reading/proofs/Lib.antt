@@ -1,4 +1,6 @@
+pub mod Choices
 pub mod Codes
 pub mod Forms
+pub mod Options
 pub mod Pairs
 pub mod Steps
