@@ -34,9 +34,9 @@ module _ (A B : Type 0) (fa : Form A) (make : A → B) (tell : B → List Told �
       let w = h.back b s.1 in
       (w.0, w.1, (subst (λ (l : List Told). Takes false l ts r) (ap (λ c. tell c []) (sym w.1) ∙ h.told w.0 []) s.0, w.2))
 
-  appends_made : (b : B) (r : List Told) → (a : A) → make a ≡ b → tell b r ≡ tell b [] ++ r
-  appends_made b r a e =
-      ap (λ c. tell c r) (sym e) ∙ h.told a r ∙ la.appends a r ∙ ap (λ (l : List Told). l ++ r) (sym (h.told a []) ∙ ap (λ c. tell c []) e)
+  appends_made : (b : B) (r : List Told) (a : A) → fa.fits a ≡ true → make a ≡ b → tell b r ≡ tell b [] ++ r
+  appends_made b r a g e =
+      ap (λ c. tell c r) (sym e) ∙ h.told a r ∙ la.appends a r g ∙ ap (λ (l : List Told). l ++ r) (sym (h.told a []) ∙ ap (λ c. tell c []) e)
 
   longest_made : (ts : List Token) (b : B) (r : List Token) → Stands Made ts b r → Goes (length r) (Made.run ts)
   longest_made ts b r s = let w = stands_back ts b r s in goes_becoming (length r) make (fa.run ts) (la.longest ts w.0 r w.2)
@@ -56,11 +56,10 @@ module _ (A B : Type 0) (fa : Form A) (make : A → B) (tell : B → List Told �
   begins_made : (ts : List Token) → Begins B Made ts (reach (Made.run ts))
   begins_made ts = subst (λ k. Begins B Made ts k) (sym (reach_becoming make (fa.run ts))) (begins_as A B fa Made make ts (reach (fa.run ts)) (λ us a z s. stands_made us a z s) (la.begins ts))
 
-  -- where each of the values is made of one, or fits
-  pub alike_laws : ((b : B) → (a : A) × (make a ≡ b)) → Lawful B Made
-  alike_laws each_made = record {
-    appends = λ b r. let w = each_made b in appends_made b r w.0 w.1;
-    plain = λ b. let w = each_made b in subst (λ (l : List Told). Plain l) (sym (h.told w.0 []) ∙ ap (λ c. tell c []) w.1) (la.plain w.0);
+  pub alike_laws : Lawful B Made
+  alike_laws = record {
+    appends = λ b r g. let w = h.back b g in appends_made b r w.0 w.2 w.1;
+    plain = λ b g. let w = h.back b g in subst (λ (l : List Told). Plain l) (sym (h.told w.0 []) ∙ ap (λ c. tell c []) w.1) (la.plain w.0 w.2);
     within = λ ts. within_becoming (length ts) make (fa.run ts) (la.within ts);
     sound = λ ts. good_becoming (Stands fa ts) (Stands Made ts) make (fa.run ts) (la.sound ts) (λ a r s. stands_made ts a r s);
     longest = longest_made; exact = exact_made; opens = opens_made;

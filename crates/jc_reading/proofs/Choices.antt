@@ -50,13 +50,13 @@ module _ (A B : Type 0) (codes : List ℕ) (fa : Form A) (fb : Form B) (la : Law
   that_there : (ts : List Token) (b : B) (r : List Token) → Stands fb ts b r → one_of codes ts ≡ false
   that_there ts b r s = ⊎_elim (λ o. d.that ts o.0) (λ o. absurd (false≢true (sym d.solid' ∙ o.1))) (lb.opens ts b r s)
 
-  appends_choice : (o : Either A B) (r : List Told) → Choice.tell o r ≡ Choice.tell o [] ++ r
-  appends_choice (This a) r = la.appends a r
-  appends_choice (That b) r = lb.appends b r
+  appends_choice : (o : Either A B) (r : List Told) → Choice.fits o ≡ true → Choice.tell o r ≡ Choice.tell o [] ++ r
+  appends_choice (This a) r g = la.appends a r g
+  appends_choice (That b) r g = lb.appends b r g
 
-  plain_choice : (o : Either A B) → Plain (Choice.tell o [])
-  plain_choice (This a) = la.plain a
-  plain_choice (That b) = lb.plain b
+  plain_choice : (o : Either A B) → Choice.fits o ≡ true → Plain (Choice.tell o [])
+  plain_choice (This a) g = la.plain a g
+  plain_choice (That b) g = lb.plain b g
 
   longest_choice : (ts : List Token) (o : Either A B) (r : List Token) → Stands Choice ts o r → Goes (length r) (Choice.run ts)
   longest_choice ts (This a) r s =

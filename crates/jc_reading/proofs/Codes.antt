@@ -228,7 +228,7 @@ or_this : {A : Type 0} → A → Option A → A
 or_this a (Some x) = x
 or_this a None = a
 
-some_is : {A : Type 0} (a b : A) → Some a ≡ Some b → a ≡ b
+pub some_is : {A : Type 0} (a b : A) → Some a ≡ Some b → a ≡ b
 unfolding or_this
 some_is a b e = ap (or_this a) e
 
@@ -236,7 +236,7 @@ IsNone : {A : Type 0} → Option A → Type 0
 IsNone None = Unit {0}
 IsNone (Some a) = ⊥
 
-none_is : {A : Type 0} (a : A) → None ≡ Some a → ⊥
+pub none_is : {A : Type 0} (a : A) → None ≡ Some a → ⊥
 unfolding IsNone
 none_is a e = subst (λ o. IsNone o) e tt
 

@@ -42,8 +42,8 @@ abbrev pub Opens : {A : Type 0} → Form A → List Token → List Token → Typ
 Opens form ts r = ((form.starts ts ≡ true) × (length r < length ts)) ⊎ ((ts ≡ r) × (form.empties ≡ true))
 
 pub record Lawful (A : Type 0) (form : Form A) : Type 0 where
-  pub appends : (a : A) (r : List Told) → form.tell a r ≡ form.tell a [] ++ r
-  pub plain : (a : A) → Plain (form.tell a [])
+  pub appends : (a : A) (r : List Told) → form.fits a ≡ true → form.tell a r ≡ form.tell a [] ++ r
+  pub plain : (a : A) → form.fits a ≡ true → Plain (form.tell a [])
   pub within : (ts : List Token) → Within (length ts) (form.run ts)
   pub sound : (ts : List Token) → Good (Stands form ts) (form.run ts)
   pub longest : (ts : List Token) (a : A) (r : List Token) → Stands form ts a r → Goes (length r) (form.run ts)

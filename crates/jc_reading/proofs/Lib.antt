@@ -2,7 +2,9 @@ pub mod Alikes
 pub mod Choices
 pub mod Codes
 pub mod Forms
+pub mod Kindly
 pub mod Lists
 pub mod Options
 pub mod Pairs
+pub mod Signs
 pub mod Steps

@@ -37,30 +37,33 @@ module _ (A : Type 0) (fa : Form A) (la : Lawful A fa) (h : Follows A fa) where
   abbrev Many : Form (List A)
   Many = many A fa
 
-  appends_many : (list : List A) (r : List Told) → Many.tell list r ≡ Many.tell list [] ++ r
-  appends_many [] r = refl
-  appends_many (a ∷ list) r =
-      ap (fa.tell a) (appends_many list r) ∙ la.appends a (Many.tell list [] ++ r) ∙ sym (append_assoc (fa.tell a []) (Many.tell list []) r)
-      ∙ ap (λ (l : List Told). l ++ r) (sym (la.appends a (Many.tell list [])))
+  appends_many : (list : List A) (r : List Told) → Many.fits list ≡ true → Many.tell list r ≡ Many.tell list [] ++ r
+  appends_many [] r g = refl
+  appends_many (a ∷ list) r g =
+      let f = and_parts (fa.fits a) (Many.fits list) g in
+      ap (fa.tell a) (appends_many list r f.1) ∙ la.appends a (Many.tell list [] ++ r) f.0 ∙ sym (append_assoc (fa.tell a []) (Many.tell list []) r)
+      ∙ ap (λ (l : List Told). l ++ r) (sym (la.appends a (Many.tell list []) f.0))
 
   plain_both : (x y : List Told) → Plain x → Plain y → Plain (x ++ y)
   plain_both [] y p q = q
   plain_both (d ∷ x) y p q = p
 
-  plain_many : (list : List A) → Plain (Many.tell list [])
-  plain_many [] = tt
-  plain_many (a ∷ list) = subst (λ (l : List Told). Plain l) (sym (la.appends a (Many.tell list []))) (plain_both (fa.tell a []) (Many.tell list []) (la.plain a) (plain_many list))
+  plain_many : (list : List A) → Many.fits list ≡ true → Plain (Many.tell list [])
+  plain_many [] g = tt
+  plain_many (a ∷ list) g =
+      let f = and_parts (fa.fits a) (Many.fits list) g in
+      subst (λ (l : List Told). Plain l) (sym (la.appends a (Many.tell list []) f.0)) (plain_both (fa.tell a []) (Many.tell list []) (la.plain a f.0) (plain_many list f.1))
 
   cut : (ts : List Token) (a : A) (list : List A) (r : List Token) → Stands Many ts (a ∷ list) r → (m : List Token) × Stands fa ts a m × Stands Many m list r
   cut ts a list r s =
-      let e = subst (λ (l : List Told). Takes false l ts r) (la.appends a (Many.tell list [])) s.0 in
-      let w = takes_cut false (fa.tell a []) (Many.tell list []) ts r e in
       let f = and_parts (fa.fits a) (Many.fits list) s.1 in
+      let e = subst (λ (l : List Told). Takes false l ts r) (la.appends a (Many.tell list []) f.0) s.0 in
+      let w = takes_cut false (fa.tell a []) (Many.tell list []) ts r e in
       (w.0, (w.1, f.0), (w.2, f.1))
 
   join : (ts m r : List Token) (a : A) (list : List A) → Stands fa ts a m → Stands Many m list r → Stands Many ts (a ∷ list) r
   join ts m r a list s t =
-      (subst (λ (l : List Told). Takes false l ts r) (sym (la.appends a (Many.tell list []))) (takes_join false (fa.tell a []) (Many.tell list []) ts m r (plain_many list) s.0 t.0), and_from (fa.fits a) (Many.fits list) s.1 t.1)
+      (subst (λ (l : List Told). Takes false l ts r) (sym (la.appends a (Many.tell list []) s.1)) (takes_join false (fa.tell a []) (Many.tell list []) ts m r (plain_many list t.1) s.0 t.0), and_from (fa.fits a) (Many.fits list) s.1 t.1)
 
   -- one takes a token at least
   shorter : (ts : List Token) (a : A) (m : List Token) → Stands fa ts a m → length m < length ts

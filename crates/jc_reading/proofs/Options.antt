@@ -31,13 +31,13 @@ module _ (A : Type 0) (fa : Form A) (la : Lawful A fa) (solid : fa.empties ≡ f
   abbrev Maybe : Form (Option A)
   Maybe = option A fa
 
-  appends_option : (o : Option A) (r : List Told) → Maybe.tell o r ≡ Maybe.tell o [] ++ r
-  appends_option None r = refl
-  appends_option (Some a) r = la.appends a r
+  appends_option : (o : Option A) (r : List Told) → Maybe.fits o ≡ true → Maybe.tell o r ≡ Maybe.tell o [] ++ r
+  appends_option None r g = refl
+  appends_option (Some a) r g = la.appends a r g
 
-  plain_option : (o : Option A) → Plain (Maybe.tell o [])
-  plain_option None = tt
-  plain_option (Some a) = la.plain a
+  plain_option : (o : Option A) → Maybe.fits o ≡ true → Plain (Maybe.tell o [])
+  plain_option None g = tt
+  plain_option (Some a) g = la.plain a g
 
   within_from : (ts : List Token) (m : Read A) → Within (length ts) m → Within (length ts) (perhaps_from ts m)
   within_from ts (Found a r l) w = w

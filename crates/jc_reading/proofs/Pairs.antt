@@ -33,26 +33,29 @@ module _ (A B : Type 0) (fa : Form A) (fb : Form B) (la : Lawful A fa) (lb : Law
 
   pub cut : (ts : List Token) (p : A × B) (r : List Token) → Stands Both ts p r → (m : List Token) × Stands fa ts p.0 m × Stands fb m p.1 r
   cut ts p r s =
-      let e = subst (λ (l : List Told). Takes false l ts r) (la.appends p.0 (fb.tell p.1 [])) s.0 in
-      let w = takes_cut false (fa.tell p.0 []) (fb.tell p.1 []) ts r e in
       let f = and_parts (fa.fits p.0) (fb.fits p.1) s.1 in
+      let e = subst (λ (l : List Told). Takes false l ts r) (la.appends p.0 (fb.tell p.1 []) f.0) s.0 in
+      let w = takes_cut false (fa.tell p.0 []) (fb.tell p.1 []) ts r e in
       (w.0, (w.1, f.0), (w.2, f.1))
 
   pub join : (ts m r : List Token) (a : A) (b : B) → Stands fa ts a m → Stands fb m b r → Stands Both ts (a, b) r
   join ts m r a b s t =
-      (subst (λ (l : List Told). Takes false l ts r) (sym (la.appends a (fb.tell b []))) (takes_join false (fa.tell a []) (fb.tell b []) ts m r (lb.plain b) s.0 t.0), and_from (fa.fits a) (fb.fits b) s.1 t.1)
+      (subst (λ (l : List Told). Takes false l ts r) (sym (la.appends a (fb.tell b []) s.1)) (takes_join false (fa.tell a []) (fb.tell b []) ts m r (lb.plain b t.1) s.0 t.0), and_from (fa.fits a) (fb.fits b) s.1 t.1)
 
-  appends_pair : (p : A × B) (r : List Told) → Both.tell p r ≡ Both.tell p [] ++ r
-  appends_pair p r =
-      ap (fa.tell p.0) (lb.appends p.1 r) ∙ la.appends p.0 (fb.tell p.1 [] ++ r) ∙ sym (append_assoc (fa.tell p.0 []) (fb.tell p.1 []) r)
-      ∙ ap (λ (l : List Told). l ++ r) (sym (la.appends p.0 (fb.tell p.1 [])))
+  appends_pair : (p : A × B) (r : List Told) → Both.fits p ≡ true → Both.tell p r ≡ Both.tell p [] ++ r
+  appends_pair p r g =
+      let f = and_parts (fa.fits p.0) (fb.fits p.1) g in
+      ap (fa.tell p.0) (lb.appends p.1 r f.1) ∙ la.appends p.0 (fb.tell p.1 [] ++ r) f.0 ∙ sym (append_assoc (fa.tell p.0 []) (fb.tell p.1 []) r)
+      ∙ ap (λ (l : List Told). l ++ r) (sym (la.appends p.0 (fb.tell p.1 []) f.0))
 
   plain_both : (x y : List Told) → Plain x → Plain y → Plain (x ++ y)
   plain_both [] y p q = q
   plain_both (d ∷ x) y p q = p
 
-  plain_pair : (p : A × B) → Plain (Both.tell p [])
-  plain_pair p = subst (λ (l : List Told). Plain l) (sym (la.appends p.0 (fb.tell p.1 []))) (plain_both (fa.tell p.0 []) (fb.tell p.1 []) (la.plain p.0) (lb.plain p.1))
+  plain_pair : (p : A × B) → Both.fits p ≡ true → Plain (Both.tell p [])
+  plain_pair p g =
+      let f = and_parts (fa.fits p.0) (fb.fits p.1) g in
+      subst (λ (l : List Told). Plain l) (sym (la.appends p.0 (fb.tell p.1 []) f.0)) (plain_both (fa.tell p.0 []) (fb.tell p.1 []) (la.plain p.0 f.0) (lb.plain p.1 f.1))
 
   within_pair : (ts : List Token) → Within (length ts) (Both.run ts)
   within_pair ts = within_bind (length ts) (fa.run ts) _ (la.within ts) (λ a q. within_becoming (length q) (joined a) (fb.run q) (lb.within q))

@@ -5,6 +5,7 @@ use Rattle.jc_lexer.specs.declared.token.Sign.TheVariants as sign_of
 use Rattle.jc_lexer.specs.declared.token.Token.{Token}
 use Rattle.jc_lexer.specs.declared.token.TokenKind.{TokenKind}
 use Rattle.jc_lexer.specs.declared.token.TokenKind.TheVariants as kind_of
+use Rattle.jc_tree.specs.declared.name.Ident.{Ident}
 use Rattle.jc_reading.specs.Kinds.{kind_code}
 use Rattle.jc_grammar.specs.Told.{Told}
 use Rattle.jc_grammar.specs.Spelling.{StandsAt, is_greater}
@@ -108,3 +109,14 @@ at_kind code = picking (picks_at code)
 abbrev pub behind : ℕ → List Token → Option (List Token)
 behind code [] = None
 behind code (t ∷ ts) = cond (kind_code t.kind == code) (Some ts) None
+
+-- the identifier of a word
+abbrev pub ident_of_kind : TokenKind → ℕ → Option Ident
+ident_of_kind (kind_of.Word text) at = Some (record { at = at; text = text })
+ident_of_kind _ at = None
+
+abbrev pub picks_ident : Token → Option Ident
+picks_ident t = ident_of_kind t.kind t.from
+
+abbrev pub an_ident_at : Run Ident
+an_ident_at = picking picks_ident
