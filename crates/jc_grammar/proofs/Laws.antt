@@ -1,57 +1,87 @@
--- What a tree tells of its tokens by its parts.
-use Rattle.std.proofs.Common.{ap, ◌∙◌}
-use Rattle.std.specs.Prelude.{◌≡◌}
-use Rattle.jc_tree.specs.declared.types.BaseTree.{BaseTree}
-use Rattle.jc_tree.specs.declared.types.TypeArg.{TypeArg}
-use Rattle.jc_tree.specs.declared.types.ClassTree.{ClassTree, out-ClassTree, map-ClassTree, fold_out-ClassTree}
-use Rattle.jc_tree.specs.declared.types.TypePart.{TypePart, out-TypePart, map-TypePart, fold_out-TypePart}
-use Rattle.jc_tree.specs.declared.types.TypeTree.{TypeTree, out-TypeTree, map-TypeTree, fold_out-TypeTree}
-use Rattle.jc_tree.specs.declared.expression.Operand.{Operand}
-use Rattle.jc_tree.specs.declared.expression.Creation.{Creation}
-use Rattle.jc_tree.specs.declared.expression.Init.{Init}
-use Rattle.jc_tree.specs.declared.expression.ArrayInit.{ArrayInit}
-use Rattle.jc_tree.specs.declared.expression.Expr.{Expr, Expr-F, out-Expr, map-Expr, fold_out-Expr}
-use Rattle.jc_tree.specs.declared.expression.Expr.TheVariants as an
-use Rattle.jc_grammar.specs.Told.{Spelled}
-use Rattle.jc_grammar.specs.Types.{type_tokens, base_tokens, class_tokens, part_tokens, arg_tokens, base_told, arg_told, class_told, part_told, type_told}
-use Rattle.jc_grammar.specs.Expressions.{expr_tokens, operand_tokens, creation_tokens, init_tokens, array_tokens, creation_told, expr_told, init_told, operand_told, array_told}
-use Rattle.jc_grammar.specs.Laws.{TypesAreTold, ExpressionsAreTold}
-
-type_out : (node : TypeTree) → type_tokens node ≡ type_told (map-TypeTree BaseTree TypeArg ClassTree TypePart TypeTree Spelled Spelled Spelled Spelled Spelled base_tokens arg_tokens class_tokens part_tokens type_tokens (out-TypeTree node))
-unfolding base_tokens arg_tokens class_tokens part_tokens type_tokens
-type_out node = fold_out-TypeTree Spelled Spelled Spelled Spelled Spelled base_told arg_told class_told part_told type_told node
-
-class_out : (node : ClassTree) → class_tokens node ≡ class_told (map-ClassTree BaseTree TypeArg ClassTree TypePart TypeTree Spelled Spelled Spelled Spelled Spelled base_tokens arg_tokens class_tokens part_tokens type_tokens (out-ClassTree node))
-unfolding base_tokens arg_tokens class_tokens part_tokens type_tokens
-class_out node = fold_out-ClassTree Spelled Spelled Spelled Spelled Spelled base_told arg_told class_told part_told type_told node
-
-part_out : (node : TypePart) → part_tokens node ≡ part_told (map-TypePart BaseTree TypeArg ClassTree TypePart TypeTree Spelled Spelled Spelled Spelled Spelled base_tokens arg_tokens class_tokens part_tokens type_tokens (out-TypePart node))
-unfolding base_tokens arg_tokens class_tokens part_tokens type_tokens
-part_out node = fold_out-TypePart Spelled Spelled Spelled Spelled Spelled base_told arg_told class_told part_told type_told node
+-- The laws of what a tree tells, by the lemmas of each form.
+use Rattle.jc_grammar.specs.Laws.{TypesAreTold, ExpressionsAreTold, StatementsAreTold}
+use Rattle.jc_grammar.proofs.TokensOfTypes.{base_tokens-Primitive, base_tokens-Class, arg_tokens-Exact, arg_tokens-Any, arg_tokens-Extends, arg_tokens-Super, class_tokens-parts, part_tokens-parts, type_tokens-parts}
+use Rattle.jc_grammar.proofs.TokensOfExpressions.{skip_part_tokens-Inner, skip_part_tokens-Token, skip_tokens-parts, creation_tokens-Object, creation_tokens-Sized, creation_tokens-Initialised, expr_tokens-Assign, expr_tokens-Conditional, expr_tokens-Chain, expr_tokens-Prefix, expr_tokens-Cast, expr_tokens-Postfix, expr_tokens-Field, expr_tokens-Call, expr_tokens-Index, expr_tokens-InnerNew, expr_tokens-Literal, expr_tokens-This, expr_tokens-SuperField, expr_tokens-SuperCall, expr_tokens-Paren, expr_tokens-Name, expr_tokens-Invoke, expr_tokens-New, expr_tokens-ClassLiteral, expr_tokens-VoidLiteral, expr_tokens-OuterThis, init_tokens-Value, init_tokens-Nested, operand_tokens-Binary, operand_tokens-InstanceOf, array_tokens-parts}
+use Rattle.jc_grammar.proofs.TokensOfStatements.{value_tokens-Value, value_tokens-List, member_tokens-Semicolon, member_tokens-Initialiser_static, member_tokens-Initialiser_instance, member_tokens-Fields, member_tokens-Bare, member_tokens-Method, member_tokens-Nested, stmt_tokens-Local, stmt_tokens-Declared, stmt_tokens-Block, stmt_tokens-Empty, stmt_tokens-Effect, stmt_tokens-Labeled, stmt_tokens-If, stmt_tokens-While, stmt_tokens-Do, stmt_tokens-For, stmt_tokens-Switch, stmt_tokens-Return, stmt_tokens-Break, stmt_tokens-Continue, stmt_tokens-Throw, stmt_tokens-Try, stmt_tokens-ThisCall, stmt_tokens-SuperCall, clause_tokens-parts, declaration_tokens-parts}
 
 pub types_are_told : TypesAreTold
 types_are_told = record {
-  types = λ ty r. ap (λ (f : Spelled). f r) (type_out ty);
-  classes = λ class r. ap (λ (f : Spelled). f r) (class_out class);
-  parts = λ part r. ap (λ (f : Spelled). f r) (part_out part);
+  base_at_Primitive = base_tokens-Primitive;
+  base_at_Class = base_tokens-Class;
+  arg_at_Exact = arg_tokens-Exact;
+  arg_at_Any = arg_tokens-Any;
+  arg_at_Extends = arg_tokens-Extends;
+  arg_at_Super = arg_tokens-Super;
+  classes = class_tokens-parts;
+  parts = part_tokens-parts;
+  types = type_tokens-parts;
 }
-
-expr_out : (node : Expr) → expr_tokens node ≡ expr_told (map-Expr Creation Expr Init Operand ArrayInit Spelled Spelled Spelled Spelled Spelled creation_tokens expr_tokens init_tokens operand_tokens array_tokens (out-Expr node))
-unfolding creation_tokens expr_tokens init_tokens operand_tokens array_tokens
-expr_out node = fold_out-Expr Spelled Spelled Spelled Spelled Spelled creation_told expr_told init_told operand_told array_told node
 
 pub expressions_are_told : ExpressionsAreTold
 expressions_are_told = record {
-  at_Assign = λ target op value r. ap (λ (f : Spelled). f r) (expr_out (an.Assign target op value) ∙ ap (λ (l : Expr-F Creation Expr Init Operand ArrayInit). expr_told (map-Expr Creation Expr Init Operand ArrayInit Spelled Spelled Spelled Spelled Spelled creation_tokens expr_tokens init_tokens operand_tokens array_tokens l)) (an.outs-Assign target op value));
-  at_Conditional = λ test then_it else_it r. ap (λ (f : Spelled). f r) (expr_out (an.Conditional test then_it else_it) ∙ ap (λ (l : Expr-F Creation Expr Init Operand ArrayInit). expr_told (map-Expr Creation Expr Init Operand ArrayInit Spelled Spelled Spelled Spelled Spelled creation_tokens expr_tokens init_tokens operand_tokens array_tokens l)) (an.outs-Conditional test then_it else_it));
-  at_Chain = λ first rest r. ap (λ (f : Spelled). f r) (expr_out (an.Chain first rest) ∙ ap (λ (l : Expr-F Creation Expr Init Operand ArrayInit). expr_told (map-Expr Creation Expr Init Operand ArrayInit Spelled Spelled Spelled Spelled Spelled creation_tokens expr_tokens init_tokens operand_tokens array_tokens l)) (an.outs-Chain first rest));
-  at_Prefix = λ first more operand r. ap (λ (f : Spelled). f r) (expr_out (an.Prefix first more operand) ∙ ap (λ (l : Expr-F Creation Expr Init Operand ArrayInit). expr_told (map-Expr Creation Expr Init Operand ArrayInit Spelled Spelled Spelled Spelled Spelled creation_tokens expr_tokens init_tokens operand_tokens array_tokens l)) (an.outs-Prefix first more operand));
-  at_Cast = λ at ty operand r. ap (λ (f : Spelled). f r) (expr_out (an.Cast at ty operand) ∙ ap (λ (l : Expr-F Creation Expr Init Operand ArrayInit). expr_told (map-Expr Creation Expr Init Operand ArrayInit Spelled Spelled Spelled Spelled Spelled creation_tokens expr_tokens init_tokens operand_tokens array_tokens l)) (an.outs-Cast at ty operand));
-  at_Postfix = λ of_it op r. ap (λ (f : Spelled). f r) (expr_out (an.Postfix of_it op) ∙ ap (λ (l : Expr-F Creation Expr Init Operand ArrayInit). expr_told (map-Expr Creation Expr Init Operand ArrayInit Spelled Spelled Spelled Spelled Spelled creation_tokens expr_tokens init_tokens operand_tokens array_tokens l)) (an.outs-Postfix of_it op));
-  at_Field = λ of_it name r. ap (λ (f : Spelled). f r) (expr_out (an.Field of_it name) ∙ ap (λ (l : Expr-F Creation Expr Init Operand ArrayInit). expr_told (map-Expr Creation Expr Init Operand ArrayInit Spelled Spelled Spelled Spelled Spelled creation_tokens expr_tokens init_tokens operand_tokens array_tokens l)) (an.outs-Field of_it name));
-  at_Call = λ of_it type_args name args r. ap (λ (f : Spelled). f r) (expr_out (an.Call of_it type_args name args) ∙ ap (λ (l : Expr-F Creation Expr Init Operand ArrayInit). expr_told (map-Expr Creation Expr Init Operand ArrayInit Spelled Spelled Spelled Spelled Spelled creation_tokens expr_tokens init_tokens operand_tokens array_tokens l)) (an.outs-Call of_it type_args name args));
-  at_Index = λ of_it index r. ap (λ (f : Spelled). f r) (expr_out (an.Index of_it index) ∙ ap (λ (l : Expr-F Creation Expr Init Operand ArrayInit). expr_told (map-Expr Creation Expr Init Operand ArrayInit Spelled Spelled Spelled Spelled Spelled creation_tokens expr_tokens init_tokens operand_tokens array_tokens l)) (an.outs-Index of_it index));
-  at_Paren = λ at inside r. ap (λ (f : Spelled). f r) (expr_out (an.Paren at inside) ∙ ap (λ (l : Expr-F Creation Expr Init Operand ArrayInit). expr_told (map-Expr Creation Expr Init Operand ArrayInit Spelled Spelled Spelled Spelled Spelled creation_tokens expr_tokens init_tokens operand_tokens array_tokens l)) (an.outs-Paren at inside));
-  at_Invoke = λ name args r. ap (λ (f : Spelled). f r) (expr_out (an.Invoke name args) ∙ ap (λ (l : Expr-F Creation Expr Init Operand ArrayInit). expr_told (map-Expr Creation Expr Init Operand ArrayInit Spelled Spelled Spelled Spelled Spelled creation_tokens expr_tokens init_tokens operand_tokens array_tokens l)) (an.outs-Invoke name args));
-  at_New = λ at creation r. ap (λ (f : Spelled). f r) (expr_out (an.New at creation) ∙ ap (λ (l : Expr-F Creation Expr Init Operand ArrayInit). expr_told (map-Expr Creation Expr Init Operand ArrayInit Spelled Spelled Spelled Spelled Spelled creation_tokens expr_tokens init_tokens operand_tokens array_tokens l)) (an.outs-New at creation));
+  skip_part_at_Inner = skip_part_tokens-Inner;
+  skip_part_at_Token = skip_part_tokens-Token;
+  skips = skip_tokens-parts;
+  creation_at_Object = creation_tokens-Object;
+  creation_at_Sized = creation_tokens-Sized;
+  creation_at_Initialised = creation_tokens-Initialised;
+  at_Assign = expr_tokens-Assign;
+  at_Conditional = expr_tokens-Conditional;
+  at_Chain = expr_tokens-Chain;
+  at_Prefix = expr_tokens-Prefix;
+  at_Cast = expr_tokens-Cast;
+  at_Postfix = expr_tokens-Postfix;
+  at_Field = expr_tokens-Field;
+  at_Call = expr_tokens-Call;
+  at_Index = expr_tokens-Index;
+  at_InnerNew = expr_tokens-InnerNew;
+  at_Literal = expr_tokens-Literal;
+  at_This = expr_tokens-This;
+  at_SuperField = expr_tokens-SuperField;
+  at_SuperCall = expr_tokens-SuperCall;
+  at_Paren = expr_tokens-Paren;
+  at_Name = expr_tokens-Name;
+  at_Invoke = expr_tokens-Invoke;
+  at_New = expr_tokens-New;
+  at_ClassLiteral = expr_tokens-ClassLiteral;
+  at_VoidLiteral = expr_tokens-VoidLiteral;
+  at_OuterThis = expr_tokens-OuterThis;
+  init_at_Value = init_tokens-Value;
+  init_at_Nested = init_tokens-Nested;
+  operand_at_Binary = operand_tokens-Binary;
+  operand_at_InstanceOf = operand_tokens-InstanceOf;
+  arrays = array_tokens-parts;
+}
+
+pub statements_are_told : StatementsAreTold
+statements_are_told = record {
+  value_at_Value = value_tokens-Value;
+  value_at_List = value_tokens-List;
+  member_at_Semicolon = member_tokens-Semicolon;
+  member_at_Initialiser_static = member_tokens-Initialiser_static;
+  member_at_Initialiser_instance = member_tokens-Initialiser_instance;
+  member_at_Fields = member_tokens-Fields;
+  member_at_Bare = member_tokens-Bare;
+  member_at_Method = member_tokens-Method;
+  member_at_Nested = member_tokens-Nested;
+  at_Local = stmt_tokens-Local;
+  at_Declared = stmt_tokens-Declared;
+  at_Block = stmt_tokens-Block;
+  at_Empty = stmt_tokens-Empty;
+  at_Effect = stmt_tokens-Effect;
+  at_Labeled = stmt_tokens-Labeled;
+  at_If = stmt_tokens-If;
+  at_While = stmt_tokens-While;
+  at_Do = stmt_tokens-Do;
+  at_For = stmt_tokens-For;
+  at_Switch = stmt_tokens-Switch;
+  at_Return = stmt_tokens-Return;
+  at_Break = stmt_tokens-Break;
+  at_Continue = stmt_tokens-Continue;
+  at_Throw = stmt_tokens-Throw;
+  at_Try = stmt_tokens-Try;
+  at_ThisCall = stmt_tokens-ThisCall;
+  at_SuperCall = stmt_tokens-SuperCall;
+  clauses = clause_tokens-parts;
+  declarations = declaration_tokens-parts;
 }

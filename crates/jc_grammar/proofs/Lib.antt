@@ -1,1 +1,6 @@
 pub mod Laws
+pub mod ShapesOfExpressions
+pub mod ShapesOfStatements
+pub mod TokensOfExpressions
+pub mod TokensOfStatements
+pub mod TokensOfTypes

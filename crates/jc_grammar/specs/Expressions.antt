@@ -22,7 +22,7 @@ use Rattle.jc_tree.specs.declared.expression.Init.{Init, Init-F, fold-Init}
 use Rattle.jc_tree.specs.declared.expression.Operand.{Operand-F, Operand, fold-Operand}
 use Rattle.jc_tree.specs.declared.expression.ArrayInit.{ArrayInit, ArrayInit-F, fold-ArrayInit}
 use Rattle.jc_tree.specs.declared.expression.Skip.{Skip, Skip-F, fold-Skip}
-use Rattle.jc_tree.specs.declared.expression.SkipPart.{SkipPart-F}
+use Rattle.jc_tree.specs.declared.expression.SkipPart.{SkipPart, SkipPart-F, fold-SkipPart}
 use Rattle.jc_grammar.specs.Told.{Told, Spelled, told, sign, sign_at, key, key_at, ident, each, commas, actuals, names_after, brackets}
 use Rattle.jc_grammar.specs.Types.{type_tokens, base_tokens, class_tokens, args_tokens}
 
@@ -105,6 +105,9 @@ skip_told skip r = sign sign_of.LeftBrace ∷ each skip.parts (sign sign_of.Righ
 -- the tokens of what is skipped, its braces included, and then others
 unfoldable pub skip_tokens : Skip → Spelled
 skip_tokens skip = fold-Skip Spelled Spelled skip_part_told skip_told skip
+
+unfoldable pub skip_part_tokens : SkipPart → Spelled
+skip_part_tokens part = fold-SkipPart Spelled Spelled skip_part_told skip_told part
 
 abbrev pub in_brackets : Spelled → Spelled
 in_brackets inside r = sign sign_of.LeftBracket ∷ inside (sign sign_of.RightBracket ∷ r)

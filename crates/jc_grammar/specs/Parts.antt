@@ -27,6 +27,7 @@ use Rattle.jc_tree.specs.declared.statement.Resources.{Resources}
 use Rattle.jc_tree.specs.declared.statement.ResultType.{ResultType}
 use Rattle.jc_tree.specs.declared.statement.ResultType.TheVariants as result_of
 use Rattle.jc_tree.specs.declared.statement.TypeParam.{TypeParam}
+use Rattle.jc_tree.specs.declared.statement.TypeParams.{TypeParams}
 use Rattle.jc_tree.specs.declared.statement.Var.{Var}
 use Rattle.jc_grammar.specs.Told.{Spelled, sign, sign_at, key, key_at, ident, each, commas, after_commas, names_after, brackets}
 use Rattle.jc_grammar.specs.Types.{type_tokens, class_tokens, angled}
@@ -105,6 +106,10 @@ param_tokens param r = ident param.name ∷ bounds_tokens param.bounds r
 abbrev pub params_tokens : List TypeParam → Spelled
 params_tokens params r = angled (map param_tokens params) r
 
+-- the same where the tree has the offset of the first bracket
+abbrev pub params_of_tokens : TypeParams → Spelled
+params_of_tokens p r = sign_at sign_of.Less p.at ∷ param_tokens p.first (after_commas (map param_tokens p.more) (sign sign_of.Greater ∷ r))
+
 -- Formal = Mods Type ["..."] Id Dims
 abbrev pub formal_tokens : Formal → Spelled
 formal_tokens f r =
@@ -140,7 +145,7 @@ head_tokens (head_of.Annotation modifiers at name) r =
 -- Mods [Params] [Type | "void"] Id Formals [Throws]
 abbrev pub method_tokens : MethodHead → Spelled
 method_tokens m r =
-    modifiers_tokens m.modifiers (params_tokens m.params (if_some result_tokens m.result
+    modifiers_tokens m.modifiers (if_some params_of_tokens m.params (if_some result_tokens m.result
     (ident m.name ∷ sign sign_of.LeftParen ∷ commas (map formal_tokens m.formals) (sign sign_of.RightParen ∷ keyed_list key_of.Throws (map class_tokens m.throws) r))))
 
 abbrev pub for_init_tokens : ForInit → Spelled

@@ -14,13 +14,13 @@ use Rattle.jc_tree.specs.declared.expression.BinaryOp.{BinaryOp}
 use Rattle.jc_tree.specs.declared.expression.BinaryOp.TheVariants as binary_of
 use Rattle.jc_tree.specs.declared.expression.PrefixSign.{PrefixSign}
 use Rattle.jc_tree.specs.declared.expression.PrefixSign.TheVariants as prefix_of
-use Rattle.jc_tree.specs.declared.expression.Creation.{Creation-F}
+use Rattle.jc_tree.specs.declared.expression.Creation.{Creation, Creation-F, fold-Creation}
 use Rattle.jc_tree.specs.declared.expression.Expr.{Expr, Expr-F, fold-Expr}
 use Rattle.jc_tree.specs.declared.expression.Init.{Init, Init-F, fold-Init}
-use Rattle.jc_tree.specs.declared.expression.Operand.{Operand-F}
-use Rattle.jc_tree.specs.declared.expression.ArrayInit.{ArrayInit-F}
+use Rattle.jc_tree.specs.declared.expression.Operand.{Operand, Operand-F, fold-Operand}
+use Rattle.jc_tree.specs.declared.expression.ArrayInit.{ArrayInit, ArrayInit-F, fold-ArrayInit}
 use Rattle.jc_tree.specs.declared.expression.Skip.{Skip, Skip-F, fold-Skip}
-use Rattle.jc_tree.specs.declared.expression.SkipPart.{SkipPart-F}
+use Rattle.jc_tree.specs.declared.expression.SkipPart.{SkipPart, SkipPart-F, fold-SkipPart}
 
 abbrev pub any_level : ℕ
 any_level = 0
@@ -146,35 +146,41 @@ abbrev pub is_brace : TokenKind → Bool
 is_brace (kind_of.Sign s) = is_brace_sign s
 is_brace _ = false
 
-abbrev pub skip_part_good : SkipPart-F Bool Bool → Bool
-skip_part_good (SkipPart-F.Inner skip) = skip
-skip_part_good (SkipPart-F.Token kind) = not (is_brace kind)
+abbrev pub skip_part_step : SkipPart-F Bool Bool → Bool
+skip_part_step (SkipPart-F.Inner skip) = skip
+skip_part_step (SkipPart-F.Token kind) = not (is_brace kind)
 
 abbrev pub all_true : List Bool → Bool
 all_true goods = list_all (λ (good : Bool). good) goods
 
+abbrev pub skip_step : Skip-F Bool Bool → Bool
+skip_step skip = all_true skip.parts
+
 -- what is skipped between braces has braces in pairs
 unfoldable pub is_skip : Skip → Bool
-is_skip skip = fold-Skip Bool Bool skip_part_good (λ (s : Skip-F Bool Bool). all_true s.parts) skip
+is_skip skip = fold-Skip Bool Bool skip_part_step skip_step skip
+
+unfoldable pub is_skip_part : SkipPart → Bool
+is_skip_part part = fold-SkipPart Bool Bool skip_part_step skip_step part
 
 -- a diamond stands behind a class without arguments; there is one skipped body at most
-abbrev pub creation_shape : Creation-F CreationShape Shape Bool OperandShape Bool → CreationShape
-creation_shape (Creation-F.Object class diamond actuals body) =
+abbrev pub creation_shape_step : Creation-F CreationShape Shape Bool OperandShape Bool → CreationShape
+creation_shape_step (Creation-F.Object class diamond actuals body) =
     record { good = (not diamond || ends_bare class) && all_stand any_level actuals && list_all is_skip body && nat_le (length body) 1; sized = false; object = true }
-creation_shape (Creation-F.Sized element first more dims) =
+creation_shape_step (Creation-F.Sized element first more dims) =
     record { good = stands any_level first && all_stand any_level more; sized = true; object = false }
-creation_shape (Creation-F.Initialised element dims init) = record { good = init; sized = false; object = false }
+creation_shape_step (Creation-F.Initialised element dims init) = record { good = init; sized = false; object = false }
 
-abbrev pub operand_shape : Operand-F CreationShape Shape Bool OperandShape Bool → OperandShape
-operand_shape (Operand-F.Binary op right) = record { level = binary_level op; good = stands (binary_level op + 1) right }
-operand_shape (Operand-F.InstanceOf ty) = record { level = instanceof_level; good = true }
+abbrev pub operand_shape_step : Operand-F CreationShape Shape Bool OperandShape Bool → OperandShape
+operand_shape_step (Operand-F.Binary op right) = record { level = binary_level op; good = stands (binary_level op + 1) right }
+operand_shape_step (Operand-F.InstanceOf ty) = record { level = instanceof_level; good = true }
 
-abbrev pub init_good : Init-F CreationShape Shape Bool OperandShape Bool → Bool
-init_good (Init-F.Value expr) = stands any_level expr
-init_good (Init-F.Nested array) = array
+abbrev pub init_step : Init-F CreationShape Shape Bool OperandShape Bool → Bool
+init_step (Init-F.Value expr) = stands any_level expr
+init_step (Init-F.Nested array) = array
 
-abbrev pub array_good : ArrayInit-F CreationShape Shape Bool OperandShape Bool → Bool
-array_good array = all_true array.inits
+abbrev pub array_step : ArrayInit-F CreationShape Shape Bool OperandShape Bool → Bool
+array_step array = all_true array.inits
 
 -- Expr = Cond | Post Assign Expr, Cond = Bin ["?" Expr ":" Cond], and so on down to Prime and Start
 abbrev pub expr_shape_step : Expr-F CreationShape Shape Bool OperandShape Bool → Shape
@@ -204,7 +210,7 @@ expr_shape_step (Expr-F.VoidLiteral at) = plainly prime_level true false
 expr_shape_step (Expr-F.OuterThis first more) = plainly prime_level true false
 
 unfoldable pub expr_shape : Expr → Shape
-expr_shape expr = fold-Expr CreationShape Shape Bool OperandShape Bool creation_shape expr_shape_step init_good operand_shape array_good expr
+expr_shape expr = fold-Expr CreationShape Shape Bool OperandShape Bool creation_shape_step expr_shape_step init_step operand_shape_step array_step expr
 
 -- the tree is one that the grammar has
 abbrev pub is_expr : Expr → Bool
@@ -214,6 +220,15 @@ is_expr expr = stands any_level (expr_shape expr)
 abbrev pub is_effect : Expr → Bool
 is_effect expr = (expr_shape expr).effect
 
--- the same of an initialiser
+-- the same of what stands in an expression
+unfoldable pub creation_shape : Creation → CreationShape
+creation_shape creation = fold-Creation CreationShape Shape Bool OperandShape Bool creation_shape_step expr_shape_step init_step operand_shape_step array_step creation
+
+unfoldable pub operand_shape : Operand → OperandShape
+operand_shape operand = fold-Operand CreationShape Shape Bool OperandShape Bool creation_shape_step expr_shape_step init_step operand_shape_step array_step operand
+
 unfoldable pub is_init : Init → Bool
-is_init init = fold-Init CreationShape Shape Bool OperandShape Bool creation_shape expr_shape_step init_good operand_shape array_good init
+is_init init = fold-Init CreationShape Shape Bool OperandShape Bool creation_shape_step expr_shape_step init_step operand_shape_step array_step init
+
+unfoldable pub is_array : ArrayInit → Bool
+is_array array = fold-ArrayInit CreationShape Shape Bool OperandShape Bool creation_shape_step expr_shape_step init_step operand_shape_step array_step array

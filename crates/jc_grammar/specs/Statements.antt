@@ -4,12 +4,12 @@ use Rattle.jc_lexer.specs.declared.token.Key.TheVariants as key_of
 use Rattle.jc_lexer.specs.declared.token.Sign.TheVariants as sign_of
 use Rattle.jc_tree.specs.declared.name.Ident.{Ident}
 use Rattle.jc_tree.specs.declared.expression.Expr.{Expr}
-use Rattle.jc_tree.specs.declared.statement.Clause.{Clause-F}
+use Rattle.jc_tree.specs.declared.statement.Clause.{Clause, Clause-F, fold-Clause}
 use Rattle.jc_tree.specs.declared.statement.ClauseHead.{ClauseHead}
 use Rattle.jc_tree.specs.declared.statement.ClauseHead.TheVariants as clause_of
 use Rattle.jc_tree.specs.declared.statement.Declaration.{Declaration, Declaration-F, fold-Declaration}
 use Rattle.jc_tree.specs.declared.statement.Import.{Import}
-use Rattle.jc_tree.specs.declared.statement.Member.{Member-F}
+use Rattle.jc_tree.specs.declared.statement.Member.{Member, Member-F, fold-Member}
 use Rattle.jc_tree.specs.declared.statement.Package.{Package}
 use Rattle.jc_tree.specs.declared.statement.SourceFile.{SourceFile}
 use Rattle.jc_tree.specs.declared.statement.Stmt.{Stmt, Stmt-F, fold-Stmt}
@@ -92,6 +92,12 @@ stmt_told (Stmt-F.SuperCall at args) r = key_at key_of.Super at ∷ actuals (map
 
 unfoldable pub stmt_tokens : Stmt → Spelled
 stmt_tokens stmt = fold-Stmt Spelled Spelled Spelled Spelled member_told stmt_told clause_told declaration_told stmt
+
+unfoldable pub member_tokens : Member → Spelled
+member_tokens member = fold-Member Spelled Spelled Spelled Spelled member_told stmt_told clause_told declaration_told member
+
+unfoldable pub clause_tokens : Clause → Spelled
+clause_tokens clause = fold-Clause Spelled Spelled Spelled Spelled member_told stmt_told clause_told declaration_told clause
 
 unfoldable pub declaration_tokens : Declaration → Spelled
 declaration_tokens declaration = fold-Declaration Spelled Spelled Spelled Spelled member_told stmt_told clause_told declaration_told declaration

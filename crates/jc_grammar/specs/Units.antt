@@ -3,7 +3,7 @@ use Rattle.std.specs.Prelude.{Bool, true, false, not, ◌&&◌, ◌||◌, List, 
 use Rattle.std.specs.List.{list_all}
 use Rattle.jc_tree.specs.declared.expression.Expr.{Expr}
 use Rattle.jc_tree.specs.declared.statement.AnnotationValue.{AnnotationValue, AnnotationValue-F, fold-AnnotationValue}
-use Rattle.jc_tree.specs.declared.statement.Clause.{Clause-F}
+use Rattle.jc_tree.specs.declared.statement.Clause.{Clause, Clause-F, fold-Clause}
 use Rattle.jc_tree.specs.declared.statement.ClauseHead.{ClauseHead}
 use Rattle.jc_tree.specs.declared.statement.ClauseHead.TheVariants as clause_of
 use Rattle.jc_tree.specs.declared.statement.Declaration.{Declaration, Declaration-F, fold-Declaration}
@@ -15,7 +15,7 @@ use Rattle.jc_tree.specs.declared.statement.ForInit.{ForInit}
 use Rattle.jc_tree.specs.declared.statement.ForInit.TheVariants as init_of
 use Rattle.jc_tree.specs.declared.statement.Formal.{Formal}
 use Rattle.jc_tree.specs.declared.statement.LocalVars.{LocalVars}
-use Rattle.jc_tree.specs.declared.statement.Member.{Member-F}
+use Rattle.jc_tree.specs.declared.statement.Member.{Member, Member-F, fold-Member}
 use Rattle.jc_tree.specs.declared.statement.MethodHead.{MethodHead}
 use Rattle.jc_tree.specs.declared.statement.Modifier.{Modifier}
 use Rattle.jc_tree.specs.declared.statement.Modifier.TheVariants as modifier_of
@@ -24,7 +24,7 @@ use Rattle.jc_tree.specs.declared.statement.Resource.{Resource}
 use Rattle.jc_tree.specs.declared.statement.Resources.{Resources}
 use Rattle.jc_tree.specs.declared.statement.ResultType.{ResultType}
 use Rattle.jc_tree.specs.declared.statement.SourceFile.{SourceFile}
-use Rattle.jc_tree.specs.declared.statement.Stmt.{Stmt-F}
+use Rattle.jc_tree.specs.declared.statement.Stmt.{Stmt, Stmt-F, fold-Stmt}
 use Rattle.jc_tree.specs.declared.statement.TopLevel.{TopLevel}
 use Rattle.jc_tree.specs.declared.statement.TopLevel.TheVariants as top_of
 use Rattle.jc_tree.specs.declared.statement.Var.{Var}
@@ -43,12 +43,12 @@ is_conditional expr = stands conditional_level (expr_shape expr)
 abbrev pub is_statement_expr : Expr → Bool
 is_statement_expr expr = is_expr expr && is_effect expr
 
-abbrev pub value_good : AnnotationValue-F Bool → Bool
-value_good (AnnotationValue-F.Value expr) = is_conditional expr
-value_good (AnnotationValue-F.List at values trailing) = all_true values
+abbrev pub value_step : AnnotationValue-F Bool → Bool
+value_step (AnnotationValue-F.Value expr) = is_conditional expr
+value_step (AnnotationValue-F.List at values trailing) = all_true values
 
 unfoldable pub is_value : AnnotationValue → Bool
-is_value value = fold-AnnotationValue Bool value_good value
+is_value value = fold-AnnotationValue Bool value_step value
 
 abbrev pub are_pairs : List Pair → Bool
 are_pairs pairs = list_all (λ (pair : Pair). is_value pair.value) pairs
@@ -190,8 +190,8 @@ clause_with clause_of.Default items = record { part = OfSwitch; good = list_all 
 clause_with (clause_of.Catch modifiers first more name) items = record { part = OfCatch; good = are_modifiers modifiers && list_all in_block items; open_end = false }
 clause_with clause_of.Finally items = record { part = OfFinally; good = list_all in_block items; open_end = false }
 
-abbrev pub clause_shape : Clause-F Bool StmtShape ClauseShape Bool → ClauseShape
-clause_shape clause = clause_with clause.head clause.items
+abbrev pub clause_shape_step : Clause-F Bool StmtShape ClauseShape Bool → ClauseShape
+clause_shape_step clause = clause_with clause.head clause.items
 
 -- the parts of an `if`, of which each but the last one has an `else` behind it, and the last one has where told
 abbrev pub arms_good : Bool → List ClauseShape → Bool
@@ -222,25 +222,25 @@ abbrev pub try_good : Option Resources → List ClauseShape → Bool
 try_good None clauses = some_clause clauses && catches_good clauses
 try_good (Some resources) clauses = are_resources resources && catches_good clauses
 
-abbrev pub stmt_shape : Stmt-F Bool StmtShape ClauseShape Bool → StmtShape
-stmt_shape (Stmt-F.Local vars) = statement DeclaresVars (are_locals vars)
-stmt_shape (Stmt-F.Declared declaration) = statement DeclaresType declaration
-stmt_shape (Stmt-F.Block at items) = statement Anywhere (list_all in_block items)
-stmt_shape (Stmt-F.Empty at) = statement Anywhere true
-stmt_shape (Stmt-F.Effect expr) = statement Anywhere (is_statement_expr expr)
-stmt_shape (Stmt-F.Labeled label body) = record { role = Anywhere; good = in_body body; open_end = body.open_end }
-stmt_shape (Stmt-F.If arms otherwise) = if_shape arms otherwise
-stmt_shape (Stmt-F.While at test body) = record { role = Anywhere; good = is_expr test && in_body body; open_end = body.open_end }
-stmt_shape (Stmt-F.Do at body test) = statement Anywhere (in_body body && is_expr test)
-stmt_shape (Stmt-F.For at head body) = record { role = Anywhere; good = is_for_head head && in_body body; open_end = body.open_end }
-stmt_shape (Stmt-F.Switch at selector groups) = statement Anywhere (is_expr selector && switch_good groups)
-stmt_shape (Stmt-F.Return at value) = statement Anywhere (if_there_passes is_expr value)
-stmt_shape (Stmt-F.Break at label) = statement Anywhere true
-stmt_shape (Stmt-F.Continue at label) = statement Anywhere true
-stmt_shape (Stmt-F.Throw at value) = statement Anywhere (is_expr value)
-stmt_shape (Stmt-F.Try at resources items clauses) = statement Anywhere (list_all in_block items && try_good resources clauses)
-stmt_shape (Stmt-F.ThisCall at actuals) = statement Constructs (list_all is_expr actuals)
-stmt_shape (Stmt-F.SuperCall at actuals) = statement Constructs (list_all is_expr actuals)
+abbrev pub stmt_shape_step : Stmt-F Bool StmtShape ClauseShape Bool → StmtShape
+stmt_shape_step (Stmt-F.Local vars) = statement DeclaresVars (are_locals vars)
+stmt_shape_step (Stmt-F.Declared declaration) = statement DeclaresType declaration
+stmt_shape_step (Stmt-F.Block at items) = statement Anywhere (list_all in_block items)
+stmt_shape_step (Stmt-F.Empty at) = statement Anywhere true
+stmt_shape_step (Stmt-F.Effect expr) = statement Anywhere (is_statement_expr expr)
+stmt_shape_step (Stmt-F.Labeled label body) = record { role = Anywhere; good = in_body body; open_end = body.open_end }
+stmt_shape_step (Stmt-F.If arms otherwise) = if_shape arms otherwise
+stmt_shape_step (Stmt-F.While at test body) = record { role = Anywhere; good = is_expr test && in_body body; open_end = body.open_end }
+stmt_shape_step (Stmt-F.Do at body test) = statement Anywhere (in_body body && is_expr test)
+stmt_shape_step (Stmt-F.For at head body) = record { role = Anywhere; good = is_for_head head && in_body body; open_end = body.open_end }
+stmt_shape_step (Stmt-F.Switch at selector groups) = statement Anywhere (is_expr selector && switch_good groups)
+stmt_shape_step (Stmt-F.Return at value) = statement Anywhere (if_there_passes is_expr value)
+stmt_shape_step (Stmt-F.Break at label) = statement Anywhere true
+stmt_shape_step (Stmt-F.Continue at label) = statement Anywhere true
+stmt_shape_step (Stmt-F.Throw at value) = statement Anywhere (is_expr value)
+stmt_shape_step (Stmt-F.Try at resources items clauses) = statement Anywhere (list_all in_block items && try_good resources clauses)
+stmt_shape_step (Stmt-F.ThisCall at actuals) = statement Constructs (list_all is_expr actuals)
+stmt_shape_step (Stmt-F.SuperCall at actuals) = statement Constructs (list_all is_expr actuals)
 
 -- a constructor's body, which alone may begin with a call of a constructor
 abbrev pub constructor_good : List StmtShape → Bool
@@ -255,19 +255,28 @@ body_good (Some result) items = list_all in_block items
 body_good None items = constructor_good items
 
 -- a constructor has a body
-abbrev pub member_good : Member-F Bool StmtShape ClauseShape Bool → Bool
-member_good (Member-F.Semicolon at) = true
-member_good (Member-F.Initialiser at is_static items) = list_all in_block items
-member_good (Member-F.Fields vars) = are_locals vars
-member_good (Member-F.Bare head) = is_method_head head && has_result head
-member_good (Member-F.Method head items) = is_method_head head && body_good head.result items
-member_good (Member-F.Nested declaration) = declaration
+abbrev pub member_step : Member-F Bool StmtShape ClauseShape Bool → Bool
+member_step (Member-F.Semicolon at) = true
+member_step (Member-F.Initialiser at is_static items) = list_all in_block items
+member_step (Member-F.Fields vars) = are_locals vars
+member_step (Member-F.Bare head) = is_method_head head && has_result head
+member_step (Member-F.Method head items) = is_method_head head && body_good head.result items
+member_step (Member-F.Nested declaration) = declaration
 
-abbrev pub declaration_good : Declaration-F Bool StmtShape ClauseShape Bool → Bool
-declaration_good declaration = is_head declaration.head && all_true declaration.members
+abbrev pub declaration_step : Declaration-F Bool StmtShape ClauseShape Bool → Bool
+declaration_step declaration = is_head declaration.head && all_true declaration.members
+
+unfoldable pub stmt_shape : Stmt → StmtShape
+stmt_shape stmt = fold-Stmt Bool StmtShape ClauseShape Bool member_step stmt_shape_step clause_shape_step declaration_step stmt
+
+unfoldable pub clause_shape : Clause → ClauseShape
+clause_shape clause = fold-Clause Bool StmtShape ClauseShape Bool member_step stmt_shape_step clause_shape_step declaration_step clause
+
+unfoldable pub is_member : Member → Bool
+is_member member = fold-Member Bool StmtShape ClauseShape Bool member_step stmt_shape_step clause_shape_step declaration_step member
 
 unfoldable pub is_declaration : Declaration → Bool
-is_declaration declaration = fold-Declaration Bool StmtShape ClauseShape Bool member_good stmt_shape clause_shape declaration_good declaration
+is_declaration declaration = fold-Declaration Bool StmtShape ClauseShape Bool member_step stmt_shape_step clause_shape_step declaration_step declaration
 
 abbrev pub is_top : TopLevel → Bool
 is_top (top_of.Declaration declaration) = is_declaration declaration

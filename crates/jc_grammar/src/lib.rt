@@ -5,7 +5,7 @@
 ghost use Rattle.std.specs.Prelude.{◌≡◌};
 ghost use Rattle.jc_grammar.specs.Shapes.{binary_level};
 ghost use Rattle.jc_grammar.specs.Types.{primitive_key};
-ghost use Rattle.jc_grammar.specs.Laws.{TypesAreTold, ExpressionsAreTold};
+ghost use Rattle.jc_grammar.specs.Laws.{TypesAreTold, ExpressionsAreTold, StatementsAreTold};
 ghost use Rattle.jc_grammar.specs.Spelling.{SpellsType, BeginsType, NoTypeBegins, SpellsExpr, BeginsExpr, NoExprBegins, SpellsFile, BeginsFile, NoFileBegins};
 
 use jc_lexer::Key;
@@ -52,4 +52,10 @@ pub fn types_are_told()
 /// A law: the tokens of an expression are those of its parts, with the signs and keywords between them.
 pub fn expressions_are_told()
     ensures { ExpressionsAreTold }
+{}
+
+/// A law: the tokens of a statement, of a part of one, of a member and of a declaration are those of its parts, with the signs and
+/// keywords between them.
+pub fn statements_are_told()
+    ensures { StatementsAreTold }
 {}

@@ -1,2 +1,5 @@
 mod Capped
+pub mod HeightsOfExpressions
+pub mod HeightsOfStatements
+pub mod HeightsOfTypes
 mod Opened

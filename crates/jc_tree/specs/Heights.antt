@@ -20,6 +20,7 @@ use Rattle.jc_tree.specs.declared.statement.Annotation.{Annotation}
 use Rattle.jc_tree.specs.declared.statement.Modifier.{Modifier}
 use Rattle.jc_tree.specs.declared.statement.Modifier.TheVariants as anModifier
 use Rattle.jc_tree.specs.declared.statement.TypeParam.{TypeParam}
+use Rattle.jc_tree.specs.declared.statement.TypeParams.{TypeParams}
 use Rattle.jc_tree.specs.declared.statement.Formal.{Formal}
 use Rattle.jc_tree.specs.declared.statement.Var.{Var}
 use Rattle.jc_tree.specs.declared.statement.LocalVars.{LocalVars}
@@ -179,6 +180,9 @@ modifier_height (anModifier.Word at word) = 0
 abbrev pub param_height : TypeParam → ℕ
 param_height node = most (map class_height node.bounds)
 
+abbrev pub params_of_height : TypeParams → ℕ
+params_of_height node = max (param_height node.first) (most (map param_height node.more))
+
 abbrev pub formal_height : Formal → ℕ
 formal_height node = max (most (map modifier_height node.modifiers)) (type_height node.ty)
 
@@ -198,7 +202,7 @@ head_height (anDeclarationHead.Interface modifiers at name params extends) = max
 head_height (anDeclarationHead.Annotation modifiers at name) = most (map modifier_height modifiers)
 
 abbrev pub method_height : MethodHead → ℕ
-method_height node = max (max (max (max (most (map modifier_height node.modifiers)) (most (map param_height node.params))) (in_some result_height node.result)) (most (map formal_height node.formals))) (most (map class_height node.throws))
+method_height node = max (max (max (max (most (map modifier_height node.modifiers)) (in_some params_of_height node.params)) (in_some result_height node.result)) (most (map formal_height node.formals))) (most (map class_height node.throws))
 
 abbrev pub for_init_height : ForInit → ℕ
 for_init_height (anForInit.Local it) = local_height it

@@ -20,6 +20,6 @@ pub use name::Ident;
 pub use statement::{
     Annotation, AnnotationValue, Clause, ClauseHead, Declaration, DeclarationHead, ForHead,
     ForInit, Formal, Import, LocalVars, Member, MethodHead, Modifier, ModifierWord, Package, Pair,
-    Resource, Resources, ResultType, SourceFile, Stmt, TopLevel, TypeParam, Var,
+    Resource, Resources, ResultType, SourceFile, Stmt, TopLevel, TypeParam, TypeParams, Var,
 };
 pub use types::{BaseTree, ClassTree, PrimitiveWord, TypeArg, TypePart, TypeTree};

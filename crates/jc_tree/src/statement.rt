@@ -83,6 +83,14 @@ pub struct TypeParam {
     pub bounds: Items<ClassTree>,
 }
 
+/// Type parameters between angle brackets: at least one. `at` is the offset of the left bracket.
+#[derive(Drop)]
+pub struct TypeParams {
+    pub at: u32,
+    pub first: TypeParam,
+    pub more: Items<TypeParam>,
+}
+
 #[derive(Drop)]
 pub struct Formal {
     pub modifiers: Items<Modifier>,
@@ -144,7 +152,7 @@ pub enum DeclarationHead {
 #[derive(Drop)]
 pub struct MethodHead {
     pub modifiers: Items<Modifier>,
-    pub params: Items<TypeParam>,
+    pub params: Option<TypeParams>,
     pub result: Option<ResultType>,
     pub name: Ident,
     pub formals: Items<Formal>,

@@ -1,12 +1,12 @@
 ghost use Rattle.std.specs.Prelude.{◌≡◌, map, List};
-ghost use Rattle.jc_tree.specs.Heights.{annotation_height, capped, clause_head_height, for_height, for_init_height, formal_height, head_height, in_some, local_height, method_height, modifier_height, most, pair_height, param_height, resource_height, resources_of_height, result_height, value_height, var_height};
+ghost use Rattle.jc_tree.specs.Heights.{annotation_height, capped, clause_head_height, for_height, for_init_height, formal_height, head_height, in_some, local_height, method_height, modifier_height, most, pair_height, param_height, params_of_height, resource_height, resources_of_height, result_height, value_height, var_height};
 ghost use Rattle.jc_tree.specs.declared.statement.Pair.{Pair};
 
 use super::expressions::{expr_height, exprs_height, some_expr_height, some_init_height};
 use super::types::{class_height, classes_height, some_class_height, type_height};
 use crate::{
     Annotation, AnnotationValue, ClauseHead, DeclarationHead, ForHead, ForInit, Formal, LocalVars,
-    MethodHead, Modifier, Pair, Resource, Resources, ResultType, TypeParam, Var,
+    MethodHead, Modifier, Pair, Resource, Resources, ResultType, TypeParam, TypeParams, Var,
 };
 use jc_rules::Items;
 
@@ -99,6 +99,21 @@ pub fn params_height(nodes: &[TypeParam]) -> u32
     most
 }
 
+pub fn params_of_height(node: &TypeParams) -> u32
+    ensures { result ≡ capped (params_of_height node.now) }
+{
+    param_height(&node.first).max(params_height(node.more.slice()))
+}
+
+pub fn some_params_of_height(node: &Option<TypeParams>) -> u32
+    ensures { result ≡ capped (in_some params_of_height node.now) }
+{
+    match node {
+        Some(node) => params_of_height(node),
+        None => 0,
+    }
+}
+
 pub fn formal_height(node: &Formal) -> u32
     ensures { result ≡ capped (formal_height node.now) }
 {
@@ -188,7 +203,7 @@ pub fn method_height(node: &MethodHead) -> u32
     ensures { result ≡ capped (method_height node.now) }
 {
     modifiers_height(node.modifiers.slice())
-        .max(params_height(node.params.slice()))
+        .max(some_params_of_height(&node.params))
         .max(some_result_height(&node.result))
         .max(formals_height(node.formals.slice()))
         .max(classes_height(node.throws.slice()))

@@ -1,0 +1,8 @@
+use Rattle.std.proofs.Common.{rules, sym, ◌∙◌}
+use denote.Enum.Bare.{same_true, true_same}
+use Rattle.jc_lexer.specs.contracts.token.Key.{the_type}
+use Rattle.jc_tree_same.proofs.plain.same_key.Goals as goal
+
+pub returns : goal.returns
+returns c =
+    (λ h. same_true the_type (search rules) _ _ (sym c.eq.ensures ∙ h), λ e. c.eq.ensures ∙ true_same the_type _ _ e)
