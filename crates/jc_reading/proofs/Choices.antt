@@ -23,7 +23,7 @@ module _ (A B : Type 0) (codes : List ℕ) (fa : Form A) (fb : Form B) where
   choice = record {
     tell = tell_either fa.tell fb.tell;
     fits = fits_either fa.fits fb.fits;
-    run = either (one_of codes) fa.run fb.run;
+    run = either codes fa.run fb.run;
     starts = λ ts. fa.starts ts || fb.starts ts;
     goes_on = λ ts. fa.goes_on ts || fb.goes_on ts;
     empties = false;

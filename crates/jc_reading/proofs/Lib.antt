@@ -3,8 +3,11 @@ pub mod Choices
 pub mod Codes
 pub mod Forms
 pub mod Kindly
+pub mod Ledby
 pub mod Lists
 pub mod Options
 pub mod Pairs
+pub mod Retests
+pub mod Rooms
 pub mod Signs
 pub mod Steps

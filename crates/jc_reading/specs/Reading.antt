@@ -1,12 +1,12 @@
 -- Reading tokens from left to right.
-use Rattle.std.specs.Prelude.{◌≡◌, ℕ, zero, suc, min, ◌+◌, ◌==◌, Bool, true, false, cond, ◌&&◌, List, [], ◌∷◌, length, Option, Some, None}
+use Rattle.std.specs.Prelude.{◌≡◌, ℕ, zero, suc, min, ◌+◌, ◌==◌, Bool, true, false, cond, ◌&&◌, List, [], ◌∷◌, map, length, Option, Some, None}
 use Rattle.jc_lexer.specs.declared.token.Sign.{Sign}
 use Rattle.jc_lexer.specs.declared.token.Sign.TheVariants as sign_of
 use Rattle.jc_lexer.specs.declared.token.Token.{Token}
 use Rattle.jc_lexer.specs.declared.token.TokenKind.{TokenKind}
 use Rattle.jc_lexer.specs.declared.token.TokenKind.TheVariants as kind_of
 use Rattle.jc_tree.specs.declared.name.Ident.{Ident}
-use Rattle.jc_reading.specs.Kinds.{kind_code}
+use Rattle.jc_reading.specs.Kinds.{kind_code, sign_code, one_of}
 use Rattle.jc_grammar.specs.Told.{Told}
 use Rattle.jc_grammar.specs.Spelling.{StandsAt, is_greater}
 
@@ -70,8 +70,8 @@ pub data Either (A B : Type 0) : Type 0 where
   That : B → Either A B
 
 -- the one or the other, by what stands there
-abbrev pub either : {A B : Type 0} → (List Token → Bool) → Run A → Run B → Run (Either A B)
-either test m n ts = cond (test ts) (becoming This (m ts)) (becoming That (n ts))
+abbrev pub either : {A B : Type 0} → List ℕ → Run A → Run B → Run (Either A B)
+either codes m n ts = cond (one_of codes ts) (becoming This (m ts)) (becoming That (n ts))
 
 abbrev pub on_pick : {A : Type 0} → Option A → List Token → Read A
 on_pick (Some a) r = found a r
@@ -120,3 +120,25 @@ picks_ident t = ident_of_kind t.kind t.from
 
 abbrev pub an_ident_at : Run Ident
 an_ident_at = picking picks_ident
+
+abbrev pub rest_of : List Token → List Token
+rest_of [] = []
+rest_of (t ∷ ts) = ts
+
+-- the value behind what is only a sign
+abbrev pub behind_it : {A : Type 0} → (Unit {0} × A) → A
+behind_it p = p.1
+
+abbrev pub before_it : {A : Type 0} → (A × Unit {0}) → A
+before_it p = p.0
+
+abbrev pub first_and_more : {A : Type 0} → (A × List (Unit {0} × A)) → List A
+first_and_more p = p.0 ∷ map behind_it p.1
+
+-- any number, each behind a sign
+abbrev pub each_behind : {A : Type 0} → Sign → Run A → Run (List (Unit {0} × A))
+each_behind s run = any_number (in_turn (of_kind (sign_code s)) run)
+
+-- one or more, with commas between them
+abbrev pub commas_run : {A : Type 0} → Run A → Run (List A)
+commas_run run = as_new first_and_more (in_turn run (each_behind sign_of.Comma run))
