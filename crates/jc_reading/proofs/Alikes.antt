@@ -13,7 +13,7 @@ module _ (A B : Type 0) (fa : Form A) (make : A → B) (tell : B → List Told �
 
 -- what is made tells the same, each value is made of one, and the tests are no stricter
 pub record Alike (A B : Type 0) (fa : Form A) (make : A → B) (tell : B → List Told → List Told) (fits : B → Bool) (starts goes_on : List Token → Bool) : Type 0 where
-  pub told : (a : A) (r : List Told) → tell (make a) r ≡ fa.tell a r
+  pub told : (a : A) (r : List Told) → fa.fits a ≡ true → tell (make a) r ≡ fa.tell a r
   pub forth : (a : A) → fa.fits a ≡ true → fits (make a) ≡ true
   pub back : (b : B) → fits b ≡ true → (a : A) × (make a ≡ b) × (fa.fits a ≡ true)
   pub starts_too : (ts : List Token) → fa.starts ts ≡ true → starts ts ≡ true
@@ -27,16 +27,16 @@ module _ (A B : Type 0) (fa : Form A) (make : A → B) (tell : B → List Told �
   not_so b c f e = false_from_ne_true b (λ t. false≢true (sym e ∙ f t))
 
   stands_made : (ts : List Token) (a : A) (r : List Token) → Stands fa ts a r → Stands Made ts (make a) r
-  stands_made ts a r s = (subst (λ (l : List Told). Takes false l ts r) (sym (h.told a [])) s.0, h.forth a s.1)
+  stands_made ts a r s = (subst (λ (l : List Told). Takes false l ts r) (sym (h.told a [] s.1)) s.0, h.forth a s.1)
 
   stands_back : (ts : List Token) (b : B) (r : List Token) → Stands Made ts b r → (a : A) × (make a ≡ b) × Stands fa ts a r
   stands_back ts b r s =
       let w = h.back b s.1 in
-      (w.0, w.1, (subst (λ (l : List Told). Takes false l ts r) (ap (λ c. tell c []) (sym w.1) ∙ h.told w.0 []) s.0, w.2))
+      (w.0, w.1, (subst (λ (l : List Told). Takes false l ts r) (ap (λ c. tell c []) (sym w.1) ∙ h.told w.0 [] w.2) s.0, w.2))
 
   appends_made : (b : B) (r : List Told) (a : A) → fa.fits a ≡ true → make a ≡ b → tell b r ≡ tell b [] ++ r
   appends_made b r a g e =
-      ap (λ c. tell c r) (sym e) ∙ h.told a r ∙ la.appends a r g ∙ ap (λ (l : List Told). l ++ r) (sym (h.told a []) ∙ ap (λ c. tell c []) e)
+      ap (λ c. tell c r) (sym e) ∙ h.told a r g ∙ la.appends a r g ∙ ap (λ (l : List Told). l ++ r) (sym (h.told a [] g) ∙ ap (λ c. tell c []) e)
 
   longest_made : (ts : List Token) (b : B) (r : List Token) → Stands Made ts b r → Goes (length r) (Made.run ts)
   longest_made ts b r s = let w = stands_back ts b r s in goes_becoming (length r) make (fa.run ts) (la.longest ts w.0 r w.2)
@@ -59,7 +59,7 @@ module _ (A B : Type 0) (fa : Form A) (make : A → B) (tell : B → List Told �
   pub alike_laws : Lawful B Made
   alike_laws = record {
     appends = λ b r g. let w = h.back b g in appends_made b r w.0 w.2 w.1;
-    plain = λ b g. let w = h.back b g in subst (λ (l : List Told). Plain l) (sym (h.told w.0 []) ∙ ap (λ c. tell c []) w.1) (la.plain w.0 w.2);
+    plain = λ b g. let w = h.back b g in subst (λ (l : List Told). Plain l) (sym (h.told w.0 [] w.2) ∙ ap (λ c. tell c []) w.1) (la.plain w.0 w.2);
     within = λ ts. within_becoming (length ts) make (fa.run ts) (la.within ts);
     sound = λ ts. good_becoming (Stands fa ts) (Stands Made ts) make (fa.run ts) (la.sound ts) (λ a r s. stands_made ts a r s);
     longest = longest_made; exact = exact_made; opens = opens_made;

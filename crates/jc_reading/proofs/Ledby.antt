@@ -154,7 +154,7 @@ module _ (A : Type 0) (fa : Form A) (la : Lawful A fa) (solid : fa.empties ≡ f
   pub commas_laws : Lawful (List A) (commas_form A fa)
   commas_laws = alike_laws (A × List (Unit {0} × A)) (List A) Row first_and_more (λ list r. commas (map fa.tell list) r) (fits_some_of fa.fits) fa.starts (λ ts. comma_starts A fa ts || fa.goes_on ts) row_laws
       (record {
-        told = λ p r. ap (fa.tell p.0) (told_more p.1 r);
+        told = λ p r g. ap (fa.tell p.0) (told_more p.1 r);
         forth = λ p e. ap (λ b. fa.fits p.0 && b) (sym (behind_fits fa.fits p.1)) ∙ e;
         back = back_row;
         starts_too = λ ts e. row_starts ts fa.empties solid e;

@@ -10,7 +10,7 @@ use Rattle.jc_lexer.specs.declared.token.TokenKind.TheVariants as kind_of
 use Rattle.jc_rules.specs.declared.text.Text.{Text}
 use Rattle.jc_tree.specs.declared.name.Ident.{Ident}
 use Rattle.jc_grammar.specs.Told.{Told, sign, sign_at, key, key_at, told, ident}
-use Rattle.jc_reading.specs.Kinds.{kind_code, sign_code, key_code, word_code, is_in, one_of}
+use Rattle.jc_reading.specs.Kinds.{kind_code, sign_code, key_code, word_code, is_in, front_code, one_of}
 use Rattle.jc_reading.specs.Reading.{picks, picks_at, IsTold, ident_of_kind, picks_ident}
 use Rattle.jc_reading.proofs.Codes.{kind_is_sign, kind_is_key, some_is, none_is}
 use Rattle.jc_reading.proofs.Forms.{Form, Lawful}
@@ -137,4 +137,23 @@ apart_sets (x ∷ xs) ys e n h =
     (λ q. subst (λ k. is_in ys k ≡ false) (eqb-true x n q) f)
     (λ q. apart_sets xs ys (sym (cond-false (is_in ys x) false (none_common xs ys) f) ∙ e) n q)
     (or_cases (x == n) (is_in xs n) h))
+    (cases_Bool (is_in ys x))
+
+pub in_more : (c : ℕ) (codes : List ℕ) (ts : List Token) → one_of (c ∷ []) ts ≡ true → one_of (c ∷ codes) ts ≡ true
+in_more c codes ts e = ⊎_elim (λ t. or_left (c == front_code ts) (is_in codes (front_code ts)) t) (λ f. absurd (false≢true f)) (or_cases (c == front_code ts) false e)
+
+-- whoever is in the one set is in the other
+abbrev pub all_in : List ℕ → List ℕ → Bool
+all_in [] ys = true
+all_in (x ∷ xs) ys = cond (is_in ys x) (all_in xs ys) false
+
+pub within_sets : (xs ys : List ℕ) → all_in xs ys ≡ true → (n : ℕ) → is_in xs n ≡ true → is_in ys n ≡ true
+within_sets [] ys e n h = absurd (false≢true h)
+within_sets (x ∷ xs) ys e n h =
+    ⊎_elim
+    (λ t. ⊎_elim
+    (λ q. subst (λ k. is_in ys k ≡ true) (eqb-true x n q) t)
+    (λ q. within_sets xs ys (sym (cond-true (is_in ys x) (all_in xs ys) false t) ∙ e) n q)
+    (or_cases (x == n) (is_in xs n) h))
+    (λ f. absurd (false≢true (sym (cond-false (is_in ys x) (all_in xs ys) false f) ∙ e)))
     (cases_Bool (is_in ys x))
