@@ -1,11 +1,6 @@
 //! The parser of types (JLS 4).
 #![tactic(auto)]
 
-ghost use Rattle.std.specs.Prelude.{◌≡◌};
+mod reading;
 
-/// Nothing yet.
-pub fn one() -> u32
-    ensures { result ≡ 1 }
-{
-    1
-}
+pub use reading::{args, class_within, dims, primitive, type_within};

@@ -11,3 +11,4 @@ pub mod Retests
 pub mod Rooms
 pub mod Signs
 pub mod Steps
+pub mod Turns
