@@ -44,10 +44,10 @@ nothing ts = false
 
 -- {"[" "]"}
 
-abbrev Bracket : Form (Unit {0} × Unit {0})
+abbrev pub Bracket : Form (Unit {0} × Unit {0})
 Bracket = pair (Unit {0}) (Unit {0}) (a_sign sign_of.LeftBracket) (a_sign sign_of.RightBracket)
 
-bracket_laws : Lawful (Unit {0} × Unit {0}) Bracket
+pub bracket_laws : Lawful (Unit {0} × Unit {0}) Bracket
 bracket_laws = pair_laws (Unit {0}) (Unit {0}) (a_sign sign_of.LeftBracket) (a_sign sign_of.RightBracket) (sign_laws sign_of.LeftBracket) (sign_laws sign_of.RightBracket) (λ ts e. refl)
 
 abbrev pub bracket_codes : List ℕ
@@ -299,10 +299,10 @@ module _ (h : ℕ) (la : Lawful TypeArg (arg_form h)) where
       let c = (and_parts (one_of (sign_code sign_of.Comma ∷ []) ts) (one_of arg_codes (rest_of ts)) e).0 in
       stops_at ts (apart_sets (sign_code sign_of.Comma ∷ []) bracket_codes refl (front_code ts) c) (apart_sets (sign_code sign_of.Comma ∷ []) (sign_code sign_of.Less ∷ []) refl (front_code ts) c) (apart_sets (sign_code sign_of.Comma ∷ []) (sign_code sign_of.Dot ∷ []) refl (front_code ts) c) (apart_sets (sign_code sign_of.Comma ∷ []) limit_codes refl (front_code ts) c)
 
-  abbrev Row : Form (List TypeArg)
+  abbrev pub Row : Form (List TypeArg)
   Row = commas_form TypeArg Args
 
-  row_laws : Lawful (List TypeArg) Row
+  pub row_laws : Lawful (List TypeArg) Row
   row_laws = commas_laws TypeArg Args la refl next_arg
 
   abbrev Inner : Form (List TypeArg × Unit {0})

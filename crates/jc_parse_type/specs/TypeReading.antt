@@ -20,8 +20,11 @@ use Rattle.jc_reading.specs.Kinds.{sign_code, key_code}
 use Rattle.jc_reading.specs.Reading.{Read, Found, Stopped, Run, found, as_new, in_turn, perhaps, any_number, Either, This, That, either, picking, behind_it, commas_run, of_kind, at_kind, an_ident_at}
 
 -- {"[" "]"}
+abbrev pub bracket_run : Run (Unit {0} × Unit {0})
+bracket_run = in_turn (of_kind (sign_code sign_of.LeftBracket)) (of_kind (sign_code sign_of.RightBracket))
+
 unfoldable pub dims_run : Run ℕ
-dims_run = as_new length (any_number (in_turn (of_kind (sign_code sign_of.LeftBracket)) (of_kind (sign_code sign_of.RightBracket))))
+dims_run = as_new length (any_number bracket_run)
 
 abbrev pub word_of_key : Key → Option PrimitiveWord
 word_of_key key_of.Boolean = Some word_of.Boolean

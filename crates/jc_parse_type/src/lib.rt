@@ -3,4 +3,4 @@
 
 mod reading;
 
-pub use reading::{args, class_within, dims, primitive, type_within};
+pub use reading::{args_within, base_within, class_within, dims, primitive, type_within};

@@ -1,8 +1,10 @@
 -- Loops that read any number of a form, turn by turn.
-use Rattle.std.proofs.Common.{◌≡◌, ℕ, zero, suc, ◌<◌, ◌≤◌, min, List, [], ◌∷◌, ◌++◌, map, length, append_assoc, append-nil, refl, sym, ap, ◌∙◌, subst, arith}
+use Rattle.std.proofs.Common.{◌≡◌, Bool, true, false, ℕ, zero, suc, ◌<◌, ◌≤◌, min, List, [], ◌∷◌, ◌++◌, map, length, append_assoc, append-nil, refl, sym, ap, ◌∙◌, subst, ⊎_elim, arith}
+use Rattle.std.proofs.lemmas.Bool.{false≢true}
 use Rattle.jc_lexer.specs.declared.token.Token.{Token}
 use Rattle.jc_reading.specs.Reading.{Read, Found, Stopped, Run, found, noting, becoming, as_new, one_more, times, any_number}
-use Rattle.jc_reading.proofs.Steps.{Within}
+use Rattle.jc_reading.proofs.Steps.{Within, Good, within_becoming, within_noting, within_more}
+use Rattle.jc_reading.proofs.Forms.{Form, Stands, Lawful}
 
 -- what is read from here on, behind a list that is read already
 abbrev pub resume : {A : Type 0} → List A → ℕ → Read (List A) → Read (List A)
@@ -31,7 +33,7 @@ turn_stop whole list left m rest l (zero, e, s) r w =
 turn_stop whole list left m rest l (suc n, e, s) r w =
     s ∙ ap (λ (v : Read _). resume list left (one_more rest v (times n m))) r ∙ ap (λ (v : List _). Found v rest (min left l)) (append-nil list)
 
-noting_far : {A : Type 0} (k : ℕ) (m : Read A) → Within k m → m ≡ noting k m
+pub noting_far : {A : Type 0} (k : ℕ) (m : Read A) → Within k m → m ≡ noting k m
 noting_far k (Found a r l) w = let e : l ≡ min k l = omega (arith, w.0, w.1) in ap (λ j. Found a r j) e
 noting_far k (Stopped l) w = let e : l ≡ min k l = omega (arith, w) in ap (λ j. Stopped j) e
 
@@ -64,3 +66,50 @@ pub times_as : {A B : Type 0} (f : A → B) (n : ℕ) (m : Run A) (ts : List Tok
 unfolding times
 times_as f zero m ts = refl
 times_as f (suc n) m ts = as_one f n m ts (times_as f n m) (m ts)
+
+-- a reader that takes a token at least, and whose reach isn't before what it took
+pub record Advances (A : Type 0) (m : Run A) : Type 0 where
+  pub within : (ts : List Token) → Within (length ts) (m ts)
+  pub shorter : (ts : List Token) → Good (λ a r. length r < length ts) (m ts)
+
+shorter_good : {A : Type 0} (fa : Form A) (ts : List Token) (m : Read A) → ((a : A) (r : List Token) → Stands fa ts a r → length r < length ts) → Good (Stands fa ts) m → Good (λ a r. length r < length ts) m
+shorter_good fa ts (Found a r l) f g = f a r g
+shorter_good fa ts (Stopped l) f g = tt
+
+pub lawful_advances : (A : Type 0) (fa : Form A) → Lawful A fa → fa.empties ≡ false → Advances A fa.run
+lawful_advances A fa la solid = record {
+  within = la.within;
+  shorter = λ ts. shorter_good fa ts (fa.run ts) (λ a r s. ⊎_elim (λ o. o.1) (λ o. absurd (false≢true (sym solid ∙ o.1))) (la.opens ts a r s)) (la.sound ts);
+}
+
+shorter_as : {A B : Type 0} (f : A → B) (k : ℕ) (m : Read A) → Good (λ a r. length r < k) m → Good (λ a r. length r < k) (becoming f m)
+shorter_as f k (Found a r l) g = g
+shorter_as f k (Stopped l) g = g
+
+pub as_advances : (A B : Type 0) (f : A → B) (m : Run A) → Advances A m → Advances B (as_new f m)
+as_advances A B f m v = record {
+  within = λ ts. within_becoming (length ts) f (m ts) (v.within ts);
+  shorter = λ ts. shorter_as f (length ts) (m ts) (v.shorter ts);
+}
+
+module _ (A : Type 0) (m : Run A) (v : Advances A m) where
+  within_one : (ts : List Token) (r : Read A) (rest : List Token → Read (List A)) → Within (length ts) r → ((q : List Token) → Within (length q) (rest q)) → Within (length ts) (one_more ts r rest)
+  within_one ts (Found a q l) rest w f = within_noting l (length ts) (becoming (λ more. a ∷ more) (rest q)) (within_more (length q) (length ts) _ w.1 (within_becoming (length q) (λ more. a ∷ more) (rest q) (f q)))
+  within_one ts (Stopped l) rest w f = (w, omega arith)
+
+  within_times : (n : ℕ) (ts : List Token) → Within (length ts) (times n m ts)
+  unfolding times
+  within_times zero ts = (omega arith, omega arith)
+  within_times (suc n) ts = within_one ts (m ts) (times n m) (v.within ts) (within_times n)
+
+  pub loop_first : (ts : List Token) → Resumes (any_number m ts) [] (length ts) m ts
+  loop_first ts = turn_first m ts (within_times (length ts) ts)
+
+  pub loop_shorter : (ts q : List Token) (a : A) (l : ℕ) → m ts ≡ Found a q l → length q < length ts
+  loop_shorter ts q a l e = subst (λ (r : Read A). Good (λ a r. length r < length ts) r) e (v.shorter ts)
+
+  pub loop_next : (whole : Read (List A)) (list : List A) (left : ℕ) (ts q : List Token) (a : A) (l : ℕ) → Resumes whole list left m ts → m ts ≡ Found a q l → Resumes whole (list ++ a ∷ []) (min left l) m q
+  loop_next whole list left ts q a l s e = turn_next whole list left m ts q a l s e (loop_shorter ts q a l e)
+
+  pub loop_stop : (whole : Read (List A)) (list : List A) (left : ℕ) (ts : List Token) (l : ℕ) → Resumes whole list left m ts → m ts ≡ Stopped l → whole ≡ Found list ts (min left l)
+  loop_stop whole list left ts l s e = turn_stop whole list left m ts l s e (subst (λ (r : Read A). Within (length ts) r) e (v.within ts))

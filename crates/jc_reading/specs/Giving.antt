@@ -12,7 +12,11 @@ abbrev pub Halts : {A : Type 0} → Halt → Read A → Type 0
 Halts (halt_of.Stopped left) read = read ≡ reading.Stopped left
 Halts halt_of.WantOfMemory read = Unit {0}
 
+-- this is what is read
+abbrev pub Is : {A : Type 0} → Found A → Read A → Type 0
+Is f read = read ≡ reading.Found f.value f.rest.now f.left
+
 -- the answer is what is read, want of memory aside
 abbrev pub Gives : {A : Type 0} → Result (Found A) Halt → Read A → Type 0
-Gives (Ok f) read = read ≡ reading.Found f.value f.rest.now f.left
+Gives (Ok f) read = Is f read
 Gives (Err halt) read = Halts halt read

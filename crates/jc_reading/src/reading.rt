@@ -4,6 +4,7 @@ use std::alloc::{AllocError, AllocFailed};
 
 /// What was read: its value, the tokens behind it, and how many tokens are left from the reach on, which is the first token that
 /// may not stand there.
+#[derive(Drop)]
 pub struct Found<'a, T> {
     pub value: T,
     pub rest: &'a [Token],
