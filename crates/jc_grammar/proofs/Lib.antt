@@ -1,3 +1,5 @@
+mod Begun
+mod Worked
 pub mod Laws
 pub mod ShapesOfExpressions
 pub mod ShapesOfStatements
