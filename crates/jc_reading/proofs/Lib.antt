@@ -8,6 +8,7 @@ pub mod Lists
 pub mod Options
 pub mod Pairs
 pub mod Retests
+pub mod Places
 pub mod Rooms
 pub mod Signs
 pub mod Steps
