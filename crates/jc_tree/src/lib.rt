@@ -3,6 +3,7 @@
 
 mod copy;
 mod expression;
+mod fault;
 mod heights;
 mod name;
 mod offsets;
@@ -16,6 +17,7 @@ pub use expression::{
     ArrayInit, AssignOp, BinaryOp, Creation, Expr, Init, Literal, Operand, PostfixOp, PrefixOp,
     PrefixSign, Skip, SkipPart,
 };
+pub use fault::ParseFault;
 pub use heights::{array_height, class_height, expr_height, height, type_height};
 pub use name::Ident;
 pub use offsets::{

@@ -1,0 +1,2 @@
+pub mod TypeAnswers
+pub mod TypeReading

@@ -1,0 +1,15 @@
+pub mod Alikes
+pub mod Choices
+pub mod Codes
+pub mod Forms
+pub mod Kindly
+pub mod Ledby
+pub mod Lists
+pub mod Options
+pub mod Pairs
+pub mod Retests
+pub mod Places
+pub mod Rooms
+pub mod Signs
+pub mod Steps
+pub mod Turns

@@ -1,0 +1,8 @@
+//! Reading tokens from left to right: what was read, how single tokens are read, and the laws by which readers go together.
+#![tactic(auto)]
+
+mod reading;
+mod tokens;
+
+pub use reading::{Found, Halt};
+pub use tokens::{behind_key, behind_sign, identifier, place_of_key, place_of_sign};
