@@ -1,0 +1,5 @@
+pub mod Rows
+pub mod Slots
+pub mod Spelled
+pub mod Cases
+pub mod Marked
