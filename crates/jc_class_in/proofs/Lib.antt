@@ -3,3 +3,7 @@ pub mod Slots
 pub mod Spelled
 pub mod Cases
 pub mod Marked
+pub mod Taken
+pub mod Coded
+pub mod Framed
+pub mod Typed

@@ -1,1 +1,4 @@
 pub mod Gives
+pub mod Before
+pub mod Bodies
+pub mod Faults

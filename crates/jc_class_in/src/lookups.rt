@@ -5,6 +5,7 @@ ghost use Rattle.jc_class_out.specs.Spelling.{known};
 use jc_class_out::{Constant, Entry, Slot};
 
 /// A class, a name and a descriptor.
+#[derive(Clone, Copy)]
 pub struct Named<'a> {
     pub class: &'a [u16],
     pub name: &'a [u16],

@@ -1,4 +1,5 @@
-ghost use Rattle.std.specs.Prelude.{◌≡◌, ◌++◌, ◌-◌, OnOk, Ok, false, length, replicate};
+ghost use Rattle.std.specs.Prelude.{◌≡◌, ◌++◌, ◌<◌, OnOk, Ok, false, length, replicate};
+ghost use Rattle.std.specs.Bool.{OnTrue};
 ghost use Rattle.jc_class_out.specs.Frames.{begins};
 ghost use Rattle.jc_class_out.specs.Code.{marks_of, lands, cases_land, all_land, ends};
 ghost use Rattle.jc_class_in.specs.Gives.{Gives};
@@ -11,7 +12,8 @@ use std::alloc::Global;
 
 /// Whether an instruction begins there.
 pub fn begins_at(marks: &[bool], to: usize) -> bool
-    ensures { result ≡ begins marks.now to }
+    ensures value { result ≡ begins marks.now to }
+    ensures within { OnTrue result (to < length marks.now) }
 {
     match marks.get(to) {
         Some(mark) => *mark,
