@@ -33,7 +33,6 @@ fn type_item(alloc: Global, units: &[u16]) -> Result<Item, Stop<Flaw>>
 }
 
 /// What the values of so many types at most are, behind those that are there.
-#[tactic(auto, using(crate::proofs::Typed::items_over, crate::proofs::Typed::items_out))]
 fn put_types(
     alloc: Global,
     list: Items<Item>,
@@ -49,7 +48,8 @@ fn put_types(
             None => return Ok(list),
             Some(after) => {
                 let (first, _) = rest.split_at(rest.len().saturating_sub(after.len()));
-                list.push(type_item(alloc, first)?)?;
+                let next = type_item(alloc, first)?;
+                list.push(next)?;
                 rest = after;
             }
         }

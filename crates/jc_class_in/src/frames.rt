@@ -113,12 +113,18 @@ fn wide_place<'a>(marks: &[bool], before: Option<u32>, bytes: &'a [u8]) -> Read<
     Ok((at, rest))
 }
 
+fn copied(item: &Item) -> Result<Item, Stop<Flaw>>
+    ensures { Gives (λ x. x) result (Ok item.now) }
+{
+    Ok(item.clone()?)
+}
+
 fn copy_of(alloc: Global, items: &[Item]) -> Result<Items<Item>, Stop<Flaw>>
     ensures { Gives (λ x. x) result (Ok items.now) }
 {
     let mut list = Items::new(alloc);
     for item in items {
-        list.push(item.clone()?)?;
+        list.push(copied(item)?)?;
     }
     Ok(list)
 }
