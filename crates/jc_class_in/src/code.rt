@@ -31,12 +31,7 @@ pub fn spells(units: &[u16], word: &str) -> bool
 
 /// The name of an attribute, which has to be the wanted one, and its length.
 #[tactic(auto, unfolding(jc_class_out::specs::Code::attribute_at))]
-pub fn attribute<'a>(
-    alloc: Global,
-    pool: &[Slot],
-    word: &str,
-    bytes: &'a [u8],
-) -> Read<'a, u32>
+pub fn attribute<'a>(alloc: Global, pool: &[Slot], word: &str, bytes: &'a [u8]) -> Read<'a, u32>
     ensures { Gives (λ x. (x.0, x.1.now)) result (attribute_at pool.now word.now bytes.now) }
 {
     let (name, rest) = name(alloc, pool, bytes)?;
@@ -60,12 +55,7 @@ pub fn check_end(told: u32, start: &[u8], end: &[u8]) -> Result<(), Stop<Flaw>>
 
 /// No attribute more; so many are told of.
 #[tactic(auto, unfolding(jc_class_out::specs::Code::no_more_at))]
-pub fn no_more<'a>(
-    alloc: Global,
-    pool: &[Slot],
-    count: u16,
-    bytes: &'a [u8],
-) -> Read<'a, u8>
+pub fn no_more<'a>(alloc: Global, pool: &[Slot], count: u16, bytes: &'a [u8]) -> Read<'a, u8>
     ensures { Gives (λ x. (x.0, x.1.now)) result (no_more_at pool.now count bytes.now) }
 {
     if count == 0 {
@@ -77,12 +67,7 @@ pub fn no_more<'a>(
 
 /// Instructions, until their bytes reach the length.
 #[tactic(auto, using(crate::proofs::Coded::code_stops, crate::proofs::Coded::code_over, crate::proofs::Coded::code_out))]
-fn instructions<'a>(
-    alloc: Global,
-    pool: &[Slot],
-    len: u32,
-    bytes: &'a [u8],
-) -> Read<'a, Items<Ins>>
+fn instructions<'a>(alloc: Global, pool: &[Slot], len: u32, bytes: &'a [u8]) -> Read<'a, Items<Ins>>
     ensures { Gives (λ x. (x.0, x.1.now)) result (code_on pool.now (length bytes.now) len len bytes.now) }
 {
     let start = bytes.len();
@@ -118,21 +103,13 @@ fn body<'a>(alloc: Global, pool: &[Slot], bytes: &'a [u8]) -> Read<'a, Items<Ins
 }
 
 #[tactic(auto, unfolding(jc_class_out::specs::Code::handler_at))]
-fn handler<'a>(
-    alloc: Global,
-    pool: &[Slot],
-    marks: &[bool],
-    bytes: &'a [u8],
-) -> Read<'a, Handler>
+fn handler<'a>(alloc: Global, pool: &[Slot], marks: &[bool], bytes: &'a [u8]) -> Read<'a, Handler>
     ensures { Gives (λ x. (x.0, x.1.now)) result (handler_at pool.now marks.now bytes.now) }
 {
     let (from, rest) = u2(bytes)?;
     want(begins_at(marks, usize::from(from)), bytes.len())?;
     let (to, behind) = u2(rest)?;
-    want(
-        ends_at(marks, usize::from(to)) && from < to,
-        rest.len(),
-    )?;
+    want(ends_at(marks, usize::from(to)) && from < to, rest.len())?;
     let (at, last) = u2(behind)?;
     want(begins_at(marks, usize::from(at)), behind.len())?;
     let (class, rest) = class_or_none(alloc, pool, last)?;

@@ -266,11 +266,27 @@ fn frame_behind<'a>(
     } else if tag == 247 {
         same_item_extended(alloc, pool, marks, before, locals, bytes)
     } else if tag < 251 {
-        chop(alloc, marks, before, locals, left, 251 - usize::from(tag), bytes)
+        chop(
+            alloc,
+            marks,
+            before,
+            locals,
+            left,
+            251 - usize::from(tag),
+            bytes,
+        )
     } else if tag == 251 {
         same_extended(alloc, marks, before, locals, bytes)
     } else if tag < 255 {
-        append(alloc, pool, marks, before, locals, u16::from(tag) - 251, bytes)
+        append(
+            alloc,
+            pool,
+            marks,
+            before,
+            locals,
+            u16::from(tag) - 251,
+            bytes,
+        )
     } else {
         full(alloc, pool, marks, before, bytes)
     }
@@ -333,7 +349,14 @@ fn next_frame<'a>(
 {
     match frames.last() {
         None => frame(alloc, pool, marks, None, entry, bytes),
-        Some(last) => frame(alloc, pool, marks, Some(last.at), last.locals.slice(), bytes),
+        Some(last) => frame(
+            alloc,
+            pool,
+            marks,
+            Some(last.at),
+            last.locals.slice(),
+            bytes,
+        ),
     }
 }
 

@@ -108,12 +108,7 @@ fn narrow<'a>(
 
 /// The instruction at that place of its code.
 #[tactic(auto, unfolding(jc_class_out::specs::Instructions::ins_at))]
-pub fn instruction<'a>(
-    alloc: Global,
-    pool: &[Slot],
-    at: u32,
-    bytes: &'a [u8],
-) -> Read<'a, Ins>
+pub fn instruction<'a>(alloc: Global, pool: &[Slot], at: u32, bytes: &'a [u8]) -> Read<'a, Ins>
     ensures { Gives (λ x. (x.0, x.1.now)) result (ins_at pool.now at bytes.now) }
 {
     let (code, rest) = u1(bytes)?;

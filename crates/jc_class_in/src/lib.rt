@@ -18,6 +18,8 @@ mod operands;
 mod reader;
 mod sizes;
 mod switches;
+#[cfg(test)]
+mod tests;
 mod texts;
 
 pub use fault::ClassFault;

@@ -88,11 +88,13 @@ fn field(pool: &[Slot], class: u16, pair: u16) -> Option<Constant<'_>>
     ensures { MatchOption result (known_of_entry pool.now (Entry.Field class pair) ≡ None) (λ k. known_of_entry pool.now (Entry.Field class pair) ≡ Some (known k)) }
 {
     match member(pool, class, pair) {
-        Some(Named {
-            class,
-            name,
-            descriptor,
-        }) => Some(Constant::Field {
+        Some(
+            Named {
+                class,
+                name,
+                descriptor,
+            },
+        ) => Some(Constant::Field {
             class,
             name,
             descriptor,
@@ -106,11 +108,13 @@ fn method(pool: &[Slot], class: u16, pair: u16) -> Option<Constant<'_>>
     ensures { MatchOption result (known_of_entry pool.now (Entry.Method class pair) ≡ None) (λ k. known_of_entry pool.now (Entry.Method class pair) ≡ Some (known k)) }
 {
     match member(pool, class, pair) {
-        Some(Named {
-            class,
-            name,
-            descriptor,
-        }) => Some(Constant::Method {
+        Some(
+            Named {
+                class,
+                name,
+                descriptor,
+            },
+        ) => Some(Constant::Method {
             class,
             name,
             descriptor,
@@ -124,11 +128,13 @@ fn interface(pool: &[Slot], class: u16, pair: u16) -> Option<Constant<'_>>
     ensures { MatchOption result (known_of_entry pool.now (Entry.Interface class pair) ≡ None) (λ k. known_of_entry pool.now (Entry.Interface class pair) ≡ Some (known k)) }
 {
     match member(pool, class, pair) {
-        Some(Named {
-            class,
-            name,
-            descriptor,
-        }) => Some(Constant::Interface {
+        Some(
+            Named {
+                class,
+                name,
+                descriptor,
+            },
+        ) => Some(Constant::Interface {
             class,
             name,
             descriptor,

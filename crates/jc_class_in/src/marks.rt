@@ -63,12 +63,7 @@ fn check_cases(marks: &[bool], left: usize, cases: &[SwitchCase]) -> Result<(), 
 }
 
 /// Tests where the instruction goes; so many bytes are left from it on.
-fn check_jump(
-    marks: &[bool],
-    left: usize,
-    at: usize,
-    operand: &Operand,
-) -> Result<(), Stop<Flaw>>
+fn check_jump(marks: &[bool], left: usize, at: usize, operand: &Operand) -> Result<(), Stop<Flaw>>
     ensures { Gives (λ _. 0) result (lands marks.now left at operand.now) }
 {
     match operand {

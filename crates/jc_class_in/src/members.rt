@@ -7,9 +7,7 @@ ghost use Rattle.jc_class_in.specs.Bodies.{body_by};
 use crate::code::{attribute, check_end, code, no_more};
 use crate::descriptors::locals_at_entry;
 use crate::many::{Part, counted_row};
-use crate::names::{
-    class_name, class_or_none, name, name_or_none, type_of_field, type_of_method,
-};
+use crate::names::{class_name, class_or_none, name, name_or_none, type_of_field, type_of_method};
 use crate::numbers::{Read, u2, want};
 use jc_class_out::{
     ClassModel, CodeModel, FieldModel, Flaw, InnerModel, Item, MethodModel, Slot, without_body,
@@ -102,11 +100,7 @@ fn with_code<'a>(
 }
 
 #[tactic(auto, unfolding(jc_class_out::specs::Format::without_code_at))]
-fn without_code<'a>(
-    alloc: Global,
-    pool: &[Slot],
-    bytes: &'a [u8],
-) -> Read<'a, Option<CodeModel>>
+fn without_code<'a>(alloc: Global, pool: &[Slot], bytes: &'a [u8]) -> Read<'a, Option<CodeModel>>
     ensures { Gives (λ x. (x.0, x.1.now)) result (without_code_at pool.now bytes.now) }
 {
     let (count, rest) = u2(bytes)?;
@@ -136,12 +130,7 @@ fn body<'a>(
 
 /// A method (JVMS 4.6) of the class of that name.
 #[tactic(auto, unfolding(jc_class_out::specs::Format::method_at))]
-fn method<'a>(
-    alloc: Global,
-    pool: &[Slot],
-    class: &[u16],
-    bytes: &'a [u8],
-) -> Read<'a, MethodModel>
+fn method<'a>(alloc: Global, pool: &[Slot], class: &[u16], bytes: &'a [u8]) -> Read<'a, MethodModel>
     ensures { Gives (λ x. (x.0, x.1.now)) result (method_at pool.now class.now bytes.now) }
 {
     let (flags, rest) = u2(bytes)?;
@@ -220,11 +209,7 @@ impl Part for InnerPart<'_> {
 
 /// The attribute InnerClasses.
 #[tactic(auto, unfolding(jc_class_out::specs::Format::inners_at))]
-fn inner_classes<'a>(
-    alloc: Global,
-    pool: &[Slot],
-    bytes: &'a [u8],
-) -> Read<'a, Items<InnerModel>>
+fn inner_classes<'a>(alloc: Global, pool: &[Slot], bytes: &'a [u8]) -> Read<'a, Items<InnerModel>>
     ensures { Gives (λ x. (x.0, x.1.now)) result (inners_at pool.now bytes.now) }
 {
     let (told, start) = attribute(alloc, pool, "InnerClasses", bytes)?;

@@ -60,11 +60,13 @@ fn field(alloc: Global, pool: &[Slot], index: u16, left: usize) -> Result<Operan
     ensures { Gives (λ x. x) result (field_by (known_of pool.now index) (Index left)) }
 {
     match constant(pool, index) {
-        Some(Constant::Field {
-            class,
-            name,
-            descriptor,
-        }) => member(alloc, class, name, descriptor),
+        Some(
+            Constant::Field {
+                class,
+                name,
+                descriptor,
+            },
+        ) => member(alloc, class, name, descriptor),
         _ => Err(Stop::Refused(Flaw::Index(left))),
     }
 }
@@ -73,11 +75,13 @@ fn method(alloc: Global, pool: &[Slot], index: u16, left: usize) -> Result<Opera
     ensures { Gives (λ x. x) result (method_by (known_of pool.now index) (Index left)) }
 {
     match constant(pool, index) {
-        Some(Constant::Method {
-            class,
-            name,
-            descriptor,
-        }) => member(alloc, class, name, descriptor),
+        Some(
+            Constant::Method {
+                class,
+                name,
+                descriptor,
+            },
+        ) => member(alloc, class, name, descriptor),
         _ => Err(Stop::Refused(Flaw::Index(left))),
     }
 }
@@ -98,11 +102,13 @@ fn interface(
     ensures { Gives (λ x. (x.0, x.1)) result (interface_by (known_of pool.now index) (Index left)) }
 {
     match constant(pool, index) {
-        Some(Constant::Interface {
-            class,
-            name,
-            descriptor,
-        }) => {
+        Some(
+            Constant::Interface {
+                class,
+                name,
+                descriptor,
+            },
+        ) => {
             let operand = member(alloc, class, name, descriptor)?;
             Ok((operand, units_or_zero(descriptor)))
         }
