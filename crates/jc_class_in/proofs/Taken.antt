@@ -1,8 +1,8 @@
 -- How many bytes an instruction takes that was read.
-use Rattle.std.proofs.Common.{◌≡◌, ◌<◌, ◌≤◌, ◌==◌, ℕ, ℤ, pos, zero, suc, ◌+◌, ◌-◌, ◌*◌, ◌^◌, Bool, true, false, List, [], ◌∷◌, length, drop, Option, Some, None, Result, Ok, Err, refl, sym, ap, subst, ◌∙◌, arith}
+use Rattle.std.proofs.Common.{◌≡◌, ◌≤◌, ◌==◌, ℕ, ℤ, pos, zero, suc, ◌+◌, ◌-◌, ◌*◌, ◌^◌, Bool, true, false, List, [], ◌∷◌, length, Option, Some, None, Result, Ok, Err, refl, ap, subst, ◌∙◌, arith}
 use Rattle.std.specs.Prelude.{nat_lt, nat_le, not, if◌then◌else◌}
 use Rattle.std.specs.Int.{Width, w8, w16, w32, byte_len, cast_signed}
-use Rattle.std.proofs.lemmas.Bool.{ltb-false, eqb-true, leb-true}
+use Rattle.std.proofs.lemmas.Bool.{ltb-false}
 use Rattle.std.proofs.lemmas.List.{length-drop}
 use Rattle.jc_class_out.specs.declared.format.Flaw.{Flaw}
 use Rattle.jc_class_out.specs.declared.format.Flaw.TheVariants.{Tag, Index}

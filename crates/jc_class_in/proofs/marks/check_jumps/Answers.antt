@@ -1,4 +1,4 @@
-use Rattle.std.proofs.Common.{◌≡◌, ◌+◌, ◌-◌, ◌<◌, ◌^◌, length, arith, rules, ap}
+use Rattle.std.proofs.Common.{◌≡◌, ◌-◌, ◌<◌, ◌^◌, length, arith, rules}
 use Rattle.jc_class_out.specs.Instructions.{ins_size}
 use Rattle.jc_class_out.specs.Code.{all_land}
 use Rattle.jc_class_in.proofs.Marked.{size_first, land_more}
