@@ -7,3 +7,4 @@ pub mod Taken
 pub mod Coded
 pub mod Framed
 pub mod Typed
+pub mod Sorted

@@ -1,12 +1,14 @@
-ghost use Rattle.std.specs.Prelude.{◌≡◌, None};
+ghost use Rattle.std.specs.Prelude.{◌≡◌, None, map};
 ghost use Rattle.jc_class_out.specs.Descriptors.{is_field_descriptor, is_method_descriptor};
-ghost use Rattle.jc_class_out.specs.Pool.{two_at, entry_by, entry_at, slot_at, slots_at, text_is, pair_is, is_descriptor, text_of, pair_of, check_member, check_entry, check_slot, checked, pool_at};
+ghost use Rattle.jc_class_out.specs.Pool.{two_at, entry_by, entry_at, slot_at, slots_at, check_member, check_slot, checked, pool_at};
 ghost use Rattle.jc_class_in.specs.Gives.{Gives};
+ghost use Rattle.jc_class_in.specs.Sorts.{sort_of};
 
 use crate::lookups;
 use crate::numbers::{Read, u1, u2, u4, u8_of_eight, want};
+use crate::sorts::{Sort, names_descriptor, pair_of_field, pair_of_method, sorts};
 use crate::texts::text;
-use jc_class_out::{Entry, Flaw, Slot, field_descriptor, method_descriptor};
+use jc_class_out::{Entry, Flaw, Slot};
 use jc_rules::Stop;
 use std::alloc::Global;
 
@@ -116,84 +118,67 @@ fn slots(alloc: Global, count: u16, bytes: &[u8]) -> Read<'_, Vec<Slot>>
     Ok((slots, rest))
 }
 
-fn descriptor(units: &[u16]) -> bool
-    ensures { result ≡ is_descriptor units.now }
-{
-    field_descriptor(units) || method_descriptor(units)
-}
-
-/// Whether the entry of that number is a descriptor.
-fn names_descriptor(pool: &[Slot], index: u16) -> bool
-    ensures { result ≡ text_is is_descriptor (text_of pool.now index) }
-{
-    match lookups::text(pool, index) {
-        Some(units) => descriptor(units),
-        None => false,
-    }
-}
-
-/// Whether the descriptor of the pair is one of a field, as far as it is there.
-fn pair_of_field(pool: &[Slot], index: u16) -> bool
-    ensures { result ≡ pair_is is_field_descriptor (pair_of pool.now index) }
-{
-    match lookups::pair(pool, index) {
-        Some((_, units)) => field_descriptor(units),
-        None => true,
-    }
-}
-
-/// The same of a method.
-fn pair_of_method(pool: &[Slot], index: u16) -> bool
-    ensures { result ≡ pair_is is_method_descriptor (pair_of pool.now index) }
-{
-    match lookups::pair(pool, index) {
-        Some((_, units)) => method_descriptor(units),
-        None => true,
-    }
-}
-
-fn check_field(pool: &[Slot], left: usize, class: u16, pair: u16) -> Result<(), Stop<Flaw>>
+fn check_field(
+    pool: &[Slot],
+    sorts: &[Sort],
+    left: usize,
+    class: u16,
+    pair: u16,
+) -> Result<(), Stop<Flaw>>
+    requires { sorts.now ≡ map sort_of pool.now }
     ensures { Gives (λ _. 0) result (check_member pool.now left is_field_descriptor class pair) }
 {
     want(lookups::tag(pool, class) == 7, left.saturating_sub(1))?;
-    let fits = lookups::tag(pool, pair) == 12 && pair_of_field(pool, pair);
+    let fits = lookups::tag(pool, pair) == 12 && pair_of_field(pool, sorts, pair);
     want(fits, left.saturating_sub(3))
 }
 
-fn check_method(pool: &[Slot], left: usize, class: u16, pair: u16) -> Result<(), Stop<Flaw>>
+fn check_method(
+    pool: &[Slot],
+    sorts: &[Sort],
+    left: usize,
+    class: u16,
+    pair: u16,
+) -> Result<(), Stop<Flaw>>
+    requires { sorts.now ≡ map sort_of pool.now }
     ensures { Gives (λ _. 0) result (check_member pool.now left is_method_descriptor class pair) }
 {
     want(lookups::tag(pool, class) == 7, left.saturating_sub(1))?;
-    let fits = lookups::tag(pool, pair) == 12 && pair_of_method(pool, pair);
+    let fits = lookups::tag(pool, pair) == 12 && pair_of_method(pool, sorts, pair);
     want(fits, left.saturating_sub(3))
 }
 
 /// Tests the numbers in an entry, from left to right.
 #[tactic(auto, unfolding(jc_class_out::specs::Pool::check_slot))]
-fn check(pool: &[Slot], slot: &Slot) -> Result<(), Stop<Flaw>>
+fn check(pool: &[Slot], sorts: &[Sort], slot: &Slot) -> Result<(), Stop<Flaw>>
+    requires { sorts.now ≡ map sort_of pool.now }
     ensures { Gives (λ _. 0) result (check_slot pool.now slot.now) }
 {
     let left = slot.left;
     match &slot.entry {
         Entry::Class(name) => want(lookups::tag(pool, *name) == 1, left.saturating_sub(1)),
         Entry::Literal(text) => want(lookups::tag(pool, *text) == 1, left.saturating_sub(1)),
-        Entry::Field { class, pair } => check_field(pool, left, *class, *pair),
-        Entry::Method { class, pair } => check_method(pool, left, *class, *pair),
-        Entry::Interface { class, pair } => check_method(pool, left, *class, *pair),
+        Entry::Field { class, pair } => check_field(pool, sorts, left, *class, *pair),
+        Entry::Method { class, pair } => check_method(pool, sorts, left, *class, *pair),
+        Entry::Interface { class, pair } => check_method(pool, sorts, left, *class, *pair),
         Entry::Pair { name, descriptor } => {
             want(lookups::tag(pool, *name) == 1, left.saturating_sub(1))?;
-            want(names_descriptor(pool, *descriptor), left.saturating_sub(3))
+            want(
+                names_descriptor(pool, sorts, *descriptor),
+                left.saturating_sub(3),
+            )
         }
         _ => Ok(()),
     }
 }
 
 #[tactic(auto, unfolding(jc_class_out::specs::Pool::checked))]
-fn check_all(pool: &[Slot]) -> Result<(), Stop<Flaw>>
+fn check_all(alloc: Global, pool: &[Slot]) -> Result<(), Stop<Flaw>>
     ensures { Gives (λ _. 0) result (checked pool.now pool.now) }
 {
+    let sorts = sorts(alloc, pool)?;
     for slot in pool {
-        check(pool, slot)?;
+        check(pool, &sorts, slot)?;
     }
     Ok(())
 }
@@ -208,6 +193,6 @@ pub fn pool(alloc: Global, bytes: &[u8]) -> Read<'_, Vec<Slot>>
         return Err(Stop::Refused(Flaw::Index(bytes.len())));
     }
     let (slots, rest) = slots(alloc, count - 1, rest)?;
-    check_all(&slots)?;
+    check_all(alloc, &slots)?;
     Ok((slots, rest))
 }

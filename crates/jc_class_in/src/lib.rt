@@ -17,6 +17,7 @@ mod numbers;
 mod operands;
 mod reader;
 mod sizes;
+mod sorts;
 mod switches;
 #[cfg(test)]
 mod tests;
