@@ -3,6 +3,13 @@ class Square implements Shape {
     private final int side;
     Square(int side) { this.side = side; }
     public int area(int scale) { return side * side * scale; }
+    int steps(int most) {
+        int n = 0;
+        while (n < most && n != side) {
+            switch (n) { case 7: n += 3; break; case 900: n = -1; break; default: n++; }
+        }
+        return n;
+    }
     static class Unit extends Square { Unit() { super(1); } public int area(int scale) { return super.area(scale) + 1; } }
 }
 class Main {
@@ -19,7 +26,7 @@ class Main {
     static char[] chars(String s) { char[] cs = new char[s.length()]; for (int i = 0; i < cs.length; i++) cs[i] = (char) (s.charAt(i) + 1); return cs; }
     public static void main(String[] args) {
         Shape[] shapes = { new Square(3), new Square.Unit() };
-        for (Shape s : shapes) System.out.println(s.area(2) + " " + (s instanceof Square.Unit));
+        for (Shape s : shapes) System.out.println(s.area(2) + " " + ((Square) s).steps(5) + (s instanceof Square.Unit));
         System.out.println(pick(-5) + pick(100) + pick(70000) + pick(0) + dense(2) + dense(5));
         System.out.println(sum(1000) + " " + caught(null) + " " + caught(names) .equals("x") + total);
         System.out.println(grid(5)[3][4] + new String(chars("abc\u0000\u00e9\u4e2d")).length() + names[1]);

@@ -96,7 +96,7 @@ def check_written(tool, made, wide, again):
 
 def check_fuzz(tool, folder):
     """Each byte changed to each other value: every answer is a class or a stated fault."""
-    name = "Main.class"
+    name = "Square.class"
     size = os.path.getsize(os.path.join(folder, name))
     line = told(tool, folder, ["--fuzz", name])[0]
     counts = {word: int(number) for number, word in re.findall(r"(\d+) ([A-Za-z ]+)", line)}

@@ -94,6 +94,8 @@ impl Tally {
             text,
             memory,
         } = *self;
-        format!(in alloc; "{read} read, {short} Short, {head} Magic or Version, {tag} Tag, {index} Index, {opcode} Opcode, {trailing} Trailing, {text} Text, {memory} out of memory")
+        format!(in alloc;
+            "{read} read, {short} Short, {head} Magic or Version, {tag} Tag, {index} Index, {opcode} Opcode, {trailing} Trailing, {text} Text, {memory} out of memory"
+        )
     }
 }
