@@ -13,6 +13,7 @@ import subprocess
 import sys
 import tempfile
 
+sys.dont_write_bytecode = True
 from widen import pool_of, u2, widened
 
 HERE = os.path.dirname(os.path.abspath(__file__))
