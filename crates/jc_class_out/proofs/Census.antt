@@ -23,8 +23,8 @@ use Rattle.jc_class_out.specs.Pool.{Known}
 use Rattle.jc_class_out.specs.Instructions.{kind_of}
 use Rattle.jc_class_out.specs.Code.{marks_of, size_from}
 use Rattle.jc_class_out.specs.Format.{is_bodiless}
-use Rattle.jc_class_out.specs.Spelling.{Told, same_known, has, add, adds, class_uses, class_or_none_uses, name_or_none_uses, loaded_uses, member_uses, operand_uses, ins_uses, first_uses, ins_first_uses, is_load, handler_uses, item_uses, frame_uses, table_uses, code_uses, code_or_none_uses, method_uses, code_first_uses, method_first_uses, field_uses, inner_uses, inners_uses, members_uses, loads_of, uses}
-use Rattle.jc_class_out.specs.Fitting.{known_fits, places, is_u16, is_count, items_fit, frame_fits, frames_fit, all_fit, ins_lands, ins_all_fit, item_fits, handler_fits, frames_within, frames_room, tables_fit, code_fits, code_or_none_fits, method_fits, field_fits, inner_fits, counts_fit, members_fit, is_behind}
+use Rattle.jc_class_out.specs.Spelling.{Told, same_known, has, add, adds, uses}
+use Rattle.jc_class_out.specs.Fitting.{known_fits, places}
 use Rattle.jc_class_out.specs.FinderSees.{FinderSees, CensusSees}
 use Rattle.jc_class_out.proofs.Numbers.{both_true}
 use Rattle.jc_class_out.proofs.Known.{has_pool}

@@ -22,10 +22,10 @@ use Rattle.jc_class_out.specs.declared.model.SwitchCase.{SwitchCase}
 use Rattle.jc_class_out.specs.Reading.{◌>>=◌, wants, u8_at, number_at, listed}
 use Rattle.jc_class_out.specs.Pool.{Known, KnownText, KnownClass, class_or_none_at, named_at}
 use Rattle.jc_class_out.specs.Instructions.{kind_of, ins_at, ins_size, wide_size, operand_size, padding}
-use Rattle.jc_class_out.specs.Frames.{begins, offset_item_at, item_by, item_at, place_of, place_at, full_at, frame_by, frame_at, frames_at, table_at}
+use Rattle.jc_class_out.specs.Frames.{begins}
 use Rattle.jc_class_out.specs.Code.{attribute_at, attribute_ends, no_more_at, code_on, marks_from, marks_of, size_from, cases_land, lands, all_land, body_at, ends, handler_at, frames_of_at, code_attributes_at, code_at}
-use Rattle.jc_class_out.specs.Spelling.{has, number, index, ins_uses, ins_first_uses, handler_uses, item_uses, frame_uses, table_uses, code_uses, counted, spell_ins, spell_code, spell_body, spell_handler, spell_class_or_none, spell_item, delta_of, spell_frame, spell_frames, spell_attribute, spell_table, spell_code_attributes, spell_code_model}
-use Rattle.jc_class_out.specs.Fitting.{is_u16, is_count, ins_fits, all_fit, case_lands, operand_lands, ins_lands, handler_fits, item_fits, is_behind, items_fit, frame_fits, frames_fit, item_length, items_length, frame_length, frames_within, frames_room, ins_all_fit, tables_fit, code_fits}
+use Rattle.jc_class_out.specs.Spelling.{has, number, index, ins_uses, ins_first_uses, counted, spell_ins, spell_code, spell_body, spell_handler, spell_class_or_none}
+use Rattle.jc_class_out.specs.Fitting.{is_u16, is_count, ins_fits, all_fit, case_lands, operand_lands, ins_lands, handler_fits, ins_all_fit}
 use Rattle.jc_class_out.proofs.Numbers.{both_true, u2_again, u4_again, whole_u2, whole_u4, EachAgain, listed_again}
 use Rattle.jc_class_out.proofs.Served.{Serves, index_again, class_again, named_again, HasClass, class_or_none_again}
 use Rattle.jc_class_out.proofs.InsAgain.{Have, Low, Reaches, InsAgain, ins_again}

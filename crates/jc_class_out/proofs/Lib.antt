@@ -3,6 +3,7 @@ pub mod ClassAgain
 pub mod CodeAgain
 pub mod Codes
 pub mod FileAgain
+pub mod FramesAgain
 pub mod InsAgain
 pub mod Known
 pub mod Marks
@@ -11,6 +12,7 @@ pub mod Numbers
 pub mod PoolAgain
 pub mod Pools
 pub mod Served
+pub mod Shortest
 pub mod Tellings
 pub mod TextsAgain
 pub mod UsesClosed

@@ -7,9 +7,13 @@ ghost use Rattle.jc_class_out.specs.Instructions.{target, is_above, operand_size
 ghost use Rattle.jc_class_out.specs.Frames.{begins};
 ghost use Rattle.jc_class_out.specs.Code.{marks_of, marks_from, size_from, ends};
 ghost use Rattle.jc_class_out.specs.Format.{is_bodiless};
-ghost use Rattle.jc_class_out.specs.Fitting.{IsSize, ItemsTake, FrameTakes, is_u8, is_u16, is_signed, is_count, text_fits, known_fits, is_nothing, is_number, is_array_number, is_array, is_local_below, is_step_below, is_loaded, is_load_of, is_load_long, is_member, is_interface_member, is_class_operand, is_dims, is_jump_from, cases_ascend, is_switch, operand_fits, wide_fits, ins_fits, all_fit, case_lands, operand_lands, ins_lands, handler_fits, item_fits, is_behind, items_fit, frame_fits, frames_fit, item_length, items_length, frame_length, frames_within, frames_room, ins_all_fit, tables_fit, code_fits, code_or_none_fits, method_fits, field_fits, inner_fits, counts_fit, members_fit};
+ghost use Rattle.jc_class_out.specs.Forms.{start_locals, place_before, locals_before};
+ghost use Rattle.jc_class_out.specs.Fitting.{IsSize, ItemsTake, FormTakes, FrameTakes, is_u8, is_u16, is_signed, is_count, text_fits, known_fits, is_nothing, is_number, is_array_number, is_array, is_local_below, is_step_below, is_loaded, is_load_of, is_load_long, is_member, is_interface_member, is_class_operand, is_dims, is_jump_from, cases_ascend, is_switch, operand_fits, wide_fits, ins_fits, all_fit, case_lands, operand_lands, ins_lands, handler_fits, item_fits, is_behind, items_fit, form_fits, frame_fits, frames_fit, item_length, items_length, form_length, frame_length, frames_within, frames_room, ins_all_fit, tables_fit, code_fits, code_or_none_fits, method_fits, field_fits, inner_fits, counts_fit, members_fit};
 
 use crate::descriptors::{field_descriptor, method_descriptor, units_of_parameters};
+use crate::forms::{
+    Before, Form, Start, delta, head_bytes, locals_in, place, shortest, stack_in, start_of,
+};
 use crate::kinds::{array_code, kind};
 use crate::writing::{gap, way};
 use crate::{
@@ -494,28 +498,38 @@ fn items(list: &[Ins], items: &[Item]) -> Option<u64>
     }
 }
 
-/// How many bytes the frame takes, where it fits.
-#[tactic(auto, unfolding(crate::specs::Fitting::frame_fits))]
-fn frame(list: &[Ins], before: Option<u32>, frame: &Frame) -> Option<u64>
+/// How many bytes the frame takes in that form, where its items fit.
+#[tactic(auto, unfolding(crate::specs::Fitting::form_fits, crate::specs::Fitting::form_length))]
+fn form_bytes(list: &[Ins], by: u32, frame: &Frame, form: Form) -> Option<u64>
     requires { all_fit 0 list.now ≡ true }
-    ensures { MatchOption result (frame_fits (marks_of list.now) before frame.now ≡ false) (λ n. FrameTakes (marks_of list.now) before frame.now n) }
+    ensures { MatchOption result (form_fits (marks_of list.now) frame.now form ≡ false) (λ n. FormTakes (marks_of list.now) by frame.now form n) }
 {
-    if !begins_at(list, frame.at) || !behind(before, frame.at) {
+    let locals = items(list, locals_in(frame, form))?;
+    let stack = items(list, stack_in(frame, form))?;
+    Some(head_bytes(by, form) + (locals + stack))
+}
+
+/// How many bytes the frame takes, where it fits.
+#[tactic(auto, unfolding(crate::specs::Fitting::frame_fits, crate::specs::Fitting::frame_length))]
+fn frame(list: &[Ins], before: Before<'_>, frame: &Frame) -> Option<u64>
+    requires { all_fit 0 list.now ≡ true }
+    ensures { MatchOption result (frame_fits (marks_of list.now) (place_before before.entry) (locals_before before.entry) frame.now ≡ false) (λ n. FrameTakes (marks_of list.now) (place_before before.entry) (locals_before before.entry) frame.now n) }
+{
+    let at = place(before);
+    if !begins_at(list, frame.at) || !behind(at, frame.at) {
         return None;
     }
-    let locals = items(list, frame.locals.slice())?;
-    let stack = items(list, frame.stack.slice())?;
-    Some(7 + (locals + stack))
+    form_bytes(list, delta(at, frame.at), frame, shortest(before, frame))
 }
 
 /// Whether the frames fit, and take at most so many bytes.
 #[tactic(auto, unfolding(crate::specs::Fitting::frames_fit, crate::specs::Fitting::frames_within))]
-fn frames(list: &[Ins], room: u64, table: &[Frame]) -> bool
+fn frames(list: &[Ins], room: u64, start: Start<'_>, table: &[Frame]) -> bool
     requires { all_fit 0 list.now ≡ true }
-    ensures { result ≡ (frames_fit (marks_of list.now) None table.now && frames_within room table.now) }
+    ensures { result ≡ (frames_fit (marks_of list.now) None (start_locals start.entry) table.now && frames_within room None (start_locals start.entry) table.now) }
 {
     let mut left = room;
-    let mut before = None;
+    let mut before = Before::Entry(start);
     for one in table {
         match frame(list, before, one) {
             None => return false,
@@ -526,16 +540,16 @@ fn frames(list: &[Ins], room: u64, table: &[Frame]) -> bool
                 left -= bytes;
             }
         }
-        before = Some(one.at);
+        before = Before::Behind(one);
     }
     true
 }
 
 /// Whether the exception table and the frames fit in a Code attribute.
 #[tactic(auto, unfolding(crate::specs::Fitting::tables_fit))]
-fn tables(size: u32, code: &CodeModel) -> bool
+fn tables(size: u32, start: Start<'_>, code: &CodeModel) -> bool
     requires { IsSize code.now.ins size }
-    ensures { result ≡ tables_fit (marks_of code.now.ins) code.now }
+    ensures { result ≡ tables_fit (marks_of code.now.ins) (start_locals start.entry) code.now }
 {
     let list = code.ins.slice();
     let rows = code.handlers.slice();
@@ -543,28 +557,28 @@ fn tables(size: u32, code: &CodeModel) -> bool
         return false;
     }
     let room = 0xffff_ffff - (20 + u64::from(size) + 8 * (rows.len() as u64));
-    handlers(list, size, rows) && frames(list, room, code.frames.slice())
+    handlers(list, size, rows) && frames(list, room, start, code.frames.slice())
 }
 
 #[tactic(auto, unfolding(crate::specs::Fitting::code_fits, crate::specs::Fitting::ins_all_fit))]
-fn code(code: &CodeModel) -> bool
-    ensures { result ≡ code_fits code.now }
+fn code(start: Start<'_>, code: &CodeModel) -> bool
+    ensures { result ≡ code_fits (start_locals start.entry) code.now }
 {
     if !two_bytes(code.stack) || !two_bytes(code.locals) {
         return false;
     }
     match measured(code.ins.slice()) {
         None => false,
-        Some(size) => 0 < size && all_go(code.ins.slice()) && tables(size, code),
+        Some(size) => 0 < size && all_go(code.ins.slice()) && tables(size, start, code),
     }
 }
 
-fn code_or_none(bodiless: bool, code_or_none: &Option<CodeModel>) -> bool
-    ensures { result ≡ code_or_none_fits bodiless code_or_none.now }
+fn code_or_none(bodiless: bool, start: Start<'_>, code_or_none: &Option<CodeModel>) -> bool
+    ensures { result ≡ code_or_none_fits bodiless (start_locals start.entry) code_or_none.now }
 {
     match code_or_none {
         None => bodiless,
-        Some(model) => !bodiless && code(model),
+        Some(model) => !bodiless && code(start, model),
     }
 }
 
@@ -576,19 +590,23 @@ pub fn without_body(flags: u16) -> bool
 }
 
 #[tactic(auto, unfolding(crate::specs::Fitting::method_fits))]
-fn method(method: &MethodModel) -> bool
-    ensures { result ≡ method_fits method.now }
+fn method(class: &Items<u16>, method: &MethodModel) -> bool
+    ensures { result ≡ method_fits class.now method.now }
 {
     two_bytes(method.flags)
         && method_descriptor(method.descriptor.slice())
-        && code_or_none(without_body(method.flags), &method.code)
+        && code_or_none(
+            without_body(method.flags),
+            start_of(class, method),
+            &method.code,
+        )
 }
 
-fn methods(list: &[MethodModel]) -> bool
-    ensures { result ≡ list_all method_fits list.now }
+fn methods(class: &Items<u16>, list: &[MethodModel]) -> bool
+    ensures { result ≡ list_all (method_fits class.now) list.now }
 {
     for one in list {
-        if !method(one) {
+        if !method(class, one) {
             return false;
         }
     }
@@ -642,6 +660,6 @@ pub fn members(class: &ClassModel) -> bool
     two_bytes(class.flags)
         && counts(class)
         && fields(class.fields.slice())
-        && methods(class.methods.slice())
+        && methods(&class.name, class.methods.slice())
         && rows(class.inner.slice())
 }

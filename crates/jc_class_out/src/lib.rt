@@ -4,6 +4,7 @@
 mod descriptors;
 mod fitting;
 mod format;
+mod forms;
 mod kinds;
 mod model;
 mod pool;

@@ -49,7 +49,7 @@ fn put_file(alloc: Global, out: &mut Vec<u8>, class: &ClassModel) -> Result<(), 
     Ok(())
 }
 
-/// The bytes of the class file, with each constant once in the pool and all frames full.
+/// The bytes of the class file, with each constant once in the pool and each frame in its shortest form.
 pub fn class_bytes(alloc: Global, class: &ClassModel) -> Result<Items<u8>, WantOfMemory>
     requires { fits_of class.now ≡ true }
     ensures { IfOk result (λ bytes. IsClassFile bytes class.now) }
