@@ -1,37 +1,26 @@
 -- Attributes and code are read again.
-use Rattle.std.proofs.Common.{◌≡◌, ◌<◌, ◌≤◌, ◌^◌, ℕ, zero, suc, ◌+◌, ◌-◌, ◌*◌, ◌/◌, ◌%◌, Bool, true, false, cond, ltb, eqb, List, [], ◌∷◌, ◌++◌, length, Option, Some, None, Result, Ok, Err, refl, sym, ap, subst, ◌∙◌, append_assoc, arith, inl, inr}
-use lib.Dec.{leb}
-use Rattle.std.specs.Prelude.{◌&&◌, ◌||◌, not, nat_lt, codes}
+use Rattle.std.proofs.Common.{◌≡◌, ◌<◌, ◌≤◌, ◌^◌, ℕ, ◌+◌, ◌-◌, ◌*◌, Bool, true, ltb, eqb, List, [], ◌∷◌, ◌++◌, length, Option, Some, None, Ok, refl, append_assoc, arith}
+use Rattle.std.specs.Prelude.{◌&&◌, codes}
 use Rattle.std.specs.Int.{w16, w32, to_be_bytes}
-use Rattle.std.specs.List.{flat_map, list_all, AllByRecursion}
+use Rattle.std.specs.List.{flat_map, list_all}
 use Rattle.std.specs.Str.{bytes_eq}
-use Rattle.std.proofs.lemmas.Bool.{ltb-true, leb-true, eqb-true, eq-eqb, ne_eqb, lt-ltb, le-ltb, not-true}
+use Rattle.std.proofs.lemmas.Bool.{ltb-true, eq-eqb}
 use Rattle.std.proofs.lemmas.List.{length-append}
 use Rattle.std.proofs.lemmas.Slice.Eq.{bytes_eq-Decides}
-use Rattle.jc_class_out.specs.declared.format.Flaw.{Flaw}
 use Rattle.jc_class_out.specs.declared.format.Slot.{Slot}
-use Rattle.jc_class_out.specs.declared.model.ClassModel.{ClassModel}
 use Rattle.jc_class_out.specs.declared.model.CodeModel.{CodeModel}
-use Rattle.jc_class_out.specs.declared.model.FieldModel.{FieldModel}
 use Rattle.jc_class_out.specs.declared.model.Frame.{Frame}
 use Rattle.jc_class_out.specs.declared.model.Handler.{Handler}
-use Rattle.jc_class_out.specs.declared.model.InnerModel.{InnerModel}
 use Rattle.jc_class_out.specs.declared.model.Item.{Item}
-use Rattle.jc_class_out.specs.declared.model.Item.TheVariants as item
-use Rattle.jc_class_out.specs.declared.model.MethodModel.{MethodModel}
-use Rattle.jc_class_out.specs.Reading.{◌>>=◌, wants, u8_at, number_at, listed}
-use Rattle.jc_class_out.specs.Descriptors.{is_field_descriptor, is_method_descriptor, entry_locals}
-use Rattle.jc_class_out.specs.Pool.{Known, KnownText, KnownClass, named_at, class_named_at, descriptor_at}
-use Rattle.jc_class_out.specs.Frames.{begins, offset_item_at, item_by, item_at, place_of, place_at, full_at, frame_by, frame_at, frames_at, table_at}
-use Rattle.jc_class_out.specs.Code.{attribute_at, attribute_ends, no_more_at, marks_of, size_from, handler_at, frames_of_at, code_attributes_at, code_at, body_at}
-use Rattle.jc_class_out.specs.Format.{field_at, is_bodiless, code_attribute_at, with_code_at, without_code_at, method_at, inner_at, inners_at, class_attributes_at, members_at}
-use Rattle.jc_class_out.specs.Spelling.{has, index, ins_uses, ins_first_uses, class_uses, class_or_none_uses, name_or_none_uses, handler_uses, frames_uses, table_uses, code_uses, code_or_none_uses, method_uses, code_first_uses, method_first_uses, field_uses, inner_uses, inners_uses, members_uses, loads_of, counted, spell_handler, spell_class_or_none, spell_name_or_none, spell_frames, spell_attribute, spell_table, spell_body, spell_code_attributes, spell_code_model, spell_code_or_none, spell_method, spell_field, spell_inner, spell_inners, spell_interface, spell_members}
-use Rattle.jc_class_out.specs.Fitting.{is_u16, is_count, handler_fits, frames_fit, frames_within, frames_room, all_fit, ins_lands, ins_all_fit, tables_fit, code_fits, code_or_none_fits, method_fits, field_fits, inner_fits, counts_fit, members_fit}
-use Rattle.jc_class_out.proofs.Numbers.{both_true, u2_again, u4_again, whole_u2, whole_u4, EachAgain, listed_again}
-use Rattle.jc_class_out.proofs.Served.{Serves, index_again, class_again, named_again, HasClass, HasName, class_or_none_again, name_or_none_again}
+use Rattle.jc_class_out.specs.Pool.{Known, KnownText}
+use Rattle.jc_class_out.specs.Code.{attribute_at, attribute_ends, no_more_at, marks_of, size_from, handler_at, frames_of_at, code_attributes_at, code_at}
+use Rattle.jc_class_out.specs.Spelling.{has, ins_uses, ins_first_uses, class_or_none_uses, name_or_none_uses, handler_uses, frames_uses, table_uses, code_uses, counted, spell_handler, spell_class_or_none, spell_attribute, spell_table, spell_body, spell_code_attributes, spell_code_model}
+use Rattle.jc_class_out.specs.Fitting.{is_u16, is_count, handler_fits, frames_fit, frames_within, frames_room, all_fit, ins_lands, ins_all_fit, tables_fit, code_fits}
+use Rattle.jc_class_out.proofs.Numbers.{both_true, u2_again, u4_again, whole_u4, EachAgain, listed_again}
+use Rattle.jc_class_out.proofs.Served.{Serves, named_again, HasClass, HasName}
 use Rattle.jc_class_out.proofs.InsAgain.{Have, Low}
 use Rattle.jc_class_out.proofs.FramesAgain.{table_again, length_frames}
-use Rattle.jc_class_out.proofs.CodeAgain.{have_append, low_append, length_marks, begins_below, BodyAgain, body_again, handler_again}
+use Rattle.jc_class_out.proofs.CodeAgain.{have_append, length_marks, body_again, handler_again}
 
 -- ---- lengths
 

@@ -1,7 +1,7 @@
 -- Frames are read again, each in its shortest form.
-use Rattle.std.proofs.Common.{◌≡◌, ◌<◌, ◌≤◌, ◌^◌, ℕ, zero, suc, ◌+◌, ◌-◌, ◌*◌, ◌%◌, Bool, true, false, cond, ltb, eqb, List, [], ◌∷◌, ◌++◌, length, take, Option, Some, None, Result, Ok, Err, refl, sym, ap, subst, ◌∙◌, append_assoc, arith}
+use Rattle.std.proofs.Common.{◌≡◌, ◌<◌, ◌≤◌, ℕ, zero, suc, ◌+◌, ◌-◌, ◌%◌, Bool, true, false, cond, ltb, List, [], ◌∷◌, ◌++◌, length, take, Option, Some, None, Ok, refl, sym, ap, subst, ◌∙◌, append_assoc, arith}
 use lib.Dec.{leb}
-use Rattle.std.specs.Prelude.{◌&&◌, nat_lt}
+use Rattle.std.specs.Prelude.{◌&&◌}
 use Rattle.std.specs.Int.{w16, to_be_bytes}
 use Rattle.std.specs.List.{flat_map, list_all}
 use Rattle.std.proofs.lemmas.Bool.{ltb-true, leb-true, lt-ltb, le-ltb, le-leb}
@@ -9,14 +9,13 @@ use Rattle.std.proofs.lemmas.List.{length-append, append-nil}
 use Rattle.jc_class_out.specs.declared.forms.Form.{Form}
 use Rattle.jc_class_out.specs.declared.forms.Form.TheVariants as form
 use Rattle.jc_class_out.specs.declared.format.Slot.{Slot}
-use Rattle.jc_class_out.specs.declared.format.Flaw.{Flaw}
 use Rattle.jc_class_out.specs.declared.model.Frame.{Frame}
 use Rattle.jc_class_out.specs.declared.model.Item.{Item}
 use Rattle.jc_class_out.specs.declared.model.Item.TheVariants as item
-use Rattle.jc_class_out.specs.Reading.{◌>>=◌, wants, u8_at, number_at, many, listed}
+use Rattle.jc_class_out.specs.Reading.{many, listed}
 use Rattle.jc_class_out.specs.Pool.{Known}
 use Rattle.jc_class_out.specs.Frames.{begins, offset_item_at, item_by, item_at, place_of, place_at, same_item_at, same_item_extended_at, chop_at, same_extended_at, append_at, full_at, frame_by, frame_at, frames_at, table_at}
-use Rattle.jc_class_out.specs.Forms.{form_of, last_of, written_locals, written_stack, delta_of, near_length, head_length}
+use Rattle.jc_class_out.specs.Forms.{form_of, last_of, written_locals, written_stack, delta_of}
 use Rattle.jc_class_out.specs.Spelling.{item_uses, form_uses, frames_uses, counted, spell_item, spell_near, spell_form, spell_frame, spell_frames, spell_table}
 use Rattle.jc_class_out.specs.Fitting.{is_count, item_fits, is_behind, items_fit, form_fits, frame_fits, frames_fit, item_length, items_length, form_length, frame_length, frames_within}
 use Rattle.jc_class_out.proofs.Numbers.{both_true, u2_again, whole_u2, EachAgain, many_again, listed_again}

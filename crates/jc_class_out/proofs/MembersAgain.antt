@@ -1,11 +1,10 @@
 -- Fields, methods, inner classes and the class behind its pool are read again.
-use Rattle.std.proofs.Common.{◌≡◌, ◌<◌, ◌≤◌, ◌^◌, ℕ, zero, suc, ◌+◌, ◌-◌, ◌*◌, ◌/◌, ◌%◌, Bool, true, false, cond, ltb, eqb, List, [], ◌∷◌, ◌++◌, length, Option, Some, None, Result, Ok, Err, refl, sym, ap, subst, ◌∙◌, append_assoc, arith}
-use Rattle.std.specs.Prelude.{◌&&◌, ◌||◌, not, codes}
-use Rattle.std.specs.Int.{w16, w32, to_be_bytes}
-use Rattle.std.specs.List.{flat_map, list_all, AllByRecursion}
-use Rattle.std.proofs.lemmas.Bool.{ltb-true, not-true}
+use Rattle.std.proofs.Common.{◌≡◌, ◌<◌, ◌^◌, ℕ, ◌*◌, Bool, true, false, cond, List, [], ◌∷◌, ◌++◌, length, Option, Some, None, Ok, refl, append_assoc, arith}
+use Rattle.std.specs.Prelude.{◌&&◌, codes}
+use Rattle.std.specs.Int.{w16, to_be_bytes}
+use Rattle.std.specs.List.{flat_map, list_all}
+use Rattle.std.proofs.lemmas.Bool.{ltb-true}
 use Rattle.std.proofs.lemmas.List.{length-append}
-use Rattle.jc_class_out.specs.declared.format.Flaw.{Flaw}
 use Rattle.jc_class_out.specs.declared.format.Slot.{Slot}
 use Rattle.jc_class_out.specs.declared.model.ClassModel.{ClassModel}
 use Rattle.jc_class_out.specs.declared.model.CodeModel.{CodeModel}
@@ -13,18 +12,16 @@ use Rattle.jc_class_out.specs.declared.model.FieldModel.{FieldModel}
 use Rattle.jc_class_out.specs.declared.model.InnerModel.{InnerModel}
 use Rattle.jc_class_out.specs.declared.model.Item.{Item}
 use Rattle.jc_class_out.specs.declared.model.MethodModel.{MethodModel}
-use Rattle.jc_class_out.specs.Reading.{◌>>=◌, wants, number_at, listed}
-use Rattle.jc_class_out.specs.Descriptors.{is_field_descriptor, is_method_descriptor, entry_locals}
-use Rattle.jc_class_out.specs.Pool.{Known, KnownText, KnownClass, named_at, class_named_at, class_or_none_at, name_or_none_at, descriptor_at}
-use Rattle.jc_class_out.specs.Code.{attribute_at, attribute_ends, no_more_at, code_at}
+use Rattle.jc_class_out.specs.Descriptors.{is_field_descriptor, is_method_descriptor}
+use Rattle.jc_class_out.specs.Pool.{Known, KnownText, KnownClass, class_named_at, descriptor_at}
 use Rattle.jc_class_out.specs.Format.{field_at, is_bodiless, code_attribute_at, with_code_at, without_code_at, method_at, inner_at, inners_at, class_attributes_at, members_at}
 use Rattle.jc_class_out.specs.Spelling.{has, index, entry_of_method, ins_first_uses, class_uses, class_or_none_uses, name_or_none_uses, code_uses, code_or_none_uses, method_uses, code_first_uses, method_first_uses, field_uses, inner_uses, inners_uses, members_uses, loads_of, counted, spell_class_or_none, spell_name_or_none, spell_attribute, spell_code_model, spell_code_or_none, spell_method, spell_field, spell_inner, spell_inners, spell_interface, spell_members}
 use Rattle.jc_class_out.specs.Fitting.{is_u16, is_count, code_fits, code_or_none_fits, method_fits, field_fits, inner_fits, counts_fit, members_fit}
-use Rattle.jc_class_out.proofs.Numbers.{both_true, u2_again, whole_u2, EachAgain, listed_again}
-use Rattle.jc_class_out.proofs.Served.{Serves, index_again, class_again, named_again, class_or_none_again, name_or_none_again}
+use Rattle.jc_class_out.proofs.Numbers.{both_true, u2_again, EachAgain, listed_again}
+use Rattle.jc_class_out.proofs.Served.{Serves, class_again, named_again, class_or_none_again, name_or_none_again}
 use Rattle.jc_class_out.proofs.InsAgain.{Have, Low}
 use Rattle.jc_class_out.proofs.CodeAgain.{have_append, low_append}
-use Rattle.jc_class_out.proofs.ClassAgain.{has_class, has_name, attribute_again, ends_again, none_more_again, CodeModelAgain, code_model_again}
+use Rattle.jc_class_out.proofs.ClassAgain.{has_class, has_name, attribute_again, ends_again, none_more_again, code_model_again}
 
 descriptor_again : (slots : List Slot) (ks : List Known) → Serves ks slots → (test : List ℕ → Bool) (t rest : List ℕ) → test t ≡ true → has ks (KnownText t) ≡ true → descriptor_at test slots (index ks (KnownText t) ++ rest) ≡ Ok (t, rest)
 unfolding descriptor_at

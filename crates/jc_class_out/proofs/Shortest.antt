@@ -1,8 +1,7 @@
 -- What the shortest form of a frame says of it.
-use Rattle.std.proofs.Common.{◌≡◌, ◌<◌, ◌≤◌, ℕ, zero, suc, ◌+◌, ◌-◌, Bool, true, false, cond, ltb, eqb, List, [], ◌∷◌, ◌++◌, length, take, drop, refl, sym, ap, subst, ◌∙◌, arith, inl, inr}
+use Rattle.std.proofs.Common.{◌≡◌, ◌<◌, ◌≤◌, ℕ, zero, suc, ◌+◌, ◌-◌, Bool, true, false, cond, ltb, eqb, List, [], ◌∷◌, ◌++◌, length, take, drop, refl, sym, ap, ◌∙◌, arith}
 use lib.Dec.{leb}
-use Rattle.std.specs.Prelude.{◌&&◌, nat_lt, nat_le}
-use Rattle.std.specs.Str.{bytes_eq}
+use Rattle.std.specs.Prelude.{◌&&◌}
 use Rattle.std.proofs.lemmas.Bool.{ltb-true, leb-true, eqb-true, eq-eqb, ne_eqb, lt-ltb, le-ltb, le-leb, ltb-false}
 use Rattle.std.proofs.lemmas.List.{length-append, length-drop, length-take-le, take_all, drop_at}
 use Rattle.std.proofs.lemmas.Slice.Eq.{bytes_eq-Decides}
@@ -11,7 +10,7 @@ use Rattle.jc_class_out.specs.declared.forms.Form.TheVariants.{Same, SameItem, C
 use Rattle.jc_class_out.specs.declared.model.Frame.{Frame}
 use Rattle.jc_class_out.specs.declared.model.Item.{Item}
 use Rattle.jc_class_out.specs.declared.model.Item.TheVariants as item
-use Rattle.jc_class_out.specs.Forms.{same_item, first_alike, alike, bare_form, form_by, form_of, last_of, written_locals, written_stack}
+use Rattle.jc_class_out.specs.Forms.{same_item, alike, bare_form, form_of, last_of}
 use Rattle.jc_class_out.proofs.Numbers.{both_true}
 
 -- ---- items that are the same

@@ -1,6 +1,6 @@
 -- The constants that a class uses: what each names is used too, and the second place of a long stands behind it.
-use Rattle.std.proofs.Common.{◌≡◌, ◌<◌, ◌≤◌, ℕ, zero, suc, ◌+◌, ◌-◌, ℤ, Bool, true, false, cond, List, [], ◌∷◌, ◌++◌, length, Option, Some, None, refl, sym, ap, subst, ◌∙◌, append_assoc, arith}
-use Rattle.std.specs.Prelude.{◌&&◌, ◌||◌, codes}
+use Rattle.std.proofs.Common.{◌≡◌, ℕ, ℤ, Bool, true, false, cond, List, [], ◌∷◌, ◌++◌, Option, Some, None, refl}
+use Rattle.std.specs.Prelude.{codes}
 use Rattle.std.specs.List.{flat_map, AllByRecursion}
 use Rattle.jc_class_out.specs.declared.forms.Form.{Form}
 use Rattle.jc_class_out.specs.declared.format.Kind.{Kind}
@@ -9,7 +9,6 @@ use Rattle.jc_class_out.specs.declared.model.ClassModel.{ClassModel}
 use Rattle.jc_class_out.specs.declared.model.CodeModel.{CodeModel}
 use Rattle.jc_class_out.specs.declared.model.FieldModel.{FieldModel}
 use Rattle.jc_class_out.specs.declared.model.Frame.{Frame}
-use Rattle.jc_class_out.specs.declared.model.Handler.{Handler}
 use Rattle.jc_class_out.specs.declared.model.InnerModel.{InnerModel}
 use Rattle.jc_class_out.specs.declared.model.Ins.{Ins}
 use Rattle.jc_class_out.specs.declared.model.Item.{Item}
@@ -22,8 +21,8 @@ use Rattle.jc_class_out.specs.declared.model.Operand.TheVariants as op
 use Rattle.jc_class_out.specs.Pool.{Known, KnownText, KnownWhole, KnownLong, KnownBehind, KnownClass, KnownLiteral, KnownField, KnownMethod, KnownInterface, KnownPair}
 use Rattle.jc_class_out.specs.Instructions.{kind_of}
 use Rattle.jc_class_out.specs.Forms.{form_of, written_locals, written_stack}
-use Rattle.jc_class_out.specs.Spelling.{has, same_known, class_uses, pair_uses, class_or_none_uses, name_or_none_uses, member_known, loaded_uses, member_uses, operand_uses, ins_uses, first_loaded, first_uses, ins_first_uses, is_load, handler_uses, item_uses, form_uses, frames_uses, table_uses, entry_of_method, code_uses, code_or_none_uses, method_uses, code_first_uses, method_first_uses, field_uses, inner_uses, inners_uses, members_uses, loads_of, uses}
-use Rattle.jc_class_out.proofs.Known.{has_first, has_later, has_left, has_right, same_true}
+use Rattle.jc_class_out.specs.Spelling.{has, class_uses, class_or_none_uses, name_or_none_uses, member_known, loaded_uses, member_uses, operand_uses, ins_uses, first_uses, ins_first_uses, is_load, handler_uses, item_uses, form_uses, frames_uses, table_uses, entry_of_method, code_uses, code_or_none_uses, method_uses, code_first_uses, method_first_uses, field_uses, inner_uses, inners_uses, members_uses, loads_of, uses}
+use Rattle.jc_class_out.proofs.Known.{has_first, has_later, has_left, has_right}
 use Rattle.jc_class_out.proofs.Served.{Parts, is_behind_known}
 
 -- ---- parts

@@ -1,6 +1,6 @@
 -- A class that fits, its pool left out, uses constants fewer times than a number of 63 bits says.
-use Rattle.std.proofs.Common.{◌≡◌, ◌<◌, ◌≤◌, ◌^◌, ℕ, zero, suc, ◌+◌, ◌-◌, ◌*◌, Bool, true, false, cond, List, [], ◌∷◌, ◌++◌, length, Option, Some, None, refl, sym, ap, subst, ◌∙◌, arith}
-use Rattle.std.specs.Prelude.{◌&&◌, ◌||◌, not, nat_lt}
+use Rattle.std.proofs.Common.{◌≡◌, ◌<◌, ◌≤◌, ◌^◌, ℕ, ◌+◌, ◌*◌, Bool, true, false, cond, List, [], ◌∷◌, ◌++◌, length, Option, Some, None, arith}
+use Rattle.std.specs.Prelude.{◌&&◌, not, nat_lt}
 use Rattle.std.specs.List.{flat_map, list_all}
 use Rattle.std.proofs.lemmas.Bool.{ltb-true}
 use Rattle.std.proofs.lemmas.List.{length-append}
@@ -10,12 +10,10 @@ use Rattle.jc_class_out.specs.declared.model.ClassModel.{ClassModel}
 use Rattle.jc_class_out.specs.declared.model.CodeModel.{CodeModel}
 use Rattle.jc_class_out.specs.declared.model.FieldModel.{FieldModel}
 use Rattle.jc_class_out.specs.declared.model.Frame.{Frame}
-use Rattle.jc_class_out.specs.declared.model.Handler.{Handler}
 use Rattle.jc_class_out.specs.declared.model.InnerModel.{InnerModel}
 use Rattle.jc_class_out.specs.declared.model.Ins.{Ins}
 use Rattle.jc_class_out.specs.declared.model.Item.{Item}
 use Rattle.jc_class_out.specs.declared.model.Item.TheVariants as item
-use Rattle.jc_class_out.specs.declared.model.Loaded.{Loaded}
 use Rattle.jc_class_out.specs.declared.model.Loaded.TheVariants as loaded
 use Rattle.jc_class_out.specs.declared.model.MethodModel.{MethodModel}
 use Rattle.jc_class_out.specs.declared.model.Operand.{Operand}

@@ -1,5 +1,5 @@
 -- The shortest form of a frame (JVMS 4.7.4), seen from the locals before it.
-use Rattle.std.specs.Prelude.{ℕ, zero, suc, ◌+◌, ◌-◌, Bool, true, false, ◌&&◌, ◌==◌, nat_lt, nat_le, List, [], ◌∷◌, length, drop, Option, Some, None, if◌then◌else◌}
+use Rattle.std.specs.Prelude.{ℕ, ◌-◌, Bool, true, false, ◌&&◌, ◌==◌, nat_lt, nat_le, List, [], ◌∷◌, length, drop, Option, Some, None, if◌then◌else◌}
 use Rattle.std.specs.Str.{bytes_eq}
 use Rattle.jc_class_out.specs.declared.forms.Before.{Before}
 use Rattle.jc_class_out.specs.declared.forms.Before.TheVariants as before

@@ -1,8 +1,8 @@
 -- How the writer spells a class: the constants that it uses, each once and in the order of their first use, those of ldc
 -- before all others, since ldc has one byte for their number; then each part with the numbers of its constants. Each frame
 -- has its shortest form. A number that is too great for its field is cut off here; `fits` sees to it that none is.
-use Rattle.std.specs.Prelude.{◌≡◌, ℕ, zero, suc, ◌+◌, ◌-◌, ◌*◌, ◌/◌, ◌%◌, ◌^◌, ℤ, pos, Bool, true, false, not, ◌||◌, ◌&&◌, ◌==◌, nat_lt, List, [], ◌∷◌, ◌++◌, length, map, codes, replicate, Option, Some, None, if◌then◌else◌}
-use Rattle.std.specs.Int.{w8, w16, w32, w64, cast_unsigned, to_be_bytes}
+use Rattle.std.specs.Prelude.{◌≡◌, ℕ, ◌+◌, ◌-◌, ◌%◌, ◌^◌, ℤ, Bool, true, false, ◌&&◌, nat_lt, List, [], ◌∷◌, ◌++◌, length, map, codes, replicate, Option, Some, None, if◌then◌else◌}
+use Rattle.std.specs.Int.{w16, w32, w64, cast_unsigned, to_be_bytes}
 use Rattle.std.specs.List.{list_any, flat_map, position}
 use Rattle.std.specs.Ordering.{int_eq}
 use Rattle.std.specs.Str.{bytes_eq}

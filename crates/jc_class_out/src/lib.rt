@@ -9,6 +9,8 @@ mod kinds;
 mod model;
 mod pool;
 mod room;
+#[cfg(test)]
+mod tests;
 mod texts;
 mod uses;
 mod writer;

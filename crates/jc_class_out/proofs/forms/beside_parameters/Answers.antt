@@ -1,8 +1,8 @@
-use Rattle.std.proofs.Common.{rules, arith, ◌≡◌, ◌-◌, ◌+◌, ◌∙◌, ap, sym, suc, ℕ, Bool, true, false, List, ◌∷◌, Some, length, take, drop, refl}
+use Rattle.std.proofs.Common.{arith, ◌≡◌, ◌-◌, ◌+◌, ◌∙◌, ap, sym, suc, ℕ, Bool, true, false, List, ◌∷◌, Some, length, take, drop, refl}
 use Rattle.std.specs.Prelude.{◌&&◌}
 use Rattle.std.proofs.lemmas.Grind.{common_steps}
 use Rattle.jc_class_out.specs.declared.model.Item.{Item}
-use Rattle.jc_class_out.specs.Descriptors.{item_of_type, items_on, type_end, parameter_items}
+use Rattle.jc_class_out.specs.Descriptors.{item_of_type, items_on, type_end}
 use Rattle.jc_class_out.specs.Forms.{alike, first_alike}
 use Rattle.jc_class_out.proofs.forms.beside_parameters.Goals as goal
 use Rattle.jc_class_out.proofs.forms.beside_parameters.Goals.{then-alike, else-alike}

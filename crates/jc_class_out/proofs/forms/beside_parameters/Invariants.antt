@@ -1,4 +1,4 @@
-use Rattle.std.proofs.Common.{◌≡◌, ◌≤◌, ◌+◌, ◌-◌, drop, length}
+use Rattle.std.proofs.Common.{◌≡◌, ◌≤◌, ◌+◌, ◌-◌, length}
 use Rattle.std.specs.Prelude.{◌&&◌}
 use Rattle.jc_class_out.specs.Descriptors.{items_on, parameter_items}
 use Rattle.jc_class_out.specs.Forms.{alike}
