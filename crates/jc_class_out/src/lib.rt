@@ -4,10 +4,13 @@
 mod descriptors;
 mod fitting;
 mod format;
+mod forms;
 mod kinds;
 mod model;
 mod pool;
 mod room;
+#[cfg(test)]
+mod tests;
 mod texts;
 mod uses;
 mod writer;
