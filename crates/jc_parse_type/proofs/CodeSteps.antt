@@ -1,5 +1,5 @@
 -- What the steps of the code read.
-use Rattle.std.proofs.Common.{◌≡◌, ℕ, zero, suc, ◌<◌, ◌≤◌, min, Bool, true, false, cond, List, [], ◌∷◌, ◌++◌, map, length, Option, Some, None, Result, Ok, Err, refl, sym, ap, ◌∙◌, subst, arith}
+use Rattle.std.proofs.Common.{◌≡◌, ℕ, zero, suc, ◌≤◌, min, true, false, List, [], ◌∷◌, map, length, Some, refl, ap, ◌∙◌, subst, arith}
 use Rattle.std.proofs.lemmas.Bool.{cond-true, cond-false}
 use Rattle.jc_lexer.specs.declared.token.Key.TheVariants as key_of
 use Rattle.jc_lexer.specs.declared.token.Sign.TheVariants as sign_of
@@ -9,12 +9,12 @@ use Rattle.jc_tree.specs.declared.types.TypeArg.TheVariants as arg_of
 use Rattle.jc_tree.specs.declared.types.TypePart.{TypePart}
 use Rattle.jc_tree.specs.declared.types.TypeTree.{TypeTree}
 use Rattle.jc_reading.specs.Kinds.{sign_code, key_code, one_of}
-use Rattle.jc_reading.specs.Reading.{Read, Found, Stopped, Run, found, noting, ◌>>=◌, becoming, joined, as_new, in_turn, perhaps, perhaps_from, Either, This, That, either, any_number, times, of_kind, at_kind, behind_it, first_and_more, each_behind, commas_run}
+use Rattle.jc_reading.specs.Reading.{Read, Found, Stopped, Run, found, noting, ◌>>=◌, becoming, joined, as_new, in_turn, perhaps_from, Either, This, That, any_number, of_kind, at_kind, behind_it, first_and_more, each_behind, commas_run}
 use Rattle.jc_reading.proofs.Steps.{Within}
 use Rattle.jc_reading.proofs.Ledby.{led, led_laws}
 use Rattle.jc_reading.proofs.Turns.{Advances, lawful_advances, as_advances, times_as}
 use Rattle.jc_parse_type.specs.TypeReading.{Bound, bound_run, wildcard, arg_made, arg_run, or_none, args_run, part_run, type_run, base_run}
-use Rattle.jc_parse_type.proofs.TypeForms.{type_laws, arg_laws, arg_form, part_form, part_laws, type_form, class_form, class_laws, base_laws, row_laws}
+use Rattle.jc_parse_type.proofs.TypeForms.{type_laws, arg_laws, arg_form, part_form, part_laws, base_laws, row_laws}
 
 pub arg_at : ℕ → Run TypeArg
 arg_at h = arg_run h (type_run h)

@@ -1,5 +1,5 @@
 -- Types by places.
-use Rattle.std.proofs.Common.{◌≡◌, ℕ, ◌+◌, ◌-◌, ◌<◌, ◌≤◌, false, List, [], ◌++◌, length, take, drop, append_assoc, length-drop, length-append, refl, sym, ap, ◌∙◌, subst, arith}
+use Rattle.std.proofs.Common.{◌≡◌, ℕ, ◌+◌, ◌-◌, ◌≤◌, false, List, [], ◌++◌, length, take, drop, append_assoc, length-drop, length-append, sym, ap, ◌∙◌, subst, arith}
 use Rattle.std.proofs.lemmas.List.{take-append-drop}
 use Rattle.std.proofs.Math.Seq.{drop-append_seam}
 use Rattle.std.proofs.lemmas.Bool.{leb-true, le-leb}
@@ -10,7 +10,7 @@ use Rattle.jc_grammar.specs.Types.{type_tokens}
 use Rattle.jc_grammar.specs.Spelling.{SpellsType}
 use Rattle.jc_reading.proofs.Steps.{reach}
 use Rattle.jc_reading.proofs.Forms.{Stands}
-use Rattle.jc_reading.specs.Reading.{Read, Found, Stopped}
+use Rattle.jc_reading.specs.Reading.{Found, Stopped}
 use Rattle.jc_reading.proofs.Places.{told_front, takes_front, seen, farthest, nothing, bounds, bound, is_reach}
 use Rattle.jc_parse_type.specs.TypeAnswers.{TypeStands, IsTypeReach}
 use Rattle.jc_parse_type.specs.TypeReading.{type_run}
@@ -68,6 +68,7 @@ module _ (whole rest : List Token) (at : ℕ) (in_range : at ≤ length whole) (
 
   pub none_here : (l : ℕ) → type_run top rest ≡ Stopped l → IsTypeReach whole at (length whole - l) × ((ty : TypeTree) (s : List Token) → SpellsType top (drop at whole) ty s → ⊥)
   none_here l e =
-      let b = bound TypeTree (type_form top) (type_laws 199) (SpellsType top) (to_spelled top) (from_spelled top) rest l e in
-      (is_reach TypeTree (type_form top) (type_laws 199) (SpellsType top) (to_spelled top) (from_spelled top) whole rest at in_range back l (ap reach e) b,
-      λ ty s p. nothing TypeTree (type_form top) (type_laws 199) (SpellsType top) (to_spelled top) (from_spelled top) rest l e ty s (spells_here ty s p))
+      let b = bound TypeTree (type_form top) (type_laws 199) (SpellsType top) (to_spelled top) (from_spelled top) rest l e in (
+        is_reach TypeTree (type_form top) (type_laws 199) (SpellsType top) (to_spelled top) (from_spelled top) whole rest at in_range back l (ap reach e) b,
+        λ ty s p. nothing TypeTree (type_form top) (type_laws 199) (SpellsType top) (to_spelled top) (from_spelled top) rest l e ty s (spells_here ty s p),
+      )

@@ -1,5 +1,5 @@
 -- What the parser of types answers (JLS 4).
-use Rattle.std.specs.Prelude.{◌≡◌, ℕ, ◌+◌, ◌-◌, ◌<◌, ◌≤◌, List, length, take, drop}
+use Rattle.std.specs.Prelude.{ℕ, ◌+◌, ◌-◌, ◌<◌, ◌≤◌, List, length, take, drop}
 use Rattle.jc_lexer.specs.declared.token.Token.{Token}
 use Rattle.jc_rules.specs.declared.stop.Stop.{Stop}
 use Rattle.jc_rules.specs.declared.stop.Stop.TheVariants as stop_of

@@ -3,6 +3,8 @@
 
 mod parsing;
 mod reading;
+#[cfg(test)]
+mod tests;
 
-pub use parsing::{type_at, TypeFound};
+pub use parsing::{TypeFound, type_at};
 pub use reading::{args_within, base_within, class_within, dims, primitive, type_within};

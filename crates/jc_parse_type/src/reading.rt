@@ -10,7 +10,7 @@ ghost use Rattle.jc_reading.specs.Reading.{Found as read_found, Stopped as read_
 ghost use Rattle.jc_parse_type.specs.TypeReading.{arg_run, args_run, base_run, bound_run, bracket_run, class_run, dims_run, part_run, primitive_codes, type_run, wildcard, word_of_kind, word_run};
 
 use jc_lexer::{Key, Sign, Token, TokenKind};
-use jc_reading::{behind_key, behind_sign, identifier, place_of_sign, Found, Halt};
+use jc_reading::{Found, Halt, behind_key, behind_sign, identifier, place_of_sign};
 use jc_rules::{Items, WantOfMemory};
 use jc_tree::{BaseTree, ClassTree, PrimitiveWord, TypeArg, TypePart, TypeTree};
 use std::alloc::Global;
@@ -125,7 +125,12 @@ fn exact_arg(alloc: Global, tokens: &[Token], height: u32) -> Result<Found<'_, T
 /// What stands behind the question mark at `at`.
 #[cycle(types)]
 #[tactic(auto, using(crate::proofs::CodeSteps::upper_found, crate::proofs::CodeSteps::upper_halts, crate::proofs::CodeSteps::lower_found, crate::proofs::CodeSteps::lower_halts, crate::proofs::CodeSteps::within_type))]
-fn wildcard(alloc: Global, at: u32, tokens: &[Token], height: u32) -> Result<Found<'_, TypeArg>, WantOfMemory>
+fn wildcard(
+    alloc: Global,
+    at: u32,
+    tokens: &[Token],
+    height: u32,
+) -> Result<Found<'_, TypeArg>, WantOfMemory>
     requires { length tokens.now < 2 ^ 32 }
     ensures { IfOk result (λ f. Is f (as_new (λ b. wildcard (at, b)) (bound_run (type_run height)) tokens.now)) }
 {
@@ -173,7 +178,11 @@ fn unbounded(at: u32, rest: &[Token], left: usize) -> Found<'_, TypeArg>
 
 /// Arguments behind the first one and up to the closing bracket.
 #[cycle(types)]
-fn more_args(alloc: Global, tokens: &[Token], height: u32) -> Result<Found<'_, Items<TypeArg>>, Halt>
+fn more_args(
+    alloc: Global,
+    tokens: &[Token],
+    height: u32,
+) -> Result<Found<'_, Items<TypeArg>>, Halt>
     requires { length tokens.now < 2 ^ 32 }
     ensures { Gives result (commas_run (arg_run height (type_run height)) tokens.now) }
 {
@@ -216,7 +225,11 @@ fn comma_arg(alloc: Global, tokens: &[Token], height: u32) -> Result<Found<'_, T
 /// Arguments between angle brackets, where they stand there.
 #[cycle(types)]
 #[tactic(auto, unfolding(crate::specs::TypeReading::args_run), using(crate::proofs::CodeSteps::args_found, crate::proofs::CodeSteps::args_open, crate::proofs::CodeSteps::args_halt, crate::proofs::CodeSteps::within_row))]
-pub fn args_within(alloc: Global, tokens: &[Token], height: u32) -> Result<Found<'_, Items<TypeArg>>, WantOfMemory>
+pub fn args_within(
+    alloc: Global,
+    tokens: &[Token],
+    height: u32,
+) -> Result<Found<'_, Items<TypeArg>>, WantOfMemory>
     requires { length tokens.now < 2 ^ 32 }
     ensures { IfOk result (λ f. Is f (args_run (arg_run height (type_run height)) tokens.now)) }
 {
@@ -281,7 +294,11 @@ fn dot_part(alloc: Global, tokens: &[Token], height: u32) -> Result<Found<'_, Ty
 
 /// The parts behind the first one.
 #[cycle(types)]
-fn more_parts(alloc: Global, tokens: &[Token], height: u32) -> Result<Found<'_, Items<TypePart>>, WantOfMemory>
+fn more_parts(
+    alloc: Global,
+    tokens: &[Token],
+    height: u32,
+) -> Result<Found<'_, Items<TypePart>>, WantOfMemory>
     requires { length tokens.now < 2 ^ 32 }
     ensures { IfOk result (λ f. Is f (as_new (map behind_it) (each_behind sign_of.Dot (part_run (args_run (arg_run height (type_run height))))) tokens.now)) }
 {
@@ -310,7 +327,11 @@ fn more_parts(alloc: Global, tokens: &[Token], height: u32) -> Result<Found<'_, 
 /// The longest class type that begins there, whose arguments have at most this height.
 #[cycle(types)]
 #[tactic(auto, unfolding(crate::specs::TypeReading::class_run_of))]
-pub fn class_within(alloc: Global, tokens: &[Token], height: u32) -> Result<Found<'_, ClassTree>, Halt>
+pub fn class_within(
+    alloc: Global,
+    tokens: &[Token],
+    height: u32,
+) -> Result<Found<'_, ClassTree>, Halt>
     requires { length tokens.now < 2 ^ 32 }
     ensures { Gives result (class_run height tokens.now) }
 {
@@ -329,7 +350,11 @@ pub fn class_within(alloc: Global, tokens: &[Token], height: u32) -> Result<Foun
 /// The longest type without brackets that begins there, whose arguments have at most this height.
 #[cycle(types)]
 #[tactic(auto, unfolding(crate::specs::TypeReading::base_run_of))]
-pub fn base_within(alloc: Global, tokens: &[Token], height: u32) -> Result<Found<'_, BaseTree>, Halt>
+pub fn base_within(
+    alloc: Global,
+    tokens: &[Token],
+    height: u32,
+) -> Result<Found<'_, BaseTree>, Halt>
     requires { length tokens.now < 2 ^ 32 }
     ensures { Gives result (base_run height tokens.now) }
 {
@@ -351,7 +376,11 @@ pub fn base_within(alloc: Global, tokens: &[Token], height: u32) -> Result<Found
 /// The longest type of at most this height that begins there.
 #[cycle(types)]
 #[tactic(auto, unfolding(crate::specs::TypeReading::type_run, crate::specs::TypeReading::type_run_of))]
-pub fn type_within(alloc: Global, tokens: &[Token], height: u32) -> Result<Found<'_, TypeTree>, Halt>
+pub fn type_within(
+    alloc: Global,
+    tokens: &[Token],
+    height: u32,
+) -> Result<Found<'_, TypeTree>, Halt>
     requires { length tokens.now < 2 ^ 32 }
     ensures { Gives result (type_run height tokens.now) }
 {

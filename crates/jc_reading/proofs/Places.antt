@@ -1,12 +1,12 @@
 -- What a reader answers, by places in the whole list of tokens.
-use Rattle.std.proofs.Common.{◌≡◌, ℕ, zero, suc, ◌+◌, ◌-◌, ◌<◌, ◌≤◌, min, Bool, true, false, List, [], ◌∷◌, ◌++◌, length, take, drop, length-append, length-drop, append_assoc, refl, sym, ap, ◌∙◌, subst, arith}
+use Rattle.std.proofs.Common.{◌≡◌, ℕ, ◌+◌, ◌-◌, ◌<◌, ◌≤◌, Bool, List, [], ◌∷◌, ◌++◌, length, take, drop, length-append, length-drop, refl, sym, ap, ◌∙◌, subst, arith}
 use Rattle.std.proofs.lemmas.List.{take-append-drop, append-nil}
-use Rattle.std.proofs.Math.Seq.{take-append_seam, drop-append_seam}
+use Rattle.std.proofs.Math.Seq.{take-append_seam}
 use Rattle.jc_lexer.specs.declared.token.Token.{Token}
 use Rattle.jc_grammar.specs.Told.{Told}
-use Rattle.jc_grammar.specs.Spelling.{AreTold, is_greater}
+use Rattle.jc_grammar.specs.Spelling.{AreTold}
 use Rattle.jc_reading.specs.Reading.{Read, Found, Stopped, Takes}
-use Rattle.jc_reading.proofs.Steps.{Good, Within, Goes, reach, Moved, Moves}
+use Rattle.jc_reading.proofs.Steps.{Good, Within, Goes, reach, Moved}
 use Rattle.jc_reading.proofs.Forms.{Form, Stands, Begins, Lawful}
 
 -- tokens taken one by one are a front that is as told
@@ -67,7 +67,7 @@ module _ (A : Type 0) (form : Form A) (la : Lawful A form) (P : List Token → A
 
   -- the reach, where rest is what stands from a place on
   pub is_reach : (whole rest : List Token) (at : ℕ) → at ≤ length whole → rest ≡ drop at whole → (left : ℕ) → reach (form.run rest) ≡ left → left ≤ length rest →
-    (at ≤ length whole - left) × (length whole - left ≤ length whole) × SomeBegins (take (length whole - left - at) (drop at whole)) × (length whole - left < length whole → NoneBegins (take (length whole - left + 1 - at) (drop at whole)))
+      (at ≤ length whole - left) × (length whole - left ≤ length whole) × SomeBegins (take (length whole - left - at) (drop at whole)) × (length whole - left < length whole → NoneBegins (take (length whole - left + 1 - at) (drop at whole)))
   is_reach whole rest at in_range back left e l =
       let r : length rest ≡ length whole - at = ap length back ∙ length-drop at whole in
       let n = length whole - left + 1 - at in

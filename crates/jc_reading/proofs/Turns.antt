@@ -1,8 +1,8 @@
 -- Loops that read any number of a form, turn by turn.
-use Rattle.std.proofs.Common.{◌≡◌, Bool, true, false, ℕ, zero, suc, ◌<◌, ◌≤◌, min, List, [], ◌∷◌, ◌++◌, map, length, append_assoc, append-nil, refl, sym, ap, ◌∙◌, subst, ⊎_elim, arith}
+use Rattle.std.proofs.Common.{◌≡◌, false, ℕ, zero, suc, ◌<◌, ◌≤◌, min, List, [], ◌∷◌, ◌++◌, map, length, append_assoc, append-nil, refl, sym, ap, ◌∙◌, subst, ⊎_elim, arith}
 use Rattle.std.proofs.lemmas.Bool.{false≢true}
 use Rattle.jc_lexer.specs.declared.token.Token.{Token}
-use Rattle.jc_reading.specs.Reading.{Read, Found, Stopped, Run, found, noting, becoming, as_new, one_more, times, any_number}
+use Rattle.jc_reading.specs.Reading.{Read, Found, Stopped, Run, noting, becoming, as_new, one_more, times, any_number}
 use Rattle.jc_reading.proofs.Steps.{Within, Good, within_becoming, within_noting, within_more}
 use Rattle.jc_reading.proofs.Forms.{Form, Stands, Lawful}
 

@@ -1,7 +1,5 @@
 -- What the code answers, against what is read.
-use Rattle.std.specs.Prelude.{◌≡◌, ℕ, Result, Ok, Err, Option, List, ◌∷◌}
-use Rattle.jc_lexer.specs.declared.token.Token.{Token}
-use Rattle.jc_tree.specs.declared.name.Ident.{Ident}
+use Rattle.std.specs.Prelude.{◌≡◌, Result, Ok, Err}
 use Rattle.jc_reading.specs.declared.reading.Found.{Found}
 use Rattle.jc_reading.specs.declared.reading.Halt.{Halt}
 use Rattle.jc_reading.specs.declared.reading.Halt.TheVariants as halt_of

@@ -7,7 +7,7 @@ ghost use Rattle.jc_reading.specs.Reading.{Stopped, an_ident_at, at_kind, found,
 
 use crate::{Found, Halt};
 use jc_lexer::{Key, Sign, Token, TokenKind};
-use jc_tree::{copy_text, Ident};
+use jc_tree::{Ident, copy_text};
 use std::alloc::Global;
 
 /// Whether a token is this sign.

@@ -1,14 +1,14 @@
-use Rattle.std.proofs.Common.{◌≡◌, ℕ, ◌-◌, ◌<◌, ◌≤◌, min, List, [], ◌∷◌, ◌++◌, map, length, refl, sym, ap, ◌∙◌, subst, arith, rules}
+use Rattle.std.proofs.Common.{◌≡◌, ◌-◌, min, List, [], ◌∷◌, ◌++◌, map, length, sym, ap, ◌∙◌, subst, arith, rules}
 use Rattle.jc_lexer.specs.declared.token.Sign.TheVariants as sign_of
 use Rattle.jc_reading.specs.Giving.{Gives, Halts}
 use Rattle.jc_reading.specs.declared.reading.Halt.{Halt}
 use Rattle.jc_reading.specs.Kinds.{sign_code}
-use Rattle.jc_reading.specs.Reading.{Read, Found, Stopped, as_new, in_turn, of_kind, behind_it, commas_run, any_number, each_behind, times}
+use Rattle.jc_reading.specs.Reading.{Found, Stopped, as_new, in_turn, of_kind, behind_it, commas_run, each_behind, times}
 use Rattle.jc_reading.proofs.Turns.{resume, Resumes, loop_first, loop_next, loop_stop, loop_shorter, turn_second}
 use Rattle.jc_tree.specs.declared.types.TypeArg.{TypeArg}
 use Rattle.jc_tree.specs.declared.types.TypePart.{TypePart}
 use Rattle.jc_parse_type.specs.TypeReading.{arg_run, args_run, part_run, type_run, base_run}
-use Rattle.jc_parse_type.proofs.CodeSteps.{behind_far, within_type, within_arg, within_row, within_part, within_base, within_rest, args_found, args_open, args_halt, upper_found, upper_halts, lower_found, lower_halts, arg_exact, comma_steps, dot_steps, commas_first, each_as}
+use Rattle.jc_parse_type.proofs.CodeSteps.{behind_far, within_arg, within_part, within_base, within_rest, comma_steps, dot_steps, commas_first, each_as}
 use Rattle.jc_parse_type.proofs.reading.+types.Goals as goal
 
 pub comma_arg-returns-in-Some : goal.comma_arg-returns-in-Some

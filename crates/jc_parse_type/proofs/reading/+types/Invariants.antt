@@ -1,4 +1,4 @@
-use Rattle.std.proofs.Common.{◌≡◌, ◌+◌, ◌*◌, ◌<◌, ◌^◌, length, map}
+use Rattle.std.proofs.Common.{◌+◌, ◌*◌, ◌<◌, ◌^◌, length, map}
 use Rattle.jc_lexer.specs.declared.token.Sign.TheVariants as sign_of
 use Rattle.jc_reading.specs.Kinds.{sign_code}
 use Rattle.jc_reading.specs.Reading.{as_new, behind_it, commas_run, each_behind, in_turn, of_kind}

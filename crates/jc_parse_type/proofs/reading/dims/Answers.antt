@@ -1,4 +1,4 @@
-use Rattle.std.proofs.Common.{◌≡◌, ◌+◌, ◌<◌, ◌≤◌, List, [], ◌∷◌, ◌++◌, length, length-append, min, subst, refl, sym, ap, ◌∙◌, arith}
+use Rattle.std.proofs.Common.{◌+◌, [], ◌∷◌, ◌++◌, length, length-append, min, subst, refl, sym, ap, ◌∙◌, arith}
 use Rattle.jc_reading.specs.Reading.{Found, any_number, becoming}
 use Rattle.jc_reading.proofs.Turns.{Resumes, Advances, lawful_advances, loop_first, loop_next, loop_stop, loop_shorter}
 use Rattle.jc_parse_type.specs.TypeReading.{bracket_run, dims_run}
