@@ -1,10 +1,7 @@
 -- Two structs with the same parts are the same.
 use Rattle.std.proofs.Common.{◌≡◌, List, sym, ap, ◌∙◌}
-use Rattle.jc_tree.specs.declared.types.BaseTree.{BaseTree}
-use Rattle.jc_tree.specs.declared.types.TypeArg.{TypeArg}
 use Rattle.jc_tree.specs.declared.types.TypePart.{TypePart}
-use Rattle.jc_tree.specs.declared.types.TypeTree.{TypeTree}
-use Rattle.jc_tree.specs.declared.types.ClassTree.{ClassTree, ClassTree-F, roll-ClassTree, out-ClassTree, roll-out-ClassTree}
+use Rattle.jc_tree.specs.declared.types.ClassTree.{ClassTree, roll-ClassTree, out-ClassTree, roll-out-ClassTree}
 
 pub class_made : (a b : ClassTree) → (out-ClassTree a).first ≡ (out-ClassTree b).first → (out-ClassTree a).more ≡ (out-ClassTree b).more → a ≡ b
 class_made a b e f =
