@@ -22,6 +22,7 @@ pub mod Pools
 pub mod Ranges
 pub mod Served
 pub mod Shortest
+pub mod Sieves
 pub mod Stands
 pub mod Tellings
 pub mod TextsAgain

@@ -10,3 +10,4 @@ pub mod Forms
 pub mod Spelling
 pub mod Fitting
 pub mod FinderSees
+pub mod Sifting

@@ -9,6 +9,7 @@ mod kinds;
 mod model;
 mod pool;
 mod room;
+mod sieve;
 #[cfg(test)]
 mod tests;
 mod texts;

@@ -8,7 +8,8 @@ ghost use Rattle.jc_class_out.specs.Fitting.{is_signed, text_fits, known_fits, p
 
 use crate::descriptors::{field_descriptor, method_descriptor};
 use crate::fitting::{members, signed};
-use crate::uses::{Visitor, tell_loads, tell_uses};
+use crate::sieve::{counted_uses, sifted_loads};
+use crate::uses::{Visitor, tell_uses};
 use crate::{ClassModel, Constant};
 use std::convert::Infallible;
 
@@ -192,17 +193,6 @@ fn constants_fit(class: &ClassModel) -> bool
     }
 }
 
-/// How often ldc loads a constant, up to a limit.
-fn count_of_loads(class: &ClassModel) -> u32
-    ensures { result ≡ min (length (loads_of class.now)) 65535 }
-{
-    let mut counter = Counter { count: 0 };
-    match tell_loads(&mut counter, class) {
-        Ok(()) => counter.count,
-        Err(never) => match never {},
-    }
-}
-
 /// How often the class uses a constant, up to a limit.
 fn count_of_uses(class: &ClassModel) -> u32
     ensures { result ≡ min (length (uses class.now)) 65535 }
@@ -210,21 +200,6 @@ fn count_of_uses(class: &ClassModel) -> u32
     let mut counter = Counter { count: 0 };
     match tell_uses(&mut counter, class) {
         Ok(()) => counter.count,
-        Err(never) => match never {},
-    }
-}
-
-fn distinct_loads(class: &ClassModel) -> u64
-    requires { members_fit class.now ≡ true }
-    ensures { result ≡ places (loads_of class.now) }
-{
-    let mut census = Census {
-        class,
-        at: 0,
-        count: 0,
-    };
-    match tell_loads(&mut census, class) {
-        Ok(()) => census.count,
         Err(never) => match never {},
     }
 }
@@ -245,12 +220,11 @@ fn distinct_uses(class: &ClassModel) -> u64
 }
 
 /// Whether one byte is enough for the number of each constant that ldc loads.
-#[tactic(auto, using(crate::proofs::Census::places_few))]
+#[tactic(auto, using(crate::proofs::Sieves::few_sifted))]
 fn few_loads(class: &ClassModel) -> bool
-    requires { members_fit class.now ≡ true }
     ensures { result ≡ nat_le (places (loads_of class.now)) 255 }
 {
-    count_of_loads(class) <= 255 || distinct_loads(class) <= 255
+    sifted_loads(class) <= 255
 }
 
 /// Whether the pool has room.
@@ -259,7 +233,13 @@ fn few_uses(class: &ClassModel) -> bool
     requires { members_fit class.now ≡ true }
     ensures { result ≡ nat_le (places (uses class.now)) 65534 }
 {
-    count_of_uses(class) <= 65534 || distinct_uses(class) <= 65534
+    if count_of_uses(class) <= 65534 {
+        return true;
+    }
+    match counted_uses(class) {
+        Some(count) => count <= 65534,
+        None => distinct_uses(class) <= 65534,
+    }
 }
 
 /// Whether each number has room in its field, operands go with their opcodes, jumps, handlers and frames name instructions,
@@ -273,8 +253,9 @@ fn each_fits(class: &ClassModel) -> bool
 
 /// Whether the class has a class file: exactly where some bytes are its file, and then `class_bytes` writes one.
 ///
-/// It takes no memory. It goes over the class once where the plain number of uses of constants is below 65,535, and that of
-/// constants of ldc below 256; above that it compares uses with each other.
+/// It takes no memory. It goes over the class a few times, and 128 times more where the plain number of uses of constants is
+/// above 65,534. Where so many constants have the same number to spread them by that a room for 1,024 is full, uses are
+/// compared with each other.
 pub fn fits(class: &ClassModel) -> bool
     ensures { IsTrue result ↔ HasClassFile class.now }
 {

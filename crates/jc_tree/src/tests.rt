@@ -111,10 +111,8 @@ fn generic(alloc: Global) -> Result<MethodHead, Fail> {
     })
 }
 
-#[test]
-fn trees_begin_at_their_first_tokens(rt: HostRuntime) -> Result<(), Fail> {
-    let alloc = rt.alloc();
-    assert_eq!(rt; first_offset_of_type(&list_of(alloc, int_array())?), 0);
+/// `null ++`, at offset 6.
+fn null_increased(alloc: Global) -> Result<Expr, Fail> {
     let null = Boxed::new(
         alloc,
         Expr::Literal {
@@ -122,16 +120,33 @@ fn trees_begin_at_their_first_tokens(rt: HostRuntime) -> Result<(), Fail> {
             value: Literal::Null,
         },
     )?;
-    let call = Expr::Postfix {
+    Ok(Expr::Postfix {
         of: null,
         op: PostfixOp::Increment,
-    };
+    })
+}
+
+#[test]
+fn types_and_statements_begin_at_their_first_tokens(rt: HostRuntime) -> Result<(), Fail> {
+    let alloc = rt.alloc();
+    assert_eq!(rt; first_offset_of_type(&list_of(alloc, int_array())?), 0);
+    assert_eq!(rt; first_offset_of_formal(&final_int(alloc)?), 3);
+    assert_eq!(rt; first_offset_of_stmt(&Stmt::Empty { at: 5 }), 5);
+    Ok(())
+}
+
+#[test]
+fn expressions_begin_at_their_first_tokens(rt: HostRuntime) -> Result<(), Fail> {
+    let call = null_increased(rt.alloc())?;
     assert_eq!(rt; first_offset_of_expr(&call), 6);
     assert_eq!(rt; first_offset_of_init(&Init::Value(call)), 6);
-    assert_eq!(rt; first_offset_of_formal(&final_int(alloc)?), 3);
-    let head = generic(alloc)?;
+    Ok(())
+}
+
+#[test]
+fn methods_begin_at_their_first_tokens(rt: HostRuntime) -> Result<(), Fail> {
+    let head = generic(rt.alloc())?;
     assert_eq!(rt; first_offset_of_method(&head), 7);
     assert_eq!(rt; first_offset_of_member(&Member::Bare { head }), 7);
-    assert_eq!(rt; first_offset_of_stmt(&Stmt::Empty { at: 5 }), 5);
     Ok(())
 }
