@@ -1,2 +1,3 @@
 pub mod Coded
 pub mod Lowest
+pub mod Seconds

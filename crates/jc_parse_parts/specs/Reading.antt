@@ -1,0 +1,32 @@
+-- Readers that look further than the first token.
+use Rattle.std.specs.Prelude.{ℕ, zero, suc, ◌==◌, Bool, false, cond, ◌&&◌, List, [], ◌∷◌, length}
+use Rattle.jc_lexer.specs.declared.token.Token.{Token}
+use Rattle.jc_reading.specs.Kinds.{kind_code, one_of}
+use Rattle.jc_reading.specs.Reading.{Read, Found, Stopped, Run, noting, becoming, joined, Either, This, That, either}
+
+-- a token of `codes` stands behind one of the kind `code`
+abbrev pub second_is : ℕ → List ℕ → List Token → Bool
+second_is code codes [] = false
+second_is code codes (t ∷ ts) = (kind_code t.kind == code) && one_of codes ts
+
+-- the one or the other, by the first two tokens
+abbrev pub by_second : {A B : Type 0} → ℕ → List ℕ → Run A → Run B → Run (Either A B)
+by_second code codes m n ts = cond (second_is code codes ts) (becoming This (m ts)) (becoming That (n ts))
+
+-- with room for a value at all
+unfoldable pub with_room : {A : Type 0} → ℕ → Run A → Run A
+with_room zero run ts = Stopped (length ts)
+with_room (suc h) run ts = run ts
+
+-- values of one kind or of another
+abbrev pub either_one : {A : Type 0} → Either A A → A
+either_one (This a) = a
+either_one (That a) = a
+
+-- where a value of the one is followed by a token of `codes`, it and more behind it, and else the other
+abbrev pub tried : {A B C : Type 0} → List ℕ → List Token → Read A → Run C → Run B → Read (Either (A × C) B)
+tried codes ts (Found a r l) k n = cond (one_of codes r) (noting l (becoming (λ c. This (a, c)) (k r))) (noting l (becoming That (n ts)))
+tried codes ts (Stopped l) k n = noting l (becoming That (n ts))
+
+abbrev pub trying : {A B C : Type 0} → List ℕ → Run A → Run C → Run B → Run (Either (A × C) B)
+trying codes m k n ts = tried codes ts (m ts) k n
