@@ -1,3 +1,4 @@
 pub mod Coded
 pub mod Lowest
 pub mod Seconds
+pub mod Tries
