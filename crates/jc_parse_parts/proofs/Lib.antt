@@ -1,3 +1,4 @@
+pub mod Bools
 pub mod Coded
 pub mod Lowest
 pub mod Seconds

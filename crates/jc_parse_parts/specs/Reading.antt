@@ -2,7 +2,7 @@
 use Rattle.std.specs.Prelude.{ℕ, zero, suc, ◌==◌, Bool, false, cond, ◌&&◌, List, [], ◌∷◌, length}
 use Rattle.jc_lexer.specs.declared.token.Token.{Token}
 use Rattle.jc_reading.specs.Kinds.{kind_code, one_of}
-use Rattle.jc_reading.specs.Reading.{Read, Found, Stopped, Run, noting, becoming, joined, Either, This, That, either}
+use Rattle.jc_reading.specs.Reading.{Read, Found, Stopped, Run, found, noting, becoming, joined, ◌>>=◌, Either, This, That, either}
 
 -- a token of `codes` stands behind one of the kind `code`
 abbrev pub second_is : ℕ → List ℕ → List Token → Bool
@@ -30,3 +30,18 @@ tried codes ts (Stopped l) k n = noting l (becoming That (n ts))
 
 abbrev pub trying : {A B C : Type 0} → List ℕ → Run A → Run C → Run B → Run (Either (A × C) B)
 trying codes m k n ts = tried codes ts (m ts) k n
+
+-- the one, or where it stops the other
+abbrev pub or_else : {A B : Type 0} → List Token → Read A → Run B → Read (Either A B)
+or_else ts (Found a r l) n = Found (This a) r l
+or_else ts (Stopped l) n = noting l (becoming That (n ts))
+
+abbrev pub preferring : {A B : Type 0} → Run A → Run B → Run (Either A B)
+preferring m n ts = or_else ts (m ts) n
+
+-- a value, and more behind it unless it is one that takes no more
+abbrev pub unless : {A T : Type 0} → (A → Bool) → T → Run T → A → List Token → Read (A × T)
+unless closes none more a q = cond (closes a) (found (a, none) q) (becoming (joined a) (more q))
+
+abbrev pub followed : {A T : Type 0} → (A → Bool) → T → Run A → Run T → Run (A × T)
+followed closes none m more ts = m ts >>= unless closes none more
