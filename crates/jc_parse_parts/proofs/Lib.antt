@@ -1,5 +1,9 @@
 pub mod Bools
 pub mod Coded
+pub mod Followed
 pub mod Lowest
+pub mod Prefers
+pub mod Rows
 pub mod Seconds
 pub mod Tries
+pub mod Unbounded
