@@ -1,7 +1,11 @@
+pub mod AnnotationForms
 pub mod Bools
 pub mod Coded
+pub mod ExprForms
 pub mod Followed
+pub mod LedAt
 pub mod Lowest
+pub mod PartForms
 pub mod Prefers
 pub mod Rows
 pub mod Seconds
