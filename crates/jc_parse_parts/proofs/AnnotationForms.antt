@@ -60,7 +60,7 @@ all_mapped shape [] = refl
 all_mapped shape (a ∷ list) = ap (λ b. shape a && b) (all_mapped shape list)
 
 module _ (x : Exprs) where
-  abbrev value_codes : List ℕ
+  abbrev pub value_codes : List ℕ
   value_codes = sign_code sign_of.LeftBrace ∷ expr_codes
 
   abbrev value_fits : ℕ → AnnotationValue → Bool
@@ -130,10 +130,10 @@ module _ (x : Exprs) where
     abbrev Pairs : Coded (Either (Ident × (Unit {0} × AnnotationValue)) AnnotationValue)
     Pairs = preferred (Ident × (Unit {0} × AnnotationValue)) AnnotationValue (sign_code sign_of.Assign ∷ operator_codes) Named (value_coded h)
 
-    abbrev pair_fits : Pair → Bool
+    abbrev pub pair_fits : Pair → Bool
     pair_fits pair = nat_le (pair_height pair) h && is_value pair.value
 
-    abbrev Paired : Coded Pair
+    abbrev pub Paired : Coded Pair
     Paired = made (Either (Ident × (Unit {0} × AnnotationValue)) AnnotationValue) Pair Pairs (pair_made x) pair_tokens pair_fits
 
     told_pair : (o : Either (Ident × (Unit {0} × AnnotationValue)) AnnotationValue) (r : List Told) → pair_tokens (pair_made x o) r ≡ Pairs.tell o r
@@ -187,7 +187,7 @@ module _ (x : Exprs) where
         let named_taken : length q < length (k ∷ m ∷ ts) = ⊎_elim (λ o. o.1) (λ o. absurd (false≢true o.1)) (named_laws.opens (k ∷ m ∷ ts) a q s) in
         (omega (arith, most_left, named_taken), subst (λ (l : List Token). one_of (sign_code sign_of.Assign ∷ operator_codes) l ≡ true) rest (ap (λ n. is_in (sign_code sign_of.Assign ∷ operator_codes) n) assign))
 
-    pairs_laws : Lawful Pair (formed (Paired (suc h)))
+    pub pairs_laws : Lawful Pair (formed (Paired (suc h)))
     pairs_laws =
         made_laws (Either (Ident × (Unit {0} × AnnotationValue)) AnnotationValue) Pair (Pairs (suc h)) (pair_made x) pair_tokens (pair_fits (suc h))
         (preferred_laws (Ident × (Unit {0} × AnnotationValue)) AnnotationValue (sign_code sign_of.Assign ∷ operator_codes) (Named (suc h)) (value_coded (suc h)) named_laws lv

@@ -4,6 +4,7 @@ pub mod Coded
 pub mod ExprForms
 pub mod Followed
 pub mod LedAt
+pub mod ModifierForms
 pub mod Lowest
 pub mod PartForms
 pub mod Prefers
