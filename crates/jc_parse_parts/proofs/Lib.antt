@@ -3,6 +3,7 @@ pub mod Bools
 pub mod Coded
 pub mod ExprForms
 pub mod Followed
+pub mod FormalForms
 pub mod LedAt
 pub mod ModifierForms
 pub mod Lowest
