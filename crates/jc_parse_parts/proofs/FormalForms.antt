@@ -52,7 +52,7 @@ module _ (x : Exprs) where
     abbrev FormalParts : Coded (List Modifier × (TypeTree × (Option (Unit {0}) × (Ident × ℕ))))
     FormalParts = in_order (modifiers_coded x h) (in_order (type_coded h) (in_order (optional (sign_form sign_of.Ellipsis)) (in_order ident_form dims_coded)))
 
-    abbrev formal_fits : Formal → Bool
+    abbrev pub formal_fits : Formal → Bool
     formal_fits f = nat_le (formal_height f) h && are_modifiers f.modifiers
 
     abbrev Formals : Coded Formal
@@ -239,3 +239,152 @@ module _ (x : Exprs) (h : ℕ) where
 
   every_laws : Lawful Formal (formed Each) → Lawful (List Formal) (formed Every)
   every_laws la = unbounded_laws (List Formal) tail_tell tail_starts tail_goes true tail_fits tail_run all_fit (grows la)
+
+-- Formals
+
+base_bits : (m t a n : Bool) → ((m && t) && a) ≡ ((m && a) && (t && (true || n)))
+base_bits m t a n = grind (arith, common_steps)
+
+step_bits : (f m a n r : Bool) → ((f && m) && (a && n && r)) ≡ ((f && a) && ((m && r) && (false || n)))
+step_bits f m a n r = grind (arith, common_steps)
+
+module _ (x : Exprs) (h : ℕ) where
+  abbrev AllThen : Coded (Formal × List Formal)
+  AllThen = following Formal (List Formal) is_variable [] is_nil (Each x h) (Every x h)
+
+  abbrev Enclosed : Coded (Unit {0} × (Option (Formal × List Formal) × Unit {0}))
+  Enclosed = in_order (sign_form sign_of.LeftParen) (in_order (optional AllThen) (sign_form sign_of.RightParen))
+
+  abbrev pub formals_fit : List Formal → Bool
+  formals_fit list = nat_le (most (map formal_height list)) h && are_formals list
+
+  abbrev formals_tell : List Formal → List Told → List Told
+  formals_tell list r = sign sign_of.LeftParen ∷ commas (map formal_tokens list) (sign sign_of.RightParen ∷ r)
+
+  abbrev pub formals_coded : Coded (List Formal)
+  formals_coded = record { tell = formals_tell; fits = formals_fit; run = formals_run (formal_run x h); starts = sign_code sign_of.LeftParen ∷ []; goes = []; empties = false }
+
+  fit_list : (f : Formal) (list : List Formal) → formals_fit (f ∷ list) ≡ AllThen.fits (f, list)
+  fit_list f [] =
+      ap (λ b. b && are_modifiers f.modifiers) (room_max (formal_height f) 0 h)
+      ∙ base_bits (nat_le (formal_height f) h) (nat_le 0 h) (are_modifiers f.modifiers) (not f.variable_arity)
+      ∙ ap (λ b. (nat_le (formal_height f) h && are_modifiers f.modifiers) && (b && true)) (room_above h)
+  fit_list f (g ∷ list) =
+      ap (λ b. b && (are_modifiers f.modifiers && not f.variable_arity && are_formals (g ∷ list))) (room_max (formal_height f) (most (map formal_height (g ∷ list))) h)
+      ∙ step_bits (nat_le (formal_height f) h) (nat_le (most (map formal_height (g ∷ list))) h) (are_modifiers f.modifiers) (not f.variable_arity) (are_formals (g ∷ list))
+      ∙ ap (λ b. (nat_le (formal_height f) h && are_modifiers f.modifiers) && (b && (false || not f.variable_arity))) (fit_list g list)
+
+  told_formals : (p : Unit {0} × (Option (Formal × List Formal) × Unit {0})) (r : List Told) → formals_tell (formals_made p) r ≡ Enclosed.tell p r
+  told_formals (u, (None, v)) r = refl
+  told_formals (u, (Some (f, list), v)) r = refl
+
+  fit_formals : (p : Unit {0} × (Option (Formal × List Formal) × Unit {0})) → formals_fit (formals_made p) ≡ Enclosed.fits p
+  fit_formals (u, (None, v)) = ap (λ b. b && true) (room_above h)
+  fit_formals (u, (Some (f, list), v)) = fit_list f list ∙ sym (and-true (AllThen.fits (f, list)))
+
+  back_formals : (list : List Formal) → (p : Unit {0} × (Option (Formal × List Formal) × Unit {0})) × (formals_made p ≡ list)
+  back_formals [] = ((tt, (None, tt)), refl)
+  back_formals (f ∷ list) = ((tt, (Some (f, list), tt)), refl)
+
+  follow_all : Lawful Formal (formed (Each x h)) → Follow Formal (List Formal) is_variable [] is_nil (Each x h) (Every x h)
+  follow_all la = record {
+    solid = refl; free = refl; bare = λ r. refl; none_fits = refl; none_is = refl; only = only_nil x h;
+    some = λ ts list r s e. some_tail x h ts list r s.0 e;
+    whole = λ ts f r s e c. la.exact ts f r s (apart_sets (tail_starts x h) (Each x h).goes refl (front_code r) c);
+  }
+
+  then_law : ExprLaws x → Law (Formal × List Formal) AllThen
+  then_law lx =
+      ⊎_elim (λ la. inl (following_laws Formal (List Formal) is_variable [] is_nil (Each x h) (Every x h) la (every_laws x h la) (follow_all la)))
+      (λ v. inr (record {
+        stops = λ ts. ap (λ (m : Read Formal). m >>= unless is_variable [] (Every x h).run) (v.stops ts);
+        never = λ p. and_left ((Each x h).fits p.0) ((Every x h).fits p.1 && (is_nil p.1 || not (is_variable p.0))) (v.never p.0);
+      }))
+      (formal_law x lx h)
+
+  pub formals_laws : ExprLaws x → Lawful (List Formal) (formed formals_coded)
+  unfolding formals_run
+  formals_laws lx =
+      made_laws (Unit {0} × (Option (Formal × List Formal) × Unit {0})) (List Formal) Enclosed formals_made formals_tell formals_fit
+      (in_order_laws (Unit {0}) (Option (Formal × List Formal) × Unit {0}) (sign_form sign_of.LeftParen) (in_order (optional AllThen) (sign_form sign_of.RightParen)) (sign_laws sign_of.LeftParen)
+      (in_order_laws (Option (Formal × List Formal)) (Unit {0}) (optional AllThen) (sign_form sign_of.RightParen) (optional_law (Formal × List Formal) AllThen (then_law lx) refl) (sign_laws sign_of.RightParen) refl) refl)
+      (same_makes (Unit {0} × (Option (Formal × List Formal) × Unit {0})) (List Formal) Enclosed formals_made formals_tell formals_fit (record { told = told_formals; fit = fit_formals; back = back_formals }))
+
+-- Var
+
+module _ (x : Exprs) where
+  abbrev Given : ℕ → Coded (Unit {0} × Init)
+  Given h = in_order (sign_form sign_of.Assign) (init_coded x h)
+
+  given_law : ExprLaws x → (h : ℕ) → Law (Unit {0} × Init) (roomy h (Given h))
+  given_law lx = roomy_law (Unit {0} × Init) Given (never_second (Unit {0}) Init (sign_form sign_of.Assign) (init_coded x 0) (λ i. and_left (nat_le (init_height i) 0) (is_init i) (init_tall i)))
+      (λ h. in_order_laws (Unit {0}) Init (sign_form sign_of.Assign) (init_coded x (suc h)) (sign_laws sign_of.Assign) (lx.init h) refl)
+
+  module _ (h : ℕ) where
+    abbrev VarParts : Coded (Ident × (ℕ × Option (Unit {0} × Init)))
+    VarParts = in_order ident_form (in_order dims_coded (optional (roomy h (Given h))))
+
+    abbrev pub var_fits : Var → Bool
+    var_fits v = nat_le (var_height v) h && is_var v
+
+    abbrev pub var_coded : Coded Var
+    var_coded = record { tell = var_tokens; fits = var_fits; run = var_run x h; starts = word_code ∷ []; goes = VarParts.goes; empties = false }
+
+    told_var : (p : Ident × (ℕ × Option (Unit {0} × Init))) (r : List Told) → var_tokens (var_made p) r ≡ VarParts.tell p r
+    told_var (name, (dims, None)) r = refl
+    told_var (name, (dims, Some p)) r = refl
+
+    fit_var : (p : Ident × (ℕ × Option (Unit {0} × Init))) → var_fits (var_made p) ≡ VarParts.fits p
+    fit_var (name, (dims, None)) = ap (λ b. b && true) (room_above h)
+    fit_var (name, (dims, Some p)) = refl
+
+    back_var : (name : Ident) (dims : ℕ) (init : Option Init) → (p : Ident × (ℕ × Option (Unit {0} × Init))) × (var_made p ≡ record { name = name; dims = dims; init = init })
+    back_var name dims None = ((name, (dims, None)), refl)
+    back_var name dims (Some init) = ((name, (dims, Some (tt, init))), refl)
+
+    pub var_laws : ExprLaws x → Lawful Var (formed var_coded)
+    unfolding var_run
+    var_laws lx =
+        made_laws (Ident × (ℕ × Option (Unit {0} × Init))) Var VarParts var_made var_tokens var_fits
+        (in_order_laws Ident (ℕ × Option (Unit {0} × Init)) ident_form (in_order dims_coded (optional (roomy h (Given h)))) ident_laws
+        (in_order_laws ℕ (Option (Unit {0} × Init)) dims_coded (optional (roomy h (Given h))) dims_coded_laws (optional_law (Unit {0} × Init) (roomy h (Given h)) (given_law lx h) refl) refl) refl)
+        (same_makes (Ident × (ℕ × Option (Unit {0} × Init))) Var VarParts var_made var_tokens var_fits (record { told = told_var; fit = fit_var; back = λ v. back_var v.name v.dims v.init }))
+
+    -- Var {"," Var}
+    abbrev pub vars_coded : Coded (Var × List (Unit {0} × Var))
+    vars_coded = in_order var_coded (behind_each sign_of.Comma var_coded)
+
+    pub vars_laws : ExprLaws x → Lawful (Var × List (Unit {0} × Var)) (formed vars_coded)
+    vars_laws lx = in_order_laws Var (List (Unit {0} × Var)) var_coded (behind_each sign_of.Comma var_coded) (var_laws lx) (behind_each_laws Var sign_of.Comma var_coded (var_laws lx) refl refl) refl
+
+-- a type or "void"
+
+module _ (h : ℕ) where
+  abbrev Results : Coded (Either ℕ TypeTree)
+  Results = one_or (key_code key_of.Void ∷ []) (key_at_form key_of.Void) (type_coded h)
+
+  abbrev pub result_fits : ResultType → Bool
+  result_fits r = nat_le (result_height r) h
+
+  abbrev pub result_coded : Coded ResultType
+  result_coded = record { tell = result_tokens; fits = result_fits; run = result_run h; starts = Results.starts; goes = Results.goes; empties = false }
+
+  told_result : (o : Either ℕ TypeTree) (r : List Told) → result_tokens (result_made o) r ≡ Results.tell o r
+  told_result (This at) r = refl
+  told_result (That ty) r = refl
+
+  fit_result : (o : Either ℕ TypeTree) → result_fits (result_made o) ≡ Results.fits o
+  fit_result (This at) = room_above h
+  fit_result (That ty) = refl
+
+  back_result : (r : ResultType) → (o : Either ℕ TypeTree) × (result_made o ≡ r)
+  back_result (result_of.Void at) = (This at, refl)
+  back_result (result_of.Type ty) = (That ty, refl)
+
+  pub result_laws : Lawful ResultType (formed result_coded)
+  unfolding result_run
+  result_laws =
+      ⊎_elim (λ (l : Lawful ResultType (formed result_coded)). l) (λ v. absurd (false≢true (sym (v.never (result_of.Void 0)) ∙ room_above h)))
+      (made_law (Either ℕ TypeTree) ResultType Results result_made result_tokens result_fits
+      (one_or_law ℕ TypeTree (key_code key_of.Void ∷ []) (key_at_form key_of.Void) (type_coded h) (record { solid = refl; solid' = refl; this = refl; that = refl }) (inl (key_at_laws key_of.Void)) (type_law h))
+      (same_makes (Either ℕ TypeTree) ResultType Results result_made result_tokens result_fits (record { told = told_result; fit = fit_result; back = back_result })))
