@@ -1,9 +1,11 @@
 pub mod AnnotationForms
 pub mod Bools
 pub mod Coded
+pub mod Depends
 pub mod ExprForms
 pub mod Followed
 pub mod FormalForms
+pub mod HeadForms
 pub mod LedAt
 pub mod ModifierForms
 pub mod Lowest

@@ -45,3 +45,12 @@ unless closes none more a q = cond (closes a) (found (a, none) q) (becoming (joi
 
 abbrev pub followed : {A T : Type 0} → (A → Bool) → T → Run A → Run T → Run (A × T)
 followed closes none m more ts = m ts >>= unless closes none more
+
+-- one, and then another that its value tells
+abbrev pub by_value : {A B : Type 0} → Run A → (A → Run B) → Run (A × B)
+by_value m n ts = m ts >>= (λ a q. becoming (joined a) (n a q))
+
+-- where there is no room for the other, the one alone; else the one or the other by the first two tokens
+unfoldable pub roomy_second : {A B : Type 0} → ℕ → ℕ → List ℕ → Run A → Run B → Run (Either A B)
+roomy_second zero code codes m n ts = becoming This (m ts)
+roomy_second (suc h) code codes m n ts = by_second code codes m n ts
