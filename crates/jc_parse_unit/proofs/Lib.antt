@@ -1,3 +1,4 @@
 pub mod Bundles
 pub mod Jumps
 pub mod SimpleStatements
+pub mod Switches

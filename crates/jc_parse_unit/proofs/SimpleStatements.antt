@@ -175,7 +175,7 @@ module _ (x : Exprs) (h : ℕ) (l : Level) where
   abbrev BlockParts : Coded (PlacedBraces Stmt)
   BlockParts = in_order (sign_at_form sign_of.LeftBrace) (in_order (repeated (item_coded h l)) (sign_form sign_of.RightBrace))
 
-  items_fit : (items : List Stmt) → (nat_le (most (map stmt_height items)) h && list_all in_block (map stmt_shape items)) ≡ fits_all (item_coded h l).fits items
+  pub items_fit : (items : List Stmt) → (nat_le (most (map stmt_height items)) h && list_all in_block (map stmt_shape items)) ≡ fits_all (item_coded h l).fits items
   items_fit items = ap (λ b. nat_le (most (map stmt_height items)) h && b) (all_shaped in_block items) ∙ room_and stmt_height (λ s. in_block (stmt_shape s)) h items
 
   fit_block : (p : PlacedBraces Stmt) → good_at h (block_made p) ≡ BlockParts.fits p
