@@ -2,3 +2,4 @@ pub mod Bundles
 pub mod Jumps
 pub mod SimpleStatements
 pub mod Switches
+pub mod TryClauses

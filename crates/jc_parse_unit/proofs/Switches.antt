@@ -93,13 +93,13 @@ part_finally clause_of.Default items = refl
 part_finally (clause_of.Catch modifiers first more name) items = refl
 part_finally clause_of.Finally items = refl
 
-switch_part : (c : Clause) → is_of_switch (clause_shape c).part ≡ is_case (out-Clause c).head
+pub switch_part : (c : Clause) → is_of_switch (clause_shape c).part ≡ is_case (out-Clause c).head
 switch_part c = ap (λ (s : ClauseShape). is_of_switch s.part) (clause_shape-parts c) ∙ part_switch (out-Clause c).head (map stmt_shape (out-Clause c).items)
 
-catch_part : (c : Clause) → is_of_catch (clause_shape c).part ≡ is_catch (out-Clause c).head
+pub catch_part : (c : Clause) → is_of_catch (clause_shape c).part ≡ is_catch (out-Clause c).head
 catch_part c = ap (λ (s : ClauseShape). is_of_catch s.part) (clause_shape-parts c) ∙ part_catch (out-Clause c).head (map stmt_shape (out-Clause c).items)
 
-finally_part : (c : Clause) → is_of_finally (clause_shape c).part ≡ is_finally (out-Clause c).head
+pub finally_part : (c : Clause) → is_of_finally (clause_shape c).part ≡ is_finally (out-Clause c).head
 finally_part c = ap (λ (s : ClauseShape). is_of_finally s.part) (clause_shape-parts c) ∙ part_finally (out-Clause c).head (map stmt_shape (out-Clause c).items)
 
 abbrev pub clause_good : ℕ → Clause → Bool
@@ -111,14 +111,14 @@ clause_good_made h at head items =
     ∙ ap (λ (s : ClauseShape). nat_le (max (clause_head_height head) (most (map stmt_height items))) h && s.good) (clause_shape-made at head items)
 
 -- each of a list, as told of one
-list_fit : {A : Type 0} (height : A → ℕ) (test fits : A → Bool) (h : ℕ) → ((a : A) → (nat_le (height a) h && test a) ≡ fits a) → (list : List A) → (nat_le (most (map height list)) h && list_all test list) ≡ fits_all fits list
+pub list_fit : {A : Type 0} (height : A → ℕ) (test fits : A → Bool) (h : ℕ) → ((a : A) → (nat_le (height a) h && test a) ≡ fits a) → (list : List A) → (nat_le (most (map height list)) h && list_all test list) ≡ fits_all fits list
 list_fit height test fits h e list = room_and height test h list ∙ ap (λ (f : _ → Bool). fits_all f list) (fun_ext e)
 
-all_clauses : (test : ClauseShape → Bool) (list : List Clause) → list_all test (map clause_shape list) ≡ list_all (λ c. test (clause_shape c)) list
+pub all_clauses : (test : ClauseShape → Bool) (list : List Clause) → list_all test (map clause_shape list) ≡ list_all (λ c. test (clause_shape c)) list
 all_clauses test [] = refl
 all_clauses test (c ∷ list) = ap (λ b. test (clause_shape c) && b) (all_clauses test list)
 
-told_clauses : (list : List Clause) (r : List Told) → each (map clause_tokens list) r ≡ tell_all clause_tokens list r
+pub told_clauses : (list : List Clause) (r : List Told) → each (map clause_tokens list) r ≡ tell_all clause_tokens list r
 told_clauses [] r = refl
 told_clauses (c ∷ list) r = ap (clause_tokens c) (told_clauses list r)
 
@@ -164,7 +164,7 @@ module _ (x : Exprs) (h : ℕ) (l : Level) where
   abbrev case_fits : Clause → Bool
   case_fits c = is_case (out-Clause c).head && clause_good h c
 
-  abbrev case_coded : Coded Clause
+  abbrev pub case_coded : Coded Clause
   case_coded = record { tell = clause_tokens; fits = case_fits; run = case_run x h l; starts = CaseParts.starts; goes = CaseParts.goes; empties = false }
 
 labels_laws : (x : Exprs) (lx : ExprLaws x) (h : ℕ) (l : Level) → Lawful CaseLabel (formed (Labels x h l))
@@ -182,7 +182,7 @@ labels_laws x lx (suc k) l =
     (roomy_suc k (in_order (key_at_form key_of.Case) (in_order (conditional_coded x (suc k)) (sign_form sign_of.Colon))) (then_a (a_key_at key_of.Case) (then_a (has (conditional_coded x (suc k)) (lx.conditional k)) (a_sign sign_of.Colon) refl) refl).laws)
     (inl (then_a (a_key_at key_of.Default) (a_sign sign_of.Colon) refl).laws))
 
-case_laws : (x : Exprs) (lx : ExprLaws x) (h : ℕ) (l : Level) → LevelLaws h l → Lawful Clause (formed (case_coded x h l))
+pub case_laws : (x : Exprs) (lx : ExprLaws x) (h : ℕ) (l : Level) → LevelLaws h l → Lawful Clause (formed (case_coded x h l))
 unfolding case_run
 case_laws x lx h l f =
     made_laws (CaseLabel × List Stmt) Clause (CaseParts x h l) case_made clause_tokens (case_fits x h l)
