@@ -3,3 +3,4 @@ pub mod Jumps
 pub mod SimpleStatements
 pub mod Switches
 pub mod TryClauses
+pub mod TryStatements

@@ -60,13 +60,13 @@ use Rattle.jc_parse_unit.proofs.SimpleStatements.{simple_codes, stmt_codes, item
 use Rattle.jc_parse_unit.proofs.Switches.{is_catch, is_finally, catch_part, finally_part, clause_good, clause_good_made, told_clauses}
 
 -- behind each other between braces
-abbrev Braced : (h : ℕ) (l : Level) → Coded (Braces Stmt)
+abbrev pub Braced : (h : ℕ) (l : Level) → Coded (Braces Stmt)
 Braced h l = in_order (sign_form sign_of.LeftBrace) (in_order (repeated (item_coded h l)) (sign_form sign_of.RightBrace))
 
 abbrev pub braced_has : (h : ℕ) (l : Level) (f : LevelLaws h l) → Has (Braces Stmt)
 braced_has h l f = then_a (a_sign sign_of.LeftBrace) (then_a (has (repeated (item_coded h l)) (repeated_law Stmt (item_coded h l) (item_law h l f) refl refl)) (a_sign sign_of.RightBrace) refl) refl
 
-told_braced : (h : ℕ) (l : Level) (p : Braces Stmt) (r : List Told) → braced (map stmt_tokens p.1.0) r ≡ (Braced h l).tell p r
+pub told_braced : (h : ℕ) (l : Level) (p : Braces Stmt) (r : List Told) → braced (map stmt_tokens p.1.0) r ≡ (Braced h l).tell p r
 told_braced h l (u, (items, v)) r = ap (λ (t : List Told). sign sign_of.LeftBrace ∷ t) (told_items items (sign sign_of.RightBrace ∷ r))
 
 module _ (x : Exprs) (h : ℕ) (l : Level) where
@@ -155,7 +155,7 @@ module _ (x : Exprs) (h : ℕ) (l : Level) where
 
   -- catches and then a finally
 
-  abbrev catch_list_fits : List Clause → Bool
+  abbrev pub catch_list_fits : List Clause → Bool
   catch_list_fits list = nat_le (most (map clause_height list)) h && catches_good (map clause_shape list)
 
   abbrev Listed : Coded (List Clause × Option Clause)
@@ -252,16 +252,16 @@ module _ (x : Exprs) (h : ℕ) (l : Level) where
   told_list [] (Some c) r = refl
   told_list (c ∷ catches) o r = ap (clause_tokens c) (told_list catches o r)
 
-  abbrev catch_list_tell : List Clause → List Told → List Told
+  abbrev pub catch_list_tell : List Clause → List Told → List Told
   catch_list_tell list r = each (map clause_tokens list) r
 
-  abbrev clauses_coded : Coded (List Clause)
+  abbrev pub clauses_coded : Coded (List Clause)
   clauses_coded = record { tell = catch_list_tell; fits = catch_list_fits; run = clauses_run x h l; starts = Listed.starts; goes = Listed.goes; empties = true }
 
   listed_has : ExprLaws x → LevelLaws h l → Lawful (List Clause × Option Clause) (formed Listed)
   listed_has lx f = (then_a (any_of (has catch_coded (catch_laws lx f)) refl refl) (maybe_a (has finally_coded (finally_laws f)) refl) refl).laws
 
-  clauses_laws : ExprLaws x → LevelLaws h l → Lawful (List Clause) (formed clauses_coded)
+  pub clauses_laws : ExprLaws x → LevelLaws h l → Lawful (List Clause) (formed clauses_coded)
   unfolding clauses_run
   clauses_laws lx f =
       made_laws (List Clause × Option Clause) (List Clause) Listed clauses_made catch_list_tell catch_list_fits (listed_has lx f)
@@ -276,10 +276,10 @@ module _ (x : Exprs) (h : ℕ) (l : Level) where
   abbrev SomeListed : Coded (Either (Clause × (List Clause × Option Clause)) Clause)
   SomeListed = one_or (key_code key_of.Catch ∷ []) (in_order catch_coded Listed) finally_coded
 
-  abbrev some_fits : List Clause → Bool
+  abbrev pub some_fits : List Clause → Bool
   some_fits list = nat_le (most (map clause_height list)) h && (some_clause (map clause_shape list) && catches_good (map clause_shape list))
 
-  abbrev some_clauses_coded : Coded (List Clause)
+  abbrev pub some_clauses_coded : Coded (List Clause)
   some_clauses_coded = record { tell = catch_list_tell; fits = some_fits; run = some_clauses_run x h l; starts = SomeListed.starts; goes = SomeListed.goes; empties = false }
 
   forth_some : (o : Either (Clause × (List Clause × Option Clause)) Clause) → SomeListed.fits o ≡ true → some_fits (some_clauses_made o) ≡ true
@@ -314,7 +314,7 @@ module _ (x : Exprs) (h : ℕ) (l : Level) where
   told_some (This (c, (catches, o))) r = ap (clause_tokens c) (told_list catches o r)
   told_some (That c) r = refl
 
-  some_clauses_laws : ExprLaws x → LevelLaws h l → Lawful (List Clause) (formed some_clauses_coded)
+  pub some_clauses_laws : ExprLaws x → LevelLaws h l → Lawful (List Clause) (formed some_clauses_coded)
   unfolding some_clauses_run
   some_clauses_laws lx f =
       made_laws (Either (Clause × (List Clause × Option Clause)) Clause) (List Clause) SomeListed some_clauses_made catch_list_tell some_fits
