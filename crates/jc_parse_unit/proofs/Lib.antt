@@ -1,4 +1,6 @@
 pub mod Bundles
+pub mod Closed
+pub mod IfStatements
 pub mod Jumps
 pub mod SimpleStatements
 pub mod Switches

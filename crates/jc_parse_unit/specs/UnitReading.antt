@@ -36,7 +36,7 @@ use Rattle.jc_tree.specs.declared.statement.TopLevel.TheVariants as top_of
 use Rattle.jc_tree.specs.declared.statement.TypeParams.{TypeParams}
 use Rattle.jc_tree.specs.declared.statement.Var.{Var}
 use Rattle.jc_tree.specs.Heights.{most, modifier_height}
-use Rattle.jc_grammar.specs.Units.{StmtShape, stmt_shape}
+use Rattle.jc_grammar.specs.Units.{StmtShape, clause_shape, stmt_shape}
 use Rattle.jc_reading.specs.Kinds.{sign_code, key_code, word_code}
 use Rattle.jc_reading.specs.Reading.{Read, Found, Stopped, Run, found, as_new, in_turn, perhaps, any_number, each_behind, Either, This, That, either, behind_it, commas_run, of_kind, at_kind, an_ident_at}
 use Rattle.jc_parse_type.specs.TypeReading.{dims_run, type_run, class_run}
@@ -271,3 +271,17 @@ module _ (x : Exprs) where
     -- an `else` behind the arm would be the one of its own body
     abbrev pub takes_else : Stmt → Bool
     takes_else s = (stmt_shape s).open_end
+
+-- an `else` behind the arm belongs to its body
+abbrev pub arm_open : Clause → Bool
+arm_open c = (clause_shape c).open_end
+
+-- what is behind an arm, with room for n arms
+unfoldable pub branch_run : ℕ → Run Clause → Run Stmt → Run Branch
+branch_run zero arm other ts = found no_more ts
+branch_run (suc n) arm other ts =
+    as_new branch_made (perhaps (in_turn (of_kind (key_code key_of.Else)) (either (key_code key_of.If ∷ []) (followed arm_open no_more arm (branch_run n arm other)) other))) ts
+
+-- arms, each but the first behind an `else`
+unfoldable pub if_run : Exprs → ℕ → Level → Run Stmt
+if_run x h l = as_new if_made (with_room h (followed arm_open no_more (arm_run x h l) (λ ts. branch_run (length ts) (arm_run x h l) l.other ts)))

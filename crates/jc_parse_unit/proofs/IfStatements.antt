@@ -1,0 +1,318 @@
+-- The statement `if`: its arms, and what is behind the last `else`.
+use Rattle.std.proofs.Common.{length-append, ◌≡◌, ℕ, zero, suc, max, Bool, true, false, cond, List, [], ◌∷◌, ◌++◌, map, length, Option, Some, None, refl, sym, ap, ◌∙◌, subst, ⊎_elim, ◌⊎◌, inl, inr, arith}
+use Rattle.std.proofs.Math.Bool.{and-true}
+use Rattle.std.proofs.Math.Path.{fun_ext}
+use Rattle.std.proofs.lemmas.Bool.{false≢true, and_left, and_right, and_parts, and_from, or_left, or_right, or_cases, cases_Bool}
+use Rattle.std.proofs.lemmas.Grind.{common_steps}
+use Rattle.std.specs.Prelude.{not, ◌+◌, ◌≤◌, ◌<◌, ◌&&◌, ◌||◌, ◌==◌, nat_le}
+use Rattle.std.specs.List.{list_all}
+use Rattle.jc_lexer.specs.declared.token.Key.TheVariants as key_of
+use Rattle.jc_lexer.specs.declared.token.Sign.TheVariants as sign_of
+use Rattle.jc_lexer.specs.declared.token.Token.{Token}
+use Rattle.jc_tree.specs.declared.name.Ident.{Ident}
+use Rattle.jc_tree.specs.declared.expression.Expr.{Expr}
+use Rattle.jc_tree.specs.declared.statement.Clause.{Clause, out-Clause, roll-Clause, roll-out-Clause}
+use Rattle.jc_tree.specs.declared.types.ClassTree.{ClassTree}
+use Rattle.jc_tree.specs.declared.types.TypeTree.{TypeTree}
+use Rattle.jc_tree.specs.declared.statement.ClauseHead.{ClauseHead}
+use Rattle.jc_tree.specs.declared.statement.ClauseHead.TheVariants as clause_of
+use Rattle.jc_tree.specs.declared.statement.Modifier.{Modifier}
+use Rattle.jc_tree.specs.declared.statement.Resource.{Resource}
+use Rattle.jc_tree.specs.declared.statement.Resources.{Resources}
+use Rattle.jc_tree.specs.declared.statement.Declaration.{Declaration}
+use Rattle.jc_tree.specs.declared.statement.Member.{Member}
+use Rattle.jc_tree.specs.declared.statement.Stmt.{Stmt, Stmt-F, out-Stmt, roll-Stmt, roll-out-Stmt}
+use Rattle.jc_tree.specs.declared.statement.Stmt.TheVariants as stmt_of
+use Rattle.jc_tree.specs.Heights.{most, in_some, expr_height, type_height, class_height, modifier_height, clause_head_height, clause_height, resource_height, resources_of_height, stmt_height, declaration_height}
+use Rattle.jc_tree.proofs.HeightsOfStatements.{clause_height-made, clause_height-parts, stmt_height-If, stmt_height-While, stmt_height-Do, stmt_height-Return, stmt_height-Break, stmt_height-Continue, stmt_height-Throw}
+use Rattle.jc_grammar.specs.Told.{Told, Spelled, sign, sign_at, key, key_at, ident, each}
+use Rattle.jc_grammar.specs.Expressions.{expr_tokens}
+use Rattle.jc_grammar.specs.Expressions.{if_there}
+use Rattle.jc_grammar.specs.Types.{type_tokens, class_tokens}
+use Rattle.jc_grammar.specs.Parts.{if_some, modifiers_tokens, after_bars, resource_tokens, after_semicolons, resources_tokens}
+use Rattle.jc_grammar.specs.Shapes.{is_expr}
+use Rattle.jc_grammar.specs.Statements.{stmt_tokens, clause_tokens, after_elses}
+use Rattle.jc_grammar.specs.Units.{arms_good, one_body, if_shape, ClauseShape, is_of_switch, is_of_catch, is_of_finally, is_of_if, clause_with, clause_shape, switch_good, catches_good, some_clause, try_good, are_modifiers, is_resource, are_resources, is_conditional, StmtShape, Anywhere, statement, if_there_passes, in_body, in_block, in_switch, behind_else, stmt_shape, is_declaration}
+use Rattle.jc_grammar.proofs.ShapesOfStatements.{clause_shape-made, clause_shape-parts, stmt_shape-If, stmt_shape-While, stmt_shape-Do, stmt_shape-Return, stmt_shape-Break, stmt_shape-Continue, stmt_shape-Throw}
+use Rattle.jc_grammar.proofs.TokensOfStatements.{clause_tokens-made, stmt_tokens-If, stmt_tokens-While, stmt_tokens-Do, stmt_tokens-Return, stmt_tokens-Break, stmt_tokens-Continue, stmt_tokens-Throw}
+use Rattle.jc_reading.specs.Kinds.{kind_code, sign_code, key_code, word_code, is_in, front_code, one_of}
+use Rattle.jc_reading.specs.Reading.{Read, Found, Stopped, Run, found, becoming, joined, in_turn, of_kind, perhaps, perhaps_from, as_new, either, ◌>>=◌, Takes, Either, This, That, behind_it}
+use Rattle.jc_reading.proofs.Steps.{Good, IsFound, found_bind, found_becoming, takes_length}
+use Rattle.jc_reading.proofs.Forms.{Form, Lawful, Stands}
+use Rattle.jc_reading.proofs.Lists.{tell_all, fits_all}
+use Rattle.jc_reading.proofs.Rooms.{room_none, room_above, room_suc, room_max, room_all}
+use Rattle.jc_parse_parts.specs.Reading.{with_room}
+use Rattle.jc_parse_parts.specs.PartReading.{Exprs}
+use Rattle.jc_parse_parts.proofs.AnnotationForms.{room_and}
+use Rattle.jc_parse_parts.proofs.Coded.{Coded, formed, in_order, in_order_laws, optional, repeated, one_or, Apart, one_or_laws, Same, same_makes, made, Makes, made_laws, OfKind, kind_makes}
+use Rattle.jc_parse_parts.proofs.ExprForms.{ExprLaws, expr_coded, conditional_coded, expr_tall}
+use Rattle.jc_parse_parts.proofs.HeadForms.{head_starts}
+use Rattle.jc_parse_parts.proofs.Lowest.{Law, Void, roomy, one_or_law, made_law, optional_law, repeated_law, never_first, never_second}
+use Rattle.jc_parse_parts.proofs.ModifierForms.{modifiers_coded, modifiers_coded_laws}
+use Rattle.jc_parse_parts.proofs.PartForms.{sign_form, sign_at_form, key_form, key_at_form, ident_form, class_coded, class_coded_laws, type_coded, type_coded_laws, type_never, behind_each, behind_each_laws, room_behind}
+use Rattle.jc_parse_unit.specs.UnitReading.{arm_made, arm_run, arm_open, Branch, no_more, branch_made, branch_run, if_made, if_run, Level, Braces, CaseLabel, case_made, case_run, switch_made, switch_run, CatchParts, catch_made, catch_run, finally_made, finally_run, or_none, clauses_made, clauses_run, some_clauses_made, some_clauses_run, resource_made, resource_run, resources_made, resources_run, TryParts, try_made, try_run}
+use Rattle.jc_parse_unit.proofs.Bundles.{Has, has, a_sign, a_sign_at, a_key, a_key_at, an_ident, then_a, maybe_a, any_of, roomy_zero, roomy_suc, lawful_by}
+
+use Rattle.jc_reading.proofs.Ledby.{unled, unled_back}
+use Rattle.jc_parse_parts.proofs.Rows.{rows, rows_tail, rows_tail_laws, Separate}
+use Rattle.jc_parse_unit.proofs.SimpleStatements.{simple_codes, stmt_codes, item_codes, else_codes, body_coded, item_coded, case_item_coded, LevelLaws, body_law, item_law, case_item_law, Layer, good_at, good_made, stmt_fits, stmt_made_law, told_items, all_shaped, items_fit, Parens, expr_never, parens_never, parens_has}
+
+use Rattle.jc_parse_unit.proofs.Switches.{is_catch, is_finally, catch_part, finally_part, clause_good, clause_good_made, told_clauses}
+
+use Rattle.std.proofs.lemmas.Bool.{cond-true, cond-false}
+use Rattle.jc_reading.proofs.Pairs.{cut}
+use Rattle.jc_reading.proofs.Signs.{none_common, all_in, apart_sets, within_sets, key_laws}
+use Rattle.jc_reading.proofs.Choices.{tell_either, fits_either}
+use Rattle.jc_parse_parts.specs.Reading.{unless, followed}
+use Rattle.jc_parse_parts.proofs.Coded.{widened, widened_laws, optional_laws}
+use Rattle.jc_parse_parts.proofs.Followed.{following, Follow, following_laws, following_whole}
+use Rattle.jc_parse_parts.proofs.Lowest.{idle_laws}
+use Rattle.jc_parse_parts.proofs.Unbounded.{Grows, unbounded, sized, unbounded_laws, takes_some, bind_same, good_more}
+use Rattle.jc_parse_unit.proofs.SimpleStatements.{other_coded}
+use Rattle.jc_parse_unit.proofs.Switches.{clause_good, clause_good_made}
+use Rattle.jc_parse_unit.proofs.Closed.{closed_order, closed_made, closed_optional, closed_this, closed_that}
+
+-- an `if` with one statement
+abbrev is_arm : ClauseHead → List Stmt → Bool
+is_arm (clause_of.If test) (s ∷ []) = true
+is_arm _ _ = false
+
+module _ (x : Exprs) (h : ℕ) (l : Level) where
+  abbrev ArmParts : Coded (ℕ × ((Unit {0} × (Expr × Unit {0})) × Stmt))
+  ArmParts = in_order (key_at_form key_of.If) (in_order (Parens x h l) (body_coded h l))
+
+  abbrev arm_fits : Clause → Bool
+  arm_fits c = is_arm (out-Clause c).head (out-Clause c).items && clause_good h c
+
+  abbrev arm_coded : Coded Clause
+  arm_coded = record { tell = clause_tokens; fits = arm_fits; run = arm_run x h l; starts = key_code key_of.If ∷ []; goes = else_codes; empties = false }
+
+  arm_bits : (e b i g : Bool) → ((e && b) && (i && g)) ≡ (true && ((true && ((e && i) && true)) && (b && g)))
+  arm_bits e b i g = grind (arith, common_steps)
+
+  fit_arm : (p : ℕ × ((Unit {0} × (Expr × Unit {0})) × Stmt)) → clause_good h (arm_made p) ≡ ArmParts.fits p
+  fit_arm (at, ((u, (test, v)), body)) =
+      clause_good_made h at (clause_of.If test) (body ∷ [])
+      ∙ ap (λ b. b && (is_expr test && in_body (stmt_shape body))) (room_max (expr_height test) (max (stmt_height body) 0) h ∙ ap (λ b. nat_le (expr_height test) h && b) (room_max (stmt_height body) 0 h ∙ ap (λ b. nat_le (stmt_height body) h && b) (room_above h) ∙ and-true (nat_le (stmt_height body) h)))
+      ∙ arm_bits (nat_le (expr_height test) h) (nat_le (stmt_height body) h) (is_expr test) (in_body (stmt_shape body))
+
+  back_arm : (c : Clause) (head : ClauseHead) (items : List Stmt) → (out-Clause c).head ≡ head → (out-Clause c).items ≡ items → is_arm head items ≡ true → (p : ℕ × ((Unit {0} × (Expr × Unit {0})) × Stmt)) × (arm_made p ≡ c)
+  back_arm c (clause_of.If test) (s ∷ []) q i g =
+      (((out-Clause c).at, ((tt, (test, tt)), s)),
+      ap (λ (k : ClauseHead). roll-Clause (record { at = (out-Clause c).at; head = k; items = s ∷ [] })) (sym q)
+      ∙ ap (λ (list : List Stmt). roll-Clause (record { at = (out-Clause c).at; head = (out-Clause c).head; items = list })) (sym i) ∙ roll-out-Clause c)
+  back_arm c _ _ q i g = absurd (false≢true g)
+
+  arm_makes : Makes (ℕ × ((Unit {0} × (Expr × Unit {0})) × Stmt)) Clause ArmParts arm_made clause_tokens arm_fits
+  arm_makes =
+      kind_makes (ℕ × ((Unit {0} × (Expr × Unit {0})) × Stmt)) Clause ArmParts arm_made clause_tokens (λ c. is_arm (out-Clause c).head (out-Clause c).items) (clause_good h)
+      (record { told = λ p r. clause_tokens-made p.0 (clause_of.If p.1.0.1.0) (p.1.1 ∷ []) r; fit = fit_arm; is_kind = λ p. refl; back = λ c g. back_arm c (out-Clause c).head (out-Clause c).items refl refl g })
+
+module _ (x : Exprs) (lx : ExprLaws x) (k : ℕ) (l : Level) (f : LevelLaws (suc k) l) where
+  abbrev Inner : Has ((Unit {0} × (Expr × Unit {0})) × Stmt)
+  Inner = then_a (parens_has x lx k l) (has (body_coded (suc k) l) f.body) refl
+
+  arm_laws : Lawful Clause (formed (arm_coded x (suc k) l))
+  unfolding arm_run
+  arm_laws = made_laws (ℕ × ((Unit {0} × (Expr × Unit {0})) × Stmt)) Clause (ArmParts x (suc k) l) arm_made clause_tokens (arm_fits x (suc k) l) (then_a (a_key_at key_of.If) Inner refl).laws (arm_makes x (suc k) l)
+
+  open_arm : (p : ℕ × ((Unit {0} × (Expr × Unit {0})) × Stmt)) → arm_open (arm_made p) ≡ (stmt_shape p.1.1).open_end
+  open_arm p = ap (λ (s : ClauseShape). s.open_end) (clause_shape-made p.0 (clause_of.If p.1.0.1.0) (p.1.1 ∷ []))
+
+  -- an arm that takes no `else` is found whatever follows
+  closed_arm : (ts : List Token) (c : Clause) (r : List Token) → Stands (formed (arm_coded x (suc k) l)) ts c r → arm_open c ≡ false → IsFound c r (arm_run x (suc k) l ts)
+  unfolding arm_run
+  closed_arm ts c r s e =
+      closed_made (ℕ × ((Unit {0} × (Expr × Unit {0})) × Stmt)) Clause (ArmParts x (suc k) l) arm_made clause_tokens (arm_fits x (suc k) l) (arm_makes x (suc k) l) ts c r s
+      (λ p q t. closed_order ℕ ((Unit {0} × (Expr × Unit {0})) × Stmt) (key_at_form key_of.If) Inner.form (a_key_at key_of.If).laws Inner.laws refl refl ts p r t
+      (λ m u. closed_order (Unit {0} × (Expr × Unit {0})) Stmt (Parens x (suc k) l) (body_coded (suc k) l) (parens_has x lx k l).laws f.body refl refl m p.1 r u
+      (λ n v. f.closed n p.1.1 r v (sym (open_arm p) ∙ ap arm_open q ∙ e))))
+
+-- behind an arm
+
+abbrev nothing : Branch → Bool
+nothing ([], None) = true
+nothing _ = false
+
+abbrev open_branch : Branch → Bool
+open_branch (arms, None) = true
+open_branch (arms, Some s) = (stmt_shape s).open_end
+
+abbrev branch_tell : Branch → List Told → List Told
+branch_tell p r = after_elses (map clause_tokens p.0) (after_elses (map stmt_tokens (or_none p.1)) r)
+
+module _ (x : Exprs) (h : ℕ) (l : Level) where
+  abbrev Arm : Coded Clause
+  Arm = arm_coded x h l
+
+  abbrev Last : Coded Stmt
+  Last = other_coded h l
+
+  -- with room for n parts
+  unfoldable tail_fits : ℕ → Branch → Bool
+  tail_fits n ([], None) = true
+  tail_fits zero (arms, last) = false
+  tail_fits (suc n) ([], Some s) = Last.fits s
+  tail_fits (suc n) (c ∷ arms, last) = Arm.fits c && (tail_fits n (arms, last) && (nothing (arms, last) || not (arm_open c)))
+
+  unfoldable last_fits : List Clause → Option Stmt → Bool
+  last_fits [] None = true
+  last_fits [] (Some s) = Last.fits s
+  last_fits (c ∷ arms) last = Arm.fits c && (last_fits arms last && (nothing (arms, last) || not (arm_open c)))
+
+  abbrev all_fit : Branch → Bool
+  all_fit p = last_fits p.0 p.1
+
+  abbrev tail_run : ℕ → Run Branch
+  tail_run n = branch_run n (arm_run x h l) l.other
+
+  abbrev Tail : ℕ → Coded Branch
+  Tail n = sized Branch branch_tell else_codes else_codes true tail_fits tail_run all_fit n
+
+  abbrev Every : Coded Branch
+  Every = unbounded Branch branch_tell else_codes else_codes true tail_fits tail_run all_fit
+
+  abbrev Then : ℕ → Coded (Clause × Branch)
+  Then n = following Clause Branch arm_open no_more nothing Arm (Tail n)
+
+  abbrev Next : ℕ → Coded (Option (Unit {0} × Either (Clause × Branch) Stmt))
+  Next n = optional (in_order (key_form key_of.Else) (one_or (key_code key_of.If ∷ []) (Then n) Last))
+
+  none_fits : (n : ℕ) → tail_fits n no_more ≡ true
+  unfolding tail_fits
+  none_fits zero = refl
+  none_fits (suc n) = refl
+
+  only_none : (p : Branch) → nothing p ≡ true → no_more ≡ p
+  only_none ([], None) e = refl
+  only_none ([], Some s) e = absurd (false≢true e)
+  only_none (c ∷ arms, o) e = absurd (false≢true e)
+
+  some_tail : (ts : List Token) (p : Branch) (r : List Token) → Takes false (branch_tell p []) ts r → nothing p ≡ false → one_of else_codes ts ≡ true
+  some_tail ts ([], None) r s e = absurd (false≢true (sym e))
+  some_tail [] ([], Some q) r s e = absurd s
+  some_tail [] (c ∷ arms, o) r s e = absurd s
+  some_tail (t ∷ ts) ([], Some q) r s e = ap (λ n. is_in else_codes n) (ap kind_code s.0.0)
+  some_tail (t ∷ ts) (c ∷ arms, o) r s e = ap (λ n. is_in else_codes n) (ap kind_code s.0.0)
+
+  told_branch : (n : ℕ) (o : Option (Unit {0} × Either (Clause × Branch) Stmt)) (r : List Told) → branch_tell (branch_made o) r ≡ (Next n).tell o r
+  told_branch n None r = refl
+  told_branch n (Some (u, This (c, (arms, o)))) r = refl
+  told_branch n (Some (u, That s)) r = refl
+
+  fit_branch : (n : ℕ) (o : Option (Unit {0} × Either (Clause × Branch) Stmt)) → tail_fits (suc n) (branch_made o) ≡ (Next n).fits o
+  unfolding tail_fits
+  fit_branch n None = refl
+  fit_branch n (Some (u, This (c, (arms, o)))) = refl
+  fit_branch n (Some (u, That s)) = refl
+
+  back_branch : (p : Branch) → (o : Option (Unit {0} × Either (Clause × Branch) Stmt)) × (branch_made o ≡ p)
+  back_branch ([], None) = (None, refl)
+  back_branch ([], Some s) = (Some (tt, That s), refl)
+  back_branch (c ∷ arms, o) = (Some (tt, This (c, (arms, o))), refl)
+
+  branch_makes : (n : ℕ) → Makes (Option (Unit {0} × Either (Clause × Branch) Stmt)) Branch (Next n) branch_made branch_tell (tail_fits (suc n))
+  branch_makes n = same_makes (Option (Unit {0} × Either (Clause × Branch) Stmt)) Branch (Next n) branch_made branch_tell (tail_fits (suc n)) (record { told = told_branch n; fit = fit_branch n; back = back_branch })
+
+  only_zero : (p : Branch) → tail_fits 0 p ≡ true → no_more ≡ p
+  unfolding tail_fits
+  only_zero ([], None) e = refl
+  only_zero ([], Some s) e = absurd (false≢true e)
+  only_zero (c ∷ arms, o) e = absurd (false≢true e)
+
+  -- how many parts there are
+  abbrev size : List Clause → Option Stmt → ℕ
+  size [] None = 0
+  size [] (Some s) = 1
+  size (c ∷ arms) o = suc (size arms o)
+
+  enough : (arms : List Clause) (o : Option Stmt) (n : ℕ) → size arms o ≤ n → last_fits arms o ≡ true → tail_fits n (arms, o) ≡ true
+  unfolding tail_fits last_fits
+  enough [] None zero e g = refl
+  enough [] None (suc n) e g = refl
+  enough [] (Some s) zero e g = absurd (omega (arith, e))
+  enough [] (Some s) (suc n) e g = g
+  enough (c ∷ arms) o zero e g = absurd (omega (arith, e))
+  enough (c ∷ arms) o (suc n) e g =
+      let a = and_parts (Arm.fits c) (last_fits arms o && (nothing (arms, o) || not (arm_open c))) g in
+      let b = and_parts (last_fits arms o) (nothing (arms, o) || not (arm_open c)) a.1 in
+      and_from (Arm.fits c) (tail_fits n (arms, o) && (nothing (arms, o) || not (arm_open c))) a.0 (and_from (tail_fits n (arms, o)) (nothing (arms, o) || not (arm_open c)) (enough arms o n (omega (arith, e)) b.0) b.1)
+
+  down : (n : ℕ) (arms : List Clause) (o : Option Stmt) → tail_fits n (arms, o) ≡ true → last_fits arms o ≡ true
+  unfolding tail_fits last_fits
+  down n [] None g = refl
+  down zero [] (Some s) g = absurd (false≢true g)
+  down (suc n) [] (Some s) g = g
+  down zero (c ∷ arms) o g = absurd (false≢true g)
+  down (suc n) (c ∷ arms) o g =
+      let a = and_parts (Arm.fits c) (tail_fits n (arms, o) && (nothing (arms, o) || not (arm_open c))) g in
+      let b = and_parts (tail_fits n (arms, o)) (nothing (arms, o) || not (arm_open c)) a.1 in
+      and_from (Arm.fits c) (last_fits arms o && (nothing (arms, o) || not (arm_open c))) a.0 (and_from (last_fits arms o) (nothing (arms, o) || not (arm_open c)) (down n arms o b.0) b.1)
+
+  long_told : Lawful Clause (formed Arm) → Lawful Stmt (formed Last) → (arms : List Clause) (o : Option Stmt) → last_fits arms o ≡ true → size arms o ≤ length (branch_tell (arms, o) [])
+  unfolding last_fits
+  long_told la lo [] None g = omega arith
+  long_told la lo [] (Some s) g = omega arith
+  long_told la lo (c ∷ arms) o g =
+      let a = and_parts (Arm.fits c) (last_fits arms o && (nothing (arms, o) || not (arm_open c))) g in
+      let b = and_parts (last_fits arms o) (nothing (arms, o) || not (arm_open c)) a.1 in
+      let i = long_told la lo arms o b.0 in
+      omega (arith, i, ap length (la.appends c (branch_tell (arms, o) []) a.0), length-append (clause_tokens c []) (branch_tell (arms, o) []))
+
+  same_tail : (arm : Run Clause) (other : Run Stmt) → ((ts : List Token) → Good (λ c q. length q < length ts) (arm ts)) → ((ts : List Token) → Good (λ (u : Unit {0}) q. length q < length ts) (of_kind (key_code key_of.Else) ts)) → (n k : ℕ) (ts : List Token) → length ts ≤ n → length ts ≤ k → branch_run n arm other ts ≡ branch_run k arm other ts
+  unfolding branch_run
+  same_tail arm other sa se zero zero ts e g = refl
+  same_tail arm other sa se zero (suc k) [] e g = refl
+  same_tail arm other sa se zero (suc k) (t ∷ ts) e g = absurd (omega (arith, e))
+  same_tail arm other sa se (suc n) zero [] e g = refl
+  same_tail arm other sa se (suc n) zero (t ∷ ts) e g = absurd (omega (arith, g))
+  same_tail arm other sa se (suc n) (suc k) ts e g =
+      ap (λ (m : Read (Unit {0} × Either (Clause × Branch) Stmt)). becoming branch_made (perhaps_from ts m))
+      (bind_same (of_kind (key_code key_of.Else) ts) (λ a q. becoming (joined a) (either (key_code key_of.If ∷ []) (followed arm_open no_more arm (branch_run n arm other)) other q)) (λ a q. becoming (joined a) (either (key_code key_of.If ∷ []) (followed arm_open no_more arm (branch_run k arm other)) other q))
+      (good_more (λ (u : Unit {0}) q. length q < length ts) _ (of_kind (key_code key_of.Else) ts)
+      (λ a q lt. ap (λ (m : Read (Clause × Branch)). becoming (joined a) (cond (one_of (key_code key_of.If ∷ []) q) (becoming This m) (becoming That (other q))))
+      (bind_same (arm q) (unless arm_open no_more (branch_run n arm other)) (unless arm_open no_more (branch_run k arm other))
+      (good_more (λ (c : Clause) p. length p < length q) _ (arm q)
+      (λ c p lt'. ap (λ (m : Read Branch). cond (arm_open c) (found (c, no_more) p) (becoming (joined c) m)) (same_tail arm other sa se n k p (omega (arith, lt, lt', e)) (omega (arith, lt, lt', g)))) (sa q))))
+      (se ts)))
+
+module _ (x : Exprs) (lx : ExprLaws x) (k : ℕ) (l : Level) (f : LevelLaws (suc k) l) where
+  abbrev la : Lawful Clause (formed (arm_coded x (suc k) l))
+  la = arm_laws x lx k l f
+
+  follow : (n : ℕ) → Follow Clause Branch arm_open no_more nothing (Arm x (suc k) l) (Tail x (suc k) l n)
+  follow n = record {
+    solid = refl; free = refl; bare = λ r. refl; none_fits = none_fits x (suc k) l n; none_is = refl; only = only_none x (suc k) l;
+    some = λ ts p r s e. some_tail x (suc k) l ts p r s.0 e;
+    whole = λ ts c r s e q. closed_arm x lx k l f ts c r s e;
+  }
+
+  inner_laws : (n : ℕ) → Lawful Branch (formed (Tail x (suc k) l n)) → Lawful (Either (Clause × Branch) Stmt) (formed (one_or (key_code key_of.If ∷ []) (Then x (suc k) l n) (Last x (suc k) l)))
+  inner_laws n lt =
+      one_or_laws (Clause × Branch) Stmt (key_code key_of.If ∷ []) (Then x (suc k) l n) (Last x (suc k) l)
+      (following_laws Clause Branch arm_open no_more nothing (Arm x (suc k) l) (Tail x (suc k) l n) la lt (follow n)) f.other
+      (record { solid = refl; solid' = refl; this = refl; that = refl })
+
+  else_laws : (n : ℕ) → Lawful Branch (formed (Tail x (suc k) l n)) → Lawful (Unit {0} × Either (Clause × Branch) Stmt) (formed (in_order (key_form key_of.Else) (one_or (key_code key_of.If ∷ []) (Then x (suc k) l n) (Last x (suc k) l))))
+  else_laws n lt = in_order_laws (Unit {0}) (Either (Clause × Branch) Stmt) (key_form key_of.Else) (one_or (key_code key_of.If ∷ []) (Then x (suc k) l n) (Last x (suc k) l)) (key_laws key_of.Else) (inner_laws n lt) refl
+
+  tail_laws : (n : ℕ) → Lawful Branch (formed (Tail x (suc k) l n))
+  unfolding branch_run
+  tail_laws zero = idle_laws Branch (Tail x (suc k) l 0) no_more (none_fits x (suc k) l 0) (only_zero x (suc k) l) (λ r. refl) refl
+  tail_laws (suc n) =
+      widened_laws Branch (made (Option (Unit {0} × Either (Clause × Branch) Stmt)) Branch (Next x (suc k) l n) branch_made branch_tell (tail_fits x (suc k) l (suc n))) else_codes else_codes
+      (made_laws (Option (Unit {0} × Either (Clause × Branch) Stmt)) Branch (Next x (suc k) l n) branch_made branch_tell (tail_fits x (suc k) l (suc n))
+      (optional_laws (Unit {0} × Either (Clause × Branch) Stmt) (in_order (key_form key_of.Else) (one_or (key_code key_of.If ∷ []) (Then x (suc k) l n) (Last x (suc k) l))) (else_laws n (tail_laws n)) refl)
+      (branch_makes x (suc k) l n)) refl refl
+
+  grows : Grows Branch branch_tell else_codes else_codes true (tail_fits x (suc k) l) (tail_run x (suc k) l) (all_fit x (suc k) l)
+  grows = record {
+    lawful = tail_laws;
+    up = λ p g. (size x (suc k) l p.0 p.1, enough x (suc k) l p.0 p.1 (size x (suc k) l p.0 p.1) (omega arith) g);
+    down = λ n p g. down x (suc k) l n p.0 p.1 g;
+    short = λ n ts p r s e. let i = long_told x (suc k) l la f.other p.0 p.1 s.1 in enough x (suc k) l p.0 p.1 n (omega (arith, i, e, takes_length false (branch_tell p []) ts r s.0)) s.1;
+    fuel = same_tail x (suc k) l (arm_run x (suc k) l) l.other (takes_some Clause (formed (Arm x (suc k) l)) la refl) (takes_some (Unit {0}) (formed (key_form key_of.Else)) (key_laws key_of.Else) refl);
+  }
+
+  every_laws : Lawful Branch (formed (Every x (suc k) l))
+  every_laws = unbounded_laws Branch branch_tell else_codes else_codes true (tail_fits x (suc k) l) (tail_run x (suc k) l) (all_fit x (suc k) l) grows
