@@ -59,7 +59,7 @@ use Rattle.jc_parse_unit.proofs.SimpleStatements.{simple_codes, stmt_codes, item
 
 use Rattle.jc_parse_unit.proofs.Switches.{is_catch, is_finally, catch_part, finally_part, clause_good, clause_good_made, told_clauses}
 
-use Rattle.std.proofs.lemmas.Bool.{cond-true, cond-false}
+use Rattle.std.proofs.lemmas.Bool.{cond-true, cond-false, false_from_ne_true}
 use Rattle.jc_reading.proofs.Pairs.{cut}
 use Rattle.jc_reading.proofs.Signs.{none_common, all_in, apart_sets, within_sets, key_laws}
 use Rattle.jc_reading.proofs.Choices.{tell_either, fits_either}
@@ -149,13 +149,13 @@ module _ (x : Exprs) (h : ℕ) (l : Level) where
   Last = other_coded h l
 
   -- with room for n parts
-  unfoldable tail_fits : ℕ → Branch → Bool
+  unfoldable pub tail_fits : ℕ → Branch → Bool
   tail_fits n ([], None) = true
   tail_fits zero (arms, last) = false
   tail_fits (suc n) ([], Some s) = Last.fits s
   tail_fits (suc n) (c ∷ arms, last) = Arm.fits c && (tail_fits n (arms, last) && (nothing (arms, last) || not (arm_open c)))
 
-  unfoldable last_fits : List Clause → Option Stmt → Bool
+  unfoldable pub last_fits : List Clause → Option Stmt → Bool
   last_fits [] None = true
   last_fits [] (Some s) = Last.fits s
   last_fits (c ∷ arms) last = Arm.fits c && (last_fits arms last && (nothing (arms, last) || not (arm_open c)))
@@ -316,3 +316,182 @@ module _ (x : Exprs) (lx : ExprLaws x) (k : ℕ) (l : Level) (f : LevelLaws (suc
 
   every_laws : Lawful Branch (formed (Every x (suc k) l))
   every_laws = unbounded_laws Branch branch_tell else_codes else_codes true (tail_fits x (suc k) l) (tail_run x (suc k) l) (all_fit x (suc k) l) grows
+
+  -- what is behind an arm is found whatever follows, where its end takes no `else`
+
+  abbrev AllClosed : ℕ → Type 0
+  AllClosed n = (ts : List Token) (p : Branch) (r : List Token) → Stands (formed (Tail x (suc k) l n)) ts p r → open_branch p ≡ false → IsFound p r (tail_run x (suc k) l n ts)
+
+  not_none : (arms : List Clause) (q : Stmt) → nothing (arms, Some q) ≡ false
+  not_none [] q = refl
+  not_none (d ∷ arms) q = refl
+
+  closed_choice : (n : ℕ) → AllClosed n → (m : List Token) (o : Either (Clause × Branch) Stmt) (r : List Token) → Stands (formed (one_or (key_code key_of.If ∷ []) (Then x (suc k) l n) (Last x (suc k) l))) m o r → open_branch (branch_made (Some (tt, o))) ≡ false → IsFound o r ((one_or (key_code key_of.If ∷ []) (Then x (suc k) l n) (Last x (suc k) l)).run m)
+  closed_choice n ih m (This (c, (arms, None))) r u e = absurd (false≢true (sym e))
+  closed_choice n ih m (This (c, (arms, Some q))) r u e =
+      closed_this (Clause × Branch) Stmt (key_code key_of.If ∷ []) (Then x (suc k) l n) (Last x (suc k) l)
+      (following_laws Clause Branch arm_open no_more nothing (Arm x (suc k) l) (Tail x (suc k) l n) la (tail_laws n) (follow n)) (record { solid = refl; solid' = refl; this = refl; that = refl })
+      m (c, (arms, Some q)) r u
+      (following_whole Clause Branch arm_open no_more nothing (Arm x (suc k) l) (Tail x (suc k) l n) la (tail_laws n) (follow n) m (c, (arms, Some q)) r u (not_none arms q) (λ v w. ih v (arms, Some q) r w e))
+  closed_choice n ih m (That q) r u e =
+      closed_that (Clause × Branch) Stmt (key_code key_of.If ∷ []) (Then x (suc k) l n) (Last x (suc k) l) f.other (record { solid = refl; solid' = refl; this = refl; that = refl }) m q r u (f.closed_other m q r u e)
+
+  closed_next : (n : ℕ) → AllClosed n → (ts : List Token) (p : Branch) (r : List Token) (o : Option (Unit {0} × Either (Clause × Branch) Stmt)) → open_branch p ≡ false → branch_made o ≡ p → Stands (formed (Next x (suc k) l n)) ts o r → IsFound o r ((Next x (suc k) l n).run ts)
+  closed_next n ih ts p r None e q t = absurd (false≢true (sym e ∙ ap open_branch (sym q)))
+  closed_next n ih ts p r (Some (u, o)) e q t =
+      closed_optional (Unit {0} × Either (Clause × Branch) Stmt) (in_order (key_form key_of.Else) (one_or (key_code key_of.If ∷ []) (Then x (suc k) l n) (Last x (suc k) l))) ts (u, o) r
+      (closed_order (Unit {0}) (Either (Clause × Branch) Stmt) (key_form key_of.Else) (one_or (key_code key_of.If ∷ []) (Then x (suc k) l n) (Last x (suc k) l)) (key_laws key_of.Else) (inner_laws n (tail_laws n)) refl refl ts (u, o) r t
+      (λ m v. closed_choice n ih m o r v (ap open_branch q ∙ e)))
+
+  closed_tail : (n : ℕ) → AllClosed n
+  unfolding branch_run
+  closed_tail zero ts p r s e = absurd (false≢true (sym e ∙ ap open_branch (sym (only_zero x (suc k) l p s.1))))
+  closed_tail (suc n) ts p r s e =
+      closed_made (Option (Unit {0} × Either (Clause × Branch) Stmt)) Branch (Next x (suc k) l n) branch_made branch_tell (tail_fits x (suc k) l (suc n)) (branch_makes x (suc k) l n) ts p r s (λ o q t. closed_next n (closed_tail n) ts p r o e q t)
+
+-- the statement
+
+abbrev pub is_if : Layer → Bool
+is_if (Stmt-F.If (c ∷ arms) []) = true
+is_if (Stmt-F.If (c ∷ arms) (s ∷ [])) = true
+is_if _ = false
+
+module _ (x : Exprs) (h : ℕ) (l : Level) where
+  abbrev IfParts : Coded (Clause × Branch)
+  IfParts = following Clause Branch arm_open no_more nothing (Arm x h l) (Every x h l)
+
+  arm_shape : (head : ClauseHead) (items : List Stmt) (n : Bool) → (n && (is_of_if (clause_with head (map stmt_shape items)).part && (clause_with head (map stmt_shape items)).good)) ≡ (is_arm head items && (n && (clause_with head (map stmt_shape items)).good))
+  arm_shape (clause_of.If test) [] n = none n (is_expr test)
+    where
+    none : (n e : Bool) → (n && (true && (e && false))) ≡ (false && (n && (e && false)))
+    none n e = grind (arith, common_steps)
+  arm_shape (clause_of.If test) (s ∷ []) n = refl
+  arm_shape (clause_of.If test) (s ∷ t ∷ items) n = none n (is_expr test)
+    where
+    none : (n e : Bool) → (n && (true && (e && false))) ≡ (false && (n && (e && false)))
+    none n e = grind (arith, common_steps)
+  arm_shape (clause_of.Case label) items n = and_right n false refl
+  arm_shape clause_of.Default items n = and_right n false refl
+  arm_shape (clause_of.Catch modifiers first more name) items n = and_right n false refl
+  arm_shape clause_of.Finally items n = and_right n false refl
+
+  one_arm : (c : Clause) → (nat_le (clause_height c) h && (is_of_if (clause_shape c).part && (clause_shape c).good)) ≡ arm_fits x h l c
+  one_arm c =
+      ap (λ (s : ClauseShape). nat_le (clause_height c) h && (is_of_if s.part && s.good)) (clause_shape-parts c) ∙ arm_shape (out-Clause c).head (out-Clause c).items (nat_le (clause_height c) h)
+      ∙ ap (λ (s : ClauseShape). is_arm (out-Clause c).head (out-Clause c).items && (nat_le (clause_height c) h && s.good)) (sym (clause_shape-parts c))
+
+  none_bits : (n z k g o : Bool) → (((n && z) && z) && (k && g && (true || o))) ≡ ((n && (k && g)) && (z && (true || o)))
+  none_bits n z k g o = grind (arith, common_steps)
+
+  more_bits : (n m z k g o a : Bool) → (((n && m) && z) && (k && g && o && a)) ≡ ((n && (k && g)) && (((m && z) && a) && (false || o)))
+  more_bits n m z k g o a = grind (arith, common_steps)
+
+  last_bits : (n m z k g o b : Bool) → (((n && z) && (m && z)) && ((k && g && (false || o)) && b)) ≡ ((n && (k && g)) && (z && ((m && b) && (false || o))))
+  last_bits n m z k g o b = grind (arith, common_steps)
+
+  more_last_bits : (n m z k g o a b : Bool) → (((n && m) && z) && ((k && g && o && a) && b)) ≡ ((n && (k && g)) && (((m && z) && (a && b)) && (false || o)))
+  more_last_bits n m z k g o a b = grind (arith, common_steps)
+
+  zero_high : nat_le 0 h ≡ true
+  zero_high = room_above h
+
+  -- heights and shapes of all the parts together
+  fit_arms : (c : Clause) (arms : List Clause) → (nat_le (max (most (map clause_height (c ∷ arms))) 0) h && arms_good false (map clause_shape (c ∷ arms))) ≡ (arm_fits x h l c && (last_fits x h l arms None && (nothing (arms, None) || not (arm_open c))))
+  unfolding last_fits
+  fit_arms c [] =
+      ap (λ b. b && (is_of_if (clause_shape c).part && (clause_shape c).good && (true || not (clause_shape c).open_end)))
+      (room_max (max (clause_height c) 0) 0 h ∙ ap (λ b. b && nat_le 0 h) (room_max (clause_height c) 0 h))
+      ∙ none_bits (nat_le (clause_height c) h) (nat_le 0 h) (is_of_if (clause_shape c).part) (clause_shape c).good (not (arm_open c))
+      ∙ ap (λ b. b && (nat_le 0 h && (true || not (arm_open c)))) (one_arm c) ∙ ap (λ b. arm_fits x h l c && (b && (true || not (arm_open c)))) zero_high
+  fit_arms c (d ∷ arms) =
+      ap (λ b. b && (is_of_if (clause_shape c).part && (clause_shape c).good && not (clause_shape c).open_end && arms_good false (map clause_shape (d ∷ arms))))
+      (room_max (max (clause_height c) (most (map clause_height (d ∷ arms)))) 0 h ∙ ap (λ b. b && nat_le 0 h) (room_max (clause_height c) (most (map clause_height (d ∷ arms))) h))
+      ∙ more_bits (nat_le (clause_height c) h) (nat_le (most (map clause_height (d ∷ arms))) h) (nat_le 0 h) (is_of_if (clause_shape c).part) (clause_shape c).good (not (arm_open c)) (arms_good false (map clause_shape (d ∷ arms)))
+      ∙ ap (λ b. b && (((nat_le (most (map clause_height (d ∷ arms))) h && nat_le 0 h) && arms_good false (map clause_shape (d ∷ arms))) && (false || not (arm_open c)))) (one_arm c)
+      ∙ ap (λ b. arm_fits x h l c && ((b && arms_good false (map clause_shape (d ∷ arms))) && (false || not (arm_open c)))) (sym (room_max (most (map clause_height (d ∷ arms))) 0 h))
+      ∙ ap (λ b. arm_fits x h l c && (b && (false || not (arm_open c)))) (fit_arms d arms)
+
+  fit_last : (s : Stmt) (c : Clause) (arms : List Clause) → (nat_le (max (most (map clause_height (c ∷ arms))) (max (stmt_height s) 0)) h && (arms_good true (map clause_shape (c ∷ arms)) && behind_else (stmt_shape s))) ≡ (arm_fits x h l c && (last_fits x h l arms (Some s) && (nothing (arms, Some s) || not (arm_open c))))
+  unfolding last_fits
+  fit_last s c [] =
+      ap (λ b. b && ((is_of_if (clause_shape c).part && (clause_shape c).good && (false || not (clause_shape c).open_end)) && behind_else (stmt_shape s)))
+      (room_max (max (clause_height c) 0) (max (stmt_height s) 0) h ∙ ap (λ b. b && nat_le (max (stmt_height s) 0) h) (room_max (clause_height c) 0 h) ∙ ap (λ b. (nat_le (clause_height c) h && nat_le 0 h) && b) (room_max (stmt_height s) 0 h))
+      ∙ last_bits (nat_le (clause_height c) h) (nat_le (stmt_height s) h) (nat_le 0 h) (is_of_if (clause_shape c).part) (clause_shape c).good (not (arm_open c)) (behind_else (stmt_shape s))
+      ∙ ap (λ b. b && (nat_le 0 h && ((nat_le (stmt_height s) h && behind_else (stmt_shape s)) && (false || not (arm_open c))))) (one_arm c)
+      ∙ ap (λ b. arm_fits x h l c && (b && ((nat_le (stmt_height s) h && behind_else (stmt_shape s)) && (false || not (arm_open c))))) zero_high
+  fit_last s c (d ∷ arms) =
+      ap (λ b. b && ((is_of_if (clause_shape c).part && (clause_shape c).good && not (clause_shape c).open_end && arms_good true (map clause_shape (d ∷ arms))) && behind_else (stmt_shape s)))
+      (room_max (max (clause_height c) (most (map clause_height (d ∷ arms)))) (max (stmt_height s) 0) h ∙ ap (λ b. b && nat_le (max (stmt_height s) 0) h) (room_max (clause_height c) (most (map clause_height (d ∷ arms))) h))
+      ∙ more_last_bits (nat_le (clause_height c) h) (nat_le (most (map clause_height (d ∷ arms))) h) (nat_le (max (stmt_height s) 0) h) (is_of_if (clause_shape c).part) (clause_shape c).good (not (arm_open c)) (arms_good true (map clause_shape (d ∷ arms))) (behind_else (stmt_shape s))
+      ∙ ap (λ b. b && (((nat_le (most (map clause_height (d ∷ arms))) h && nat_le (max (stmt_height s) 0) h) && (arms_good true (map clause_shape (d ∷ arms)) && behind_else (stmt_shape s))) && (false || not (arm_open c)))) (one_arm c)
+      ∙ ap (λ b. arm_fits x h l c && ((b && (arms_good true (map clause_shape (d ∷ arms)) && behind_else (stmt_shape s))) && (false || not (arm_open c)))) (sym (room_max (most (map clause_height (d ∷ arms))) (max (stmt_height s) 0) h))
+      ∙ ap (λ b. arm_fits x h l c && (b && (false || not (arm_open c)))) (fit_last s d arms)
+
+  fit_if : (p : Clause × Branch) → good_at h (if_made p) ≡ IfParts.fits p
+  fit_if (c, (arms, None)) = good_made h (stmt_of.If (c ∷ arms) []) (max (most (map clause_height (c ∷ arms))) 0) _ (stmt_height-If (c ∷ arms) []) (stmt_shape-If (c ∷ arms) []) ∙ fit_arms c arms
+  fit_if (c, (arms, Some s)) = good_made h (stmt_of.If (c ∷ arms) (s ∷ [])) (max (most (map clause_height (c ∷ arms))) (max (stmt_height s) 0)) _ (stmt_height-If (c ∷ arms) (s ∷ [])) (stmt_shape-If (c ∷ arms) (s ∷ [])) ∙ fit_last s c arms
+
+  told_if : (p : Clause × Branch) (r : List Told) → stmt_tokens (if_made p) r ≡ IfParts.tell p r
+  told_if (c, (arms, o)) r = stmt_tokens-If (c ∷ arms) (or_none o) r
+
+  kind_if : (p : Clause × Branch) → is_if (out-Stmt (if_made p)) ≡ true
+  kind_if (c, (arms, None)) = ap is_if (stmt_of.outs-If (c ∷ arms) [])
+  kind_if (c, (arms, Some s)) = ap is_if (stmt_of.outs-If (c ∷ arms) (s ∷ []))
+
+  back_if : (s : Stmt) (layer : Layer) → out-Stmt s ≡ layer → is_if layer ≡ true → (p : Clause × Branch) × (if_made p ≡ s)
+  back_if s (Stmt-F.If (c ∷ arms) []) e g = ((c, (arms, None)), sym (stmt_of.rolls-If (c ∷ arms) []) ∙ ap roll-Stmt (sym e) ∙ roll-out-Stmt s)
+  back_if s (Stmt-F.If (c ∷ arms) (q ∷ [])) e g = ((c, (arms, Some q)), sym (stmt_of.rolls-If (c ∷ arms) (q ∷ [])) ∙ ap roll-Stmt (sym e) ∙ roll-out-Stmt s)
+  back_if s _ e g = absurd (false≢true g)
+
+  if_kind : OfKind (Clause × Branch) Stmt (roomy h IfParts) if_made stmt_tokens (λ s. is_if (out-Stmt s)) (good_at h)
+  if_kind = record { told = told_if; fit = fit_if; is_kind = kind_if; back = λ s g. back_if s (out-Stmt s) refl g }
+
+all_follow : (x : Exprs) (lx : ExprLaws x) (k : ℕ) (l : Level) (f : LevelLaws (suc k) l) → Follow Clause Branch arm_open no_more nothing (Arm x (suc k) l) (Every x (suc k) l)
+unfolding last_fits
+all_follow x lx k l f = record {
+  solid = refl; free = refl; bare = λ r. refl; none_fits = refl; none_is = refl; only = only_none x (suc k) l;
+  some = λ ts p r s e. some_tail x (suc k) l ts p r s.0 e;
+  whole = λ ts c r s e q. closed_arm x lx k l f ts c r s e;
+}
+
+if_parts_laws : (x : Exprs) (lx : ExprLaws x) (k : ℕ) (l : Level) (f : LevelLaws (suc k) l) → Lawful (Clause × Branch) (formed (IfParts x (suc k) l))
+if_parts_laws x lx k l f = following_laws Clause Branch arm_open no_more nothing (Arm x (suc k) l) (Every x (suc k) l) (arm_laws x lx k l f) (every_laws x lx k l f) (all_follow x lx k l f)
+
+arm_never : (x : Exprs) (l : Level) (c : Clause) → arm_fits x 0 l c ≡ false
+arm_never x l c = false_from_ne_true (arm_fits x 0 l c)
+    (λ t. let w = (arm_makes x 0 l).back c t in false≢true (sym (never_second ℕ ((Unit {0} × (Expr × Unit {0})) × Stmt) (key_at_form key_of.If) (in_order (Parens x 0 l) (body_coded 0 l)) (never_first (Unit {0} × (Expr × Unit {0})) Stmt (Parens x 0 l) (body_coded 0 l) (parens_never x l)) w.0) ∙ w.2))
+
+if_room : (x : Exprs) (lx : ExprLaws x) (h : ℕ) (l : Level) → LevelLaws h l → Law (Clause × Branch) (roomy h (IfParts x h l))
+if_room x lx zero l f = roomy_zero (IfParts x 0 l) (λ p. and_left (arm_fits x 0 l p.0) ((Every x 0 l).fits p.1 && (nothing p.1 || not (arm_open p.0))) (arm_never x l p.0))
+if_room x lx (suc k) l f = roomy_suc k (IfParts x (suc k) l) (if_parts_laws x lx k l f)
+
+module _ (x : Exprs) (lx : ExprLaws x) (h : ℕ) (l : Level) where
+  abbrev pub if_coded : Coded Stmt
+  if_coded = record { tell = stmt_tokens; fits = stmt_fits (Clause × Branch) h (roomy h (IfParts x h l)) if_made is_if; run = if_run x h l; starts = key_code key_of.If ∷ []; goes = (IfParts x h l).goes; empties = false }
+
+  pub if_law : LevelLaws h l → Law Stmt if_coded
+  unfolding if_run
+  if_law f = stmt_made_law (Clause × Branch) h (roomy h (IfParts x h l)) if_made is_if (if_room x lx h l f) (if_kind x h l)
+
+open_if : (p : Clause × Branch) → (stmt_shape (if_made p)).open_end ≡ open_branch p.1
+open_if (c, (arms, None)) = ap (λ (s : StmtShape). s.open_end) (stmt_shape-If (c ∷ arms) [])
+open_if (c, (arms, Some s)) = ap (λ (s : StmtShape). s.open_end) (stmt_shape-If (c ∷ arms) (s ∷ []))
+
+not_nothing : (p : Branch) → open_branch p ≡ false → nothing p ≡ false
+not_nothing ([], None) e = absurd (false≢true (sym e))
+not_nothing ([], Some s) e = refl
+not_nothing (c ∷ arms, o) e = refl
+
+-- an `if` that takes no `else` behind it is found whatever follows
+pub closed_if : (x : Exprs) (lx : ExprLaws x) (k : ℕ) (l : Level) (f : LevelLaws (suc k) l) (ts : List Token) (s : Stmt) (r : List Token) → Stands (formed (if_coded x lx (suc k) l)) ts s r → (stmt_shape s).open_end ≡ false → IsFound s r (if_run x (suc k) l ts)
+unfolding if_run with_room
+closed_if x lx k l f ts s r t e =
+    closed_made (Clause × Branch) Stmt (roomy (suc k) (IfParts x (suc k) l)) if_made stmt_tokens (stmt_fits (Clause × Branch) (suc k) (roomy (suc k) (IfParts x (suc k) l)) if_made is_if)
+    (kind_makes (Clause × Branch) Stmt (roomy (suc k) (IfParts x (suc k) l)) if_made stmt_tokens (λ s. is_if (out-Stmt s)) (good_at (suc k)) (if_kind x (suc k) l)) ts s r t
+    (λ p q u.
+    let o : open_branch p.1 ≡ false = sym (open_if p) ∙ ap (λ (v : Stmt). (stmt_shape v).open_end) q ∙ e in
+    following_whole Clause Branch arm_open no_more nothing (Arm x (suc k) l) (Every x (suc k) l) (arm_laws x lx k l f) (every_laws x lx k l f) (all_follow x lx k l f) ts p r u (not_nothing p.1 o)
+    (λ m v. closed_tail x lx k l f (length m) m p.1 r (v.0, enough x (suc k) l p.1.0 p.1.1 (length m) (short_there m p.1 v) v.1) o))
+  where
+  short_there : (m : List Token) (p : Branch) → Stands (formed (Every x (suc k) l)) m p r → size x (suc k) l p.0 p.1 ≤ length m
+  short_there m p v = let i = long_told x (suc k) l (arm_laws x lx k l f) f.other p.0 p.1 v.1 in omega (arith, i, takes_length false (branch_tell p []) m r v.0)
