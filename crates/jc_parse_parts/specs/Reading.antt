@@ -9,9 +9,14 @@ abbrev pub second_is : ℕ → List ℕ → List Token → Bool
 second_is code codes [] = false
 second_is code codes (t ∷ ts) = (kind_code t.kind == code) && one_of codes ts
 
+-- the reach is behind the first token, where that is one of the kind `code`
+abbrev pub past : {A : Type 0} → ℕ → List Token → Read A → Read A
+past code [] m = m
+past code (t ∷ ts) m = cond (kind_code t.kind == code) (noting (length ts) m) m
+
 -- the one or the other, by the first two tokens
 abbrev pub by_second : {A B : Type 0} → ℕ → List ℕ → Run A → Run B → Run (Either A B)
-by_second code codes m n ts = cond (second_is code codes ts) (becoming This (m ts)) (becoming That (n ts))
+by_second code codes m n ts = cond (second_is code codes ts) (becoming This (m ts)) (past code ts (becoming That (n ts)))
 
 -- with room for a value at all
 unfoldable pub with_room : {A : Type 0} → ℕ → Run A → Run A
