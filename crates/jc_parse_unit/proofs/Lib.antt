@@ -6,3 +6,4 @@ pub mod SimpleStatements
 pub mod Switches
 pub mod TryClauses
 pub mod TryStatements
+pub mod WordStatements

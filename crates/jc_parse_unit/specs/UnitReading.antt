@@ -285,3 +285,22 @@ branch_run (suc n) arm other ts =
 -- arms, each but the first behind an `else`
 unfoldable pub if_run : Exprs → ℕ → Level → Run Stmt
 if_run x h l = as_new if_made (with_room h (followed arm_open no_more (arm_run x h l) (λ ts. branch_run (length ts) (arm_run x h l) l.other ts)))
+
+-- a label, or an effect
+abbrev pub label_run : Level → Run (Ident × (Unit {0} × Stmt))
+label_run l = in_turn an_ident_at (in_turn (of_kind (sign_code sign_of.Colon)) l.body)
+
+unfoldable pub plain_run : Exprs → ℕ → Level → Run Stmt
+plain_run x h l = as_new (labeled_or effect_made) (with_room h (by_second word_code (sign_code sign_of.Colon ∷ []) (label_run l) (in_turn (x.effect h) semicolon_run)))
+
+-- Vars ";"
+abbrev pub variables_run : Exprs → ℕ → Run Variables
+variables_run x h = in_turn (vars_run x h) semicolon_run
+
+-- a label, or variables without modifiers, or an effect
+unfoldable pub word_run : Exprs → ℕ → Level → Run Stmt
+word_run x h l = as_new (labeled_or local_or_effect) (with_room h (by_second word_code (sign_code sign_of.Colon ∷ []) (label_run l) (trying (word_code ∷ []) (type_run h) (variables_run x h) (in_turn (x.effect h) semicolon_run))))
+
+-- variables with modifiers
+unfoldable pub local_run : Exprs → ℕ → Run Stmt
+local_run x h = as_new local_made (with_room h (in_turn (modifier_run x h) (in_turn (modifiers_run x h) (in_turn (type_run h) (variables_run x h)))))
