@@ -313,10 +313,10 @@ module _ (x : Exprs) (h : ℕ) where
 -- Var
 
 module _ (x : Exprs) where
-  abbrev Given : ℕ → Coded (Unit {0} × Init)
+  abbrev pub Given : ℕ → Coded (Unit {0} × Init)
   Given h = in_order (sign_form sign_of.Assign) (init_coded x h)
 
-  given_law : ExprLaws x → (h : ℕ) → Law (Unit {0} × Init) (roomy h (Given h))
+  pub given_law : ExprLaws x → (h : ℕ) → Law (Unit {0} × Init) (roomy h (Given h))
   given_law lx = roomy_law (Unit {0} × Init) Given (never_second (Unit {0}) Init (sign_form sign_of.Assign) (init_coded x 0) (λ i. and_left (nat_le (init_height i) 0) (is_init i) (init_tall i)))
       (λ h. in_order_laws (Unit {0}) Init (sign_form sign_of.Assign) (init_coded x (suc h)) (sign_laws sign_of.Assign) (lx.init h) refl)
 

@@ -304,3 +304,62 @@ word_run x h l = as_new (labeled_or local_or_effect) (with_room h (by_second wor
 -- variables with modifiers
 unfoldable pub local_run : Exprs → ℕ → Run Stmt
 local_run x h = as_new local_made (with_room h (in_turn (modifier_run x h) (in_turn (modifiers_run x h) (in_turn (type_run h) (variables_run x h)))))
+
+-- what stands between the parentheses of a `for`
+
+-- ";" [Expr] ";" [Effects]
+abbrev pub ForRest : Type 0
+ForRest = Unit {0} × (Option Expr × (Unit {0} × Option (List Expr)))
+
+-- Id Dims, and then ":" Expr or more variables
+abbrev pub ForNamed : Type 0
+ForNamed = Ident × (ℕ × Either (Unit {0} × Expr) (Option (Unit {0} × Init) × (List (Unit {0} × Var) × ForRest)))
+
+abbrev pub ForParts : Type 0
+ForParts = Either ForRest (Either (Modifier × (List Modifier × (TypeTree × ForNamed))) (Either (TypeTree × ForNamed) (List Expr × ForRest)))
+
+abbrev pub or_no_effects : Option (List Expr) → List Expr
+or_no_effects None = []
+or_no_effects (Some effects) = effects
+
+abbrev pub or_no_init : Option (Unit {0} × Init) → Option Init
+or_no_init None = None
+or_no_init (Some p) = Some p.1
+
+abbrev pub basic_made : ForInit → ForRest → ForHead
+basic_made init p = for_of.Basic init p.1.0 (or_no_effects p.1.1.1)
+
+abbrev pub named_made : List Modifier → TypeTree → ForNamed → ForHead
+named_made modifiers ty (name, (dims, This p)) = for_of.Enhanced modifiers ty name dims p.1
+named_made modifiers ty (name, (dims, That (init, (more, rest)))) =
+    basic_made (init_of.Local (record { modifiers = modifiers; ty = ty; first = record { name = name; dims = dims; init = or_no_init init }; more = map behind_it more })) rest
+
+abbrev pub for_head_made : ForParts → ForHead
+for_head_made (This rest) = basic_made (init_of.Effects []) rest
+for_head_made (That (This (m, (modifiers, (ty, p))))) = named_made (m ∷ modifiers) ty p
+for_head_made (That (That (This (ty, p)))) = named_made [] ty p
+for_head_made (That (That (That (effects, rest)))) = basic_made (init_of.Effects effects) rest
+
+abbrev pub for_made : (ℕ × (Unit {0} × (ForHead × (Unit {0} × Stmt)))) → Stmt
+for_made p = stmt_of.For p.0 p.1.1.0 p.1.1.1.1
+
+module _ (x : Exprs) (h : ℕ) where
+  unfoldable pub for_rest_run : Run ForRest
+  for_rest_run = in_turn semicolon_run (in_turn (perhaps (expr_in_run x h)) (in_turn semicolon_run (perhaps (commas_run (effect_in_run x h)))))
+
+  unfoldable pub for_named_run : Run ForNamed
+  for_named_run =
+      in_turn an_ident_at (in_turn dims_run (either (sign_code sign_of.Colon ∷ []) (in_turn (of_kind (sign_code sign_of.Colon)) (x.expr h))
+      (in_turn (perhaps (with_room h (in_turn (of_kind (sign_code sign_of.Assign)) (x.init h)))) (in_turn (each_behind sign_of.Comma (var_run x h)) for_rest_run))))
+
+  abbrev pub for_modifier_codes : List ℕ
+  for_modifier_codes = sign_code sign_of.At ∷ modifier_word_codes
+
+  unfoldable pub for_head_run : Run ForHead
+  for_head_run =
+      as_new for_head_made (either (sign_code sign_of.Semicolon ∷ []) for_rest_run
+      (either for_modifier_codes (in_turn (modifier_run x h) (in_turn (modifiers_run x h) (in_turn (type_run h) for_named_run)))
+      (trying (word_code ∷ []) (type_run h) for_named_run (in_turn (commas_run (x.effect h)) for_rest_run))))
+
+  unfoldable pub for_run : Level → Run Stmt
+  for_run l = as_new for_made (with_room h (in_turn (at_kind (key_code key_of.For)) (in_turn (of_kind (sign_code sign_of.LeftParen)) (in_turn for_head_run (in_turn (of_kind (sign_code sign_of.RightParen)) l.body)))))
