@@ -442,9 +442,9 @@ module _ (x : Exprs) (lx : ExprLaws x) (h : ℕ) (l : Level) where
   unfolding for_run
   for_law f = stmt_made_law (ℕ × (Unit {0} × (ForHead × (Unit {0} × Stmt)))) h (roomy h (ForC x h l)) for_made is_for (for_room x lx h l f) (for_kind x h l)
 
-pub closed_for : (x : Exprs) (lx : ExprLaws x) (k : ℕ) (l : Level) (f : LevelLaws (suc k) l) (ts : List Token) (s : Stmt) (r : List Token) → Stands (formed (for_coded x lx (suc k) l)) ts s r → (stmt_shape s).open_end ≡ false → IsFound s r (for_run x (suc k) l ts)
+pub closed_for : (x : Exprs) (lx : ExprLaws x) (k : ℕ) (l : Level) (f : LevelLaws (suc k) l) (ts : List Token) (s : Stmt) (r : List Token) → Stands (formed (for_coded x lx (suc k) l)) ts s r → (stmt_shape s).open_end ≡ false → one_of else_codes r ≡ true → IsFound s r (for_run x (suc k) l ts)
 unfolding for_run with_room
-closed_for x lx k l f ts s r t e =
+closed_for x lx k l f ts s r t e y0 =
     let lb = f.body in
     let close = then_a (a_sign sign_of.RightParen) (has (body_coded (suc k) l) lb) refl in
     let headed = then_a (has (for_head_coded x (suc k)) (for_head_laws x lx k)) close refl in
@@ -455,4 +455,4 @@ closed_for x lx k l f ts s r t e =
     (λ m v. closed_order _ _ (sign_form sign_of.LeftParen) headed.form (a_sign sign_of.LeftParen).laws headed.laws refl refl m p.1 r v
     (λ n w. closed_order _ _ (for_head_coded x (suc k)) close.form (for_head_laws x lx k) close.laws refl refl n p.1.1 r w
     (λ o y. closed_order _ _ (sign_form sign_of.RightParen) (body_coded (suc k) l) (a_sign sign_of.RightParen).laws lb refl refl o p.1.1.1 r y
-    (λ a z. f.closed a p.1.1.1.1 r z (sym (ap (λ (g : StmtShape). g.open_end) (stmt_shape-For p.0 p.1.1.0 p.1.1.1.1)) ∙ ap (λ (v : Stmt). (stmt_shape v).open_end) q ∙ e))))))
+    (λ a z. f.closed a p.1.1.1.1 r z (sym (ap (λ (g : StmtShape). g.open_end) (stmt_shape-For p.0 p.1.1.0 p.1.1.1.1)) ∙ ap (λ (v : Stmt). (stmt_shape v).open_end) q ∙ e) y0)))))

@@ -120,13 +120,13 @@ module _ (x : Exprs) (lx : ExprLaws x) (k : ℕ) (l : Level) (f : LevelLaws (suc
   open_arm p = ap (λ (s : ClauseShape). s.open_end) (clause_shape-made p.0 (clause_of.If p.1.0.1.0) (p.1.1 ∷ []))
 
   -- an arm that takes no `else` is found whatever follows
-  closed_arm : (ts : List Token) (c : Clause) (r : List Token) → Stands (formed (arm_coded x (suc k) l)) ts c r → arm_open c ≡ false → IsFound c r (arm_run x (suc k) l ts)
+  closed_arm : (ts : List Token) (c : Clause) (r : List Token) → Stands (formed (arm_coded x (suc k) l)) ts c r → arm_open c ≡ false → one_of else_codes r ≡ true → IsFound c r (arm_run x (suc k) l ts)
   unfolding arm_run
-  closed_arm ts c r s e =
+  closed_arm ts c r s e z =
       closed_made (ℕ × ((Unit {0} × (Expr × Unit {0})) × Stmt)) Clause (ArmParts x (suc k) l) arm_made clause_tokens (arm_fits x (suc k) l) (arm_makes x (suc k) l) ts c r s
       (λ p q t. closed_order ℕ ((Unit {0} × (Expr × Unit {0})) × Stmt) (key_at_form key_of.If) Inner.form (a_key_at key_of.If).laws Inner.laws refl refl ts p r t
       (λ m u. closed_order (Unit {0} × (Expr × Unit {0})) Stmt (Parens x (suc k) l) (body_coded (suc k) l) (parens_has x lx k l).laws f.body refl refl m p.1 r u
-      (λ n v. f.closed n p.1.1 r v (sym (open_arm p) ∙ ap arm_open q ∙ e))))
+      (λ n v. f.closed n p.1.1 r v (sym (open_arm p) ∙ ap arm_open q ∙ e) z)))
 
 -- behind an arm
 
@@ -284,7 +284,7 @@ module _ (x : Exprs) (lx : ExprLaws x) (k : ℕ) (l : Level) (f : LevelLaws (suc
   follow n = record {
     solid = refl; free = refl; bare = λ r. refl; none_fits = none_fits x (suc k) l n; none_is = refl; only = only_none x (suc k) l;
     some = λ ts p r s e. some_tail x (suc k) l ts p r s.0 e;
-    whole = λ ts c r s e q. closed_arm x lx k l f ts c r s e;
+    whole = λ ts c r s e q. closed_arm x lx k l f ts c r s e q;
   }
 
   inner_laws : (n : ℕ) → Lawful Branch (formed (Tail x (suc k) l n)) → Lawful (Either (Clause × Branch) Stmt) (formed (one_or (key_code key_of.If ∷ []) (Then x (suc k) l n) (Last x (suc k) l)))
@@ -320,34 +320,34 @@ module _ (x : Exprs) (lx : ExprLaws x) (k : ℕ) (l : Level) (f : LevelLaws (suc
   -- what is behind an arm is found whatever follows, where its end takes no `else`
 
   abbrev AllClosed : ℕ → Type 0
-  AllClosed n = (ts : List Token) (p : Branch) (r : List Token) → Stands (formed (Tail x (suc k) l n)) ts p r → open_branch p ≡ false → IsFound p r (tail_run x (suc k) l n ts)
+  AllClosed n = (ts : List Token) (p : Branch) (r : List Token) → Stands (formed (Tail x (suc k) l n)) ts p r → open_branch p ≡ false → one_of else_codes r ≡ true → IsFound p r (tail_run x (suc k) l n ts)
 
   not_none : (arms : List Clause) (q : Stmt) → nothing (arms, Some q) ≡ false
   not_none [] q = refl
   not_none (d ∷ arms) q = refl
 
-  closed_choice : (n : ℕ) → AllClosed n → (m : List Token) (o : Either (Clause × Branch) Stmt) (r : List Token) → Stands (formed (one_or (key_code key_of.If ∷ []) (Then x (suc k) l n) (Last x (suc k) l))) m o r → open_branch (branch_made (Some (tt, o))) ≡ false → IsFound o r ((one_or (key_code key_of.If ∷ []) (Then x (suc k) l n) (Last x (suc k) l)).run m)
-  closed_choice n ih m (This (c, (arms, None))) r u e = absurd (false≢true (sym e))
-  closed_choice n ih m (This (c, (arms, Some q))) r u e =
+  closed_choice : (n : ℕ) → AllClosed n → (m : List Token) (o : Either (Clause × Branch) Stmt) (r : List Token) → Stands (formed (one_or (key_code key_of.If ∷ []) (Then x (suc k) l n) (Last x (suc k) l))) m o r → open_branch (branch_made (Some (tt, o))) ≡ false → one_of else_codes r ≡ true → IsFound o r ((one_or (key_code key_of.If ∷ []) (Then x (suc k) l n) (Last x (suc k) l)).run m)
+  closed_choice n ih m (This (c, (arms, None))) r u e z = absurd (false≢true (sym e))
+  closed_choice n ih m (This (c, (arms, Some q))) r u e z =
       closed_this (Clause × Branch) Stmt (key_code key_of.If ∷ []) (Then x (suc k) l n) (Last x (suc k) l)
       (following_laws Clause Branch arm_open no_more nothing (Arm x (suc k) l) (Tail x (suc k) l n) la (tail_laws n) (follow n)) (record { solid = refl; solid' = refl; this = refl; that = refl })
       m (c, (arms, Some q)) r u
-      (following_whole Clause Branch arm_open no_more nothing (Arm x (suc k) l) (Tail x (suc k) l n) la (tail_laws n) (follow n) m (c, (arms, Some q)) r u (not_none arms q) (λ v w. ih v (arms, Some q) r w e))
-  closed_choice n ih m (That q) r u e =
-      closed_that (Clause × Branch) Stmt (key_code key_of.If ∷ []) (Then x (suc k) l n) (Last x (suc k) l) f.other (record { solid = refl; solid' = refl; this = refl; that = refl }) m q r u (f.closed_other m q r u e)
+      (following_whole Clause Branch arm_open no_more nothing (Arm x (suc k) l) (Tail x (suc k) l n) la (tail_laws n) (follow n) m (c, (arms, Some q)) r u (not_none arms q) (λ v w. ih v (arms, Some q) r w e z))
+  closed_choice n ih m (That q) r u e z =
+      closed_that (Clause × Branch) Stmt (key_code key_of.If ∷ []) (Then x (suc k) l n) (Last x (suc k) l) f.other (record { solid = refl; solid' = refl; this = refl; that = refl }) m q r u (f.closed_other m q r u e z)
 
-  closed_next : (n : ℕ) → AllClosed n → (ts : List Token) (p : Branch) (r : List Token) (o : Option (Unit {0} × Either (Clause × Branch) Stmt)) → open_branch p ≡ false → branch_made o ≡ p → Stands (formed (Next x (suc k) l n)) ts o r → IsFound o r ((Next x (suc k) l n).run ts)
-  closed_next n ih ts p r None e q t = absurd (false≢true (sym e ∙ ap open_branch (sym q)))
-  closed_next n ih ts p r (Some (u, o)) e q t =
+  closed_next : (n : ℕ) → AllClosed n → (ts : List Token) (p : Branch) (r : List Token) (o : Option (Unit {0} × Either (Clause × Branch) Stmt)) → open_branch p ≡ false → one_of else_codes r ≡ true → branch_made o ≡ p → Stands (formed (Next x (suc k) l n)) ts o r → IsFound o r ((Next x (suc k) l n).run ts)
+  closed_next n ih ts p r None e z q t = absurd (false≢true (sym e ∙ ap open_branch (sym q)))
+  closed_next n ih ts p r (Some (u, o)) e z q t =
       closed_optional (Unit {0} × Either (Clause × Branch) Stmt) (in_order (key_form key_of.Else) (one_or (key_code key_of.If ∷ []) (Then x (suc k) l n) (Last x (suc k) l))) ts (u, o) r
       (closed_order (Unit {0}) (Either (Clause × Branch) Stmt) (key_form key_of.Else) (one_or (key_code key_of.If ∷ []) (Then x (suc k) l n) (Last x (suc k) l)) (key_laws key_of.Else) (inner_laws n (tail_laws n)) refl refl ts (u, o) r t
-      (λ m v. closed_choice n ih m o r v (ap open_branch q ∙ e)))
+      (λ m v. closed_choice n ih m o r v (ap open_branch q ∙ e) z))
 
   closed_tail : (n : ℕ) → AllClosed n
   unfolding branch_run
-  closed_tail zero ts p r s e = absurd (false≢true (sym e ∙ ap open_branch (sym (only_zero x (suc k) l p s.1))))
-  closed_tail (suc n) ts p r s e =
-      closed_made (Option (Unit {0} × Either (Clause × Branch) Stmt)) Branch (Next x (suc k) l n) branch_made branch_tell (tail_fits x (suc k) l (suc n)) (branch_makes x (suc k) l n) ts p r s (λ o q t. closed_next n (closed_tail n) ts p r o e q t)
+  closed_tail zero ts p r s e z = absurd (false≢true (sym e ∙ ap open_branch (sym (only_zero x (suc k) l p s.1))))
+  closed_tail (suc n) ts p r s e z =
+      closed_made (Option (Unit {0} × Either (Clause × Branch) Stmt)) Branch (Next x (suc k) l n) branch_made branch_tell (tail_fits x (suc k) l (suc n)) (branch_makes x (suc k) l n) ts p r s (λ o q t. closed_next n (closed_tail n) ts p r o e z q t)
 
 -- the statement
 
@@ -451,7 +451,7 @@ unfolding last_fits
 all_follow x lx k l f = record {
   solid = refl; free = refl; bare = λ r. refl; none_fits = refl; none_is = refl; only = only_none x (suc k) l;
   some = λ ts p r s e. some_tail x (suc k) l ts p r s.0 e;
-  whole = λ ts c r s e q. closed_arm x lx k l f ts c r s e;
+  whole = λ ts c r s e q. closed_arm x lx k l f ts c r s e q;
 }
 
 if_parts_laws : (x : Exprs) (lx : ExprLaws x) (k : ℕ) (l : Level) (f : LevelLaws (suc k) l) → Lawful (Clause × Branch) (formed (IfParts x (suc k) l))
@@ -482,16 +482,16 @@ not_nothing ([], None) e = absurd (false≢true (sym e))
 not_nothing ([], Some s) e = refl
 not_nothing (c ∷ arms, o) e = refl
 
--- an `if` that takes no `else` behind it is found whatever follows
-pub closed_if : (x : Exprs) (lx : ExprLaws x) (k : ℕ) (l : Level) (f : LevelLaws (suc k) l) (ts : List Token) (s : Stmt) (r : List Token) → Stands (formed (if_coded x lx (suc k) l)) ts s r → (stmt_shape s).open_end ≡ false → IsFound s r (if_run x (suc k) l ts)
+-- an `if` that takes no `else` behind it is found before one
+pub closed_if : (x : Exprs) (lx : ExprLaws x) (k : ℕ) (l : Level) (f : LevelLaws (suc k) l) (ts : List Token) (s : Stmt) (r : List Token) → Stands (formed (if_coded x lx (suc k) l)) ts s r → (stmt_shape s).open_end ≡ false → one_of else_codes r ≡ true → IsFound s r (if_run x (suc k) l ts)
 unfolding if_run with_room
-closed_if x lx k l f ts s r t e =
+closed_if x lx k l f ts s r t e z =
     closed_made (Clause × Branch) Stmt (roomy (suc k) (IfParts x (suc k) l)) if_made stmt_tokens (stmt_fits (Clause × Branch) (suc k) (roomy (suc k) (IfParts x (suc k) l)) if_made is_if)
     (kind_makes (Clause × Branch) Stmt (roomy (suc k) (IfParts x (suc k) l)) if_made stmt_tokens (λ s. is_if (out-Stmt s)) (good_at (suc k)) (if_kind x (suc k) l)) ts s r t
     (λ p q u.
     let o : open_branch p.1 ≡ false = sym (open_if p) ∙ ap (λ (v : Stmt). (stmt_shape v).open_end) q ∙ e in
     following_whole Clause Branch arm_open no_more nothing (Arm x (suc k) l) (Every x (suc k) l) (arm_laws x lx k l f) (every_laws x lx k l f) (all_follow x lx k l f) ts p r u (not_nothing p.1 o)
-    (λ m v. closed_tail x lx k l f (length m) m p.1 r (v.0, enough x (suc k) l p.1.0 p.1.1 (length m) (short_there m p.1 v) v.1) o))
+    (λ m v. closed_tail x lx k l f (length m) m p.1 r (v.0, enough x (suc k) l p.1.0 p.1.1 (length m) (short_there m p.1 v) v.1) o z))
   where
   short_there : (m : List Token) (p : Branch) → Stands (formed (Every x (suc k) l)) m p r → size x (suc k) l p.0 p.1 ≤ length m
   short_there m p v = let i = long_told x (suc k) l (arm_laws x lx k l f) f.other p.0 p.1 v.1 in omega (arith, i, takes_length false (branch_tell p []) m r v.0)

@@ -41,6 +41,7 @@ use Rattle.jc_parse_parts.proofs.Lowest.{Law, Void, roomy, made_law, optional_la
 use Rattle.jc_parse_parts.proofs.ModifierForms.{modifier_codes}
 use Rattle.jc_parse_parts.proofs.PartForms.{sign_form, sign_at_form, key_form, key_at_form, ident_form}
 use Rattle.jc_parse_unit.specs.UnitReading.{Level, DeclarationRest, declaration_made, PlacedBraces, Braces, block_made, while_made, do_made, return_made, break_made, continue_made, throw_made, block_run, empty_run, while_run, do_run, return_run, break_run, continue_run, throw_run}
+use Rattle.jc_parse_unit.proofs.Closed.{closed_order, closed_made}
 use Rattle.jc_parse_unit.proofs.Bundles.{Has, has, a_sign, a_sign_at, a_key, a_key_at, an_ident, then_a, maybe_a, any_of, roomy_zero, roomy_suc}
 
 -- where a statement may begin that is no declaration: a keyword, a brace, a semicolon or an expression
@@ -87,9 +88,9 @@ module _ (h : ℕ) (l : Level) where
     pub other : Lawful Stmt (formed other_coded)
     pub item : Lawful Stmt (formed item_coded)
     pub case_item : Lawful Stmt (formed case_item_coded)
-    -- a body that an `else` behind it wouldn't belong to is found whatever follows, and so is what stands behind an `else`
-    pub closed : (ts : List Token) (s : Stmt) (r : List Token) → Stands (formed body_coded) ts s r → (stmt_shape s).open_end ≡ false → IsFound s r (l.body ts)
-    pub closed_other : (ts : List Token) (s : Stmt) (r : List Token) → Stands (formed other_coded) ts s r → (stmt_shape s).open_end ≡ false → IsFound s r (l.other ts)
+    -- a body that an `else` behind it wouldn't belong to is found before one, and so is what stands behind an `else`
+    pub closed : (ts : List Token) (s : Stmt) (r : List Token) → Stands (formed body_coded) ts s r → (stmt_shape s).open_end ≡ false → one_of else_codes r ≡ true → IsFound s r (l.body ts)
+    pub closed_other : (ts : List Token) (s : Stmt) (r : List Token) → Stands (formed other_coded) ts s r → (stmt_shape s).open_end ≡ false → one_of else_codes r ≡ true → IsFound s r (l.other ts)
 
 abbrev pub LevelLaws : ℕ → Level → Type 0
 LevelLaws zero l = Voids 0 l
@@ -270,3 +271,16 @@ module _ (x : Exprs) (lx : ExprLaws x) (h : ℕ) (l : Level) where
         is_kind = λ p. ap is_while (stmt_of.outs-While p.0 p.1.0.1.0 p.1.1);
         back = λ s g. back_while x h l s (out-Stmt s) refl g;
       })
+
+pub closed_while : (x : Exprs) (lx : ExprLaws x) (k : ℕ) (l : Level) (f : LevelLaws (suc k) l) (ts : List Token) (s : Stmt) (r : List Token) → Stands (formed (while_coded x lx (suc k) l)) ts s r → (stmt_shape s).open_end ≡ false → one_of else_codes r ≡ true → IsFound s r (while_run x (suc k) l ts)
+unfolding while_run with_room
+closed_while x lx k l f ts s r t e n =
+    let inner = then_a (parens_has x lx k l) (has (body_coded (suc k) l) f.body) refl in
+    closed_made (ℕ × ((Unit {0} × (Expr × Unit {0})) × Stmt)) Stmt (roomy (suc k) (WhileParts x (suc k) l)) while_made stmt_tokens (stmt_fits (ℕ × ((Unit {0} × (Expr × Unit {0})) × Stmt)) (suc k) (roomy (suc k) (WhileParts x (suc k) l)) while_made is_while)
+    (kind_makes (ℕ × ((Unit {0} × (Expr × Unit {0})) × Stmt)) Stmt (roomy (suc k) (WhileParts x (suc k) l)) while_made stmt_tokens (λ s. is_while (out-Stmt s)) (good_at (suc k))
+    (record {
+      told = λ p r. stmt_tokens-While p.0 p.1.0.1.0 p.1.1 r; fit = fit_while x (suc k) l; is_kind = λ p. ap is_while (stmt_of.outs-While p.0 p.1.0.1.0 p.1.1); back = λ s g. back_while x (suc k) l s (out-Stmt s) refl g;
+    })) ts s r t
+    (λ p q u. closed_order _ _ (key_at_form key_of.While) inner.form (a_key_at key_of.While).laws inner.laws refl refl ts p r u
+    (λ m v. closed_order _ _ (Parens x (suc k) l) (body_coded (suc k) l) (parens_has x lx k l).laws f.body refl refl m p.1 r v
+    (λ o w. f.closed o p.1.1 r w (sym (ap (λ (g : StmtShape). g.open_end) (stmt_shape-While p.0 p.1.0.1.0 p.1.1)) ∙ ap (λ (v : Stmt). (stmt_shape v).open_end) q ∙ e) n)))

@@ -460,9 +460,9 @@ module _ (x : Exprs) (lx : ExprLaws x) (h : ℕ) (l : Level) where
 
 -- what takes no `else` behind it is found whatever follows
 
-pub closed_plain : (x : Exprs) (lx : ExprLaws x) (k : ℕ) (l : Level) (f : LevelLaws (suc k) l) (ts : List Token) (s : Stmt) (r : List Token) → Stands (formed (plain_coded x lx (suc k) l)) ts s r → (stmt_shape s).open_end ≡ false → IsFound s r (plain_run x (suc k) l ts)
+pub closed_plain : (x : Exprs) (lx : ExprLaws x) (k : ℕ) (l : Level) (f : LevelLaws (suc k) l) (ts : List Token) (s : Stmt) (r : List Token) → Stands (formed (plain_coded x lx (suc k) l)) ts s r → (stmt_shape s).open_end ≡ false → one_of else_codes r ≡ true → IsFound s r (plain_run x (suc k) l ts)
 unfolding plain_run with_room
-closed_plain x lx k l f ts s r t e =
+closed_plain x lx k l f ts s r t e z =
     closed_made (Either (Ident × (Unit {0} × Stmt)) (Expr × Unit {0})) Stmt (roomy (suc k) (Plains x (suc k) l)) (labeled_or effect_made) stmt_tokens (stmt_fits (Either (Ident × (Unit {0} × Stmt)) (Expr × Unit {0})) (suc k) (roomy (suc k) (Plains x (suc k) l)) (labeled_or effect_made) is_plain)
     (kind_makes (Either (Ident × (Unit {0} × Stmt)) (Expr × Unit {0})) Stmt (roomy (suc k) (Plains x (suc k) l)) (labeled_or effect_made) stmt_tokens (λ s. is_plain (out-Stmt s)) (good_at (suc k)) (plain_kind x (suc k) l)) ts s r t
     (λ o q u. by o (ap (λ (v : Stmt). (stmt_shape v).open_end) q ∙ e) u)
@@ -480,4 +480,4 @@ closed_plain x lx k l f ts s r t e =
       (found_becoming This p r ((Label (suc k) l).run ts)
       (closed_order Ident (Unit {0} × Stmt) ident_form (in_order (sign_form sign_of.Colon) (body_coded (suc k) l)) ident_laws (then_a (a_sign sign_of.Colon) (has (body_coded (suc k) l) f.body) refl).laws refl refl ts p r u
       (λ m v. closed_order (Unit {0}) Stmt (sign_form sign_of.Colon) (body_coded (suc k) l) (a_sign sign_of.Colon).laws f.body refl refl m p.1 r v
-      (λ n w. f.closed n p.1.1 r w (sym (ap (λ (g : StmtShape). g.open_end) (stmt_shape-Labeled p.0 p.1.1)) ∙ e)))))
+      (λ n w. f.closed n p.1.1 r w (sym (ap (λ (g : StmtShape). g.open_end) (stmt_shape-Labeled p.0 p.1.1)) ∙ e) z))))

@@ -363,3 +363,37 @@ module _ (x : Exprs) (h : ℕ) where
 
   unfoldable pub for_run : Level → Run Stmt
   for_run l = as_new for_made (with_room h (in_turn (at_kind (key_code key_of.For)) (in_turn (of_kind (sign_code sign_of.LeftParen)) (in_turn for_head_run (in_turn (of_kind (sign_code sign_of.RightParen)) l.body)))))
+
+-- statements
+
+abbrev pub if_codes : List ℕ
+if_codes = key_code key_of.If ∷ []
+
+-- the one kind where a token of its codes stands, and else the others
+abbrev pub or_others : {A : Type 0} → List ℕ → Run A → Run A → Run A
+or_others codes m n = as_new either_one (either codes m n)
+
+abbrev pub statement_codes : List ℕ
+statement_codes =
+    sign_code sign_of.LeftBrace ∷ sign_code sign_of.Semicolon ∷ key_code key_of.While ∷ key_code key_of.Do ∷ key_code key_of.For ∷ key_code key_of.Switch ∷ key_code key_of.Return ∷ key_code key_of.Break ∷ key_code key_of.Continue
+    ∷ key_code key_of.Throw ∷ key_code key_of.Try ∷ []
+
+module _ (x : Exprs) (h : ℕ) (l : Level) where
+  -- statements of one keyword, a block or a semicolon
+  abbrev pub simple_run : Run Stmt
+  simple_run =
+      or_others (sign_code sign_of.LeftBrace ∷ []) (block_run x h l) (or_others (sign_code sign_of.Semicolon ∷ []) (empty_run x h l) (or_others (key_code key_of.While ∷ []) (while_run x h l)
+      (or_others (key_code key_of.Do ∷ []) (do_run x h l) (or_others (key_code key_of.For ∷ []) (for_run x h l) (or_others (key_code key_of.Switch ∷ []) (switch_run x h l)
+      (or_others (key_code key_of.Return ∷ []) (return_run x h l) (or_others (key_code key_of.Break ∷ []) (break_run x h l) (or_others (key_code key_of.Continue ∷ []) (continue_run x h l)
+      (or_others (key_code key_of.Throw ∷ []) (throw_run x h l) (try_run x h l))))))))))
+
+  -- behind an `else`: no `if`
+  unfoldable pub other_run : Run Stmt
+  other_run = or_others statement_codes simple_run (plain_run x h l)
+
+  unfoldable pub body_run : Run Stmt
+  body_run = or_others if_codes (if_run x h l) (or_others statement_codes simple_run (plain_run x h l))
+
+  -- behind a label of a switch
+  unfoldable pub case_item_run : Run Stmt
+  case_item_run = or_others if_codes (if_run x h l) (or_others statement_codes simple_run (or_others (sign_code sign_of.At ∷ modifier_word_codes) (local_run x h) (word_run x h l)))
