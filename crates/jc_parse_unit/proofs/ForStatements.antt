@@ -55,7 +55,7 @@ use Rattle.jc_parse_unit.proofs.Bundles.{Has, has, a_sign, a_sign_at, a_key, a_k
 
 use Rattle.jc_reading.proofs.Ledby.{unled, unled_back}
 use Rattle.jc_parse_parts.proofs.Rows.{rows, rows_tail, rows_tail_laws, Separate}
-use Rattle.jc_parse_unit.proofs.SimpleStatements.{simple_codes, stmt_codes, item_codes, else_codes, body_coded, item_coded, case_item_coded, LevelLaws, body_law, item_law, case_item_law, Layer, good_at, good_made, stmt_fits, stmt_made_law, told_items, all_shaped, items_fit, Parens, expr_never, parens_never, parens_has}
+use Rattle.jc_parse_unit.proofs.SimpleStatements.{simple_codes, stmt_codes, item_codes, else_codes, behind_codes, body_coded, item_coded, case_item_coded, LevelLaws, body_law, item_law, case_item_law, Layer, good_at, good_made, stmt_fits, stmt_made_law, told_items, all_shaped, items_fit, Parens, expr_never, parens_never, parens_has}
 
 use Rattle.jc_parse_unit.proofs.Switches.{is_catch, is_finally, catch_part, finally_part, clause_good, clause_good_made, told_clauses}
 
@@ -436,7 +436,7 @@ for_room x lx (suc k) l f =
 
 module _ (x : Exprs) (lx : ExprLaws x) (h : ℕ) (l : Level) where
   abbrev pub for_coded : Coded Stmt
-  for_coded = record { tell = stmt_tokens; fits = stmt_fits (ℕ × (Unit {0} × (ForHead × (Unit {0} × Stmt)))) h (roomy h (ForC x h l)) for_made is_for; run = for_run x h l; starts = key_code key_of.For ∷ []; goes = else_codes; empties = false }
+  for_coded = record { tell = stmt_tokens; fits = stmt_fits (ℕ × (Unit {0} × (ForHead × (Unit {0} × Stmt)))) h (roomy h (ForC x h l)) for_made is_for; run = for_run x h l; starts = key_code key_of.For ∷ []; goes = behind_codes; empties = false }
 
   pub for_law : LevelLaws h l → Law Stmt for_coded
   unfolding for_run

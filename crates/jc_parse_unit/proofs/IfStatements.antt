@@ -55,7 +55,7 @@ use Rattle.jc_parse_unit.proofs.Bundles.{Has, has, a_sign, a_sign_at, a_key, a_k
 
 use Rattle.jc_reading.proofs.Ledby.{unled, unled_back}
 use Rattle.jc_parse_parts.proofs.Rows.{rows, rows_tail, rows_tail_laws, Separate}
-use Rattle.jc_parse_unit.proofs.SimpleStatements.{simple_codes, stmt_codes, item_codes, else_codes, body_coded, item_coded, case_item_coded, LevelLaws, body_law, item_law, case_item_law, Layer, good_at, good_made, stmt_fits, stmt_made_law, told_items, all_shaped, items_fit, Parens, expr_never, parens_never, parens_has}
+use Rattle.jc_parse_unit.proofs.SimpleStatements.{simple_codes, stmt_codes, item_codes, else_codes, behind_codes, body_coded, item_coded, case_item_coded, LevelLaws, body_law, item_law, case_item_law, Layer, good_at, good_made, stmt_fits, stmt_made_law, told_items, all_shaped, items_fit, Parens, expr_never, parens_never, parens_has}
 
 use Rattle.jc_parse_unit.proofs.Switches.{is_catch, is_finally, catch_part, finally_part, clause_good, clause_good_made, told_clauses}
 
@@ -85,7 +85,7 @@ module _ (x : Exprs) (h : ℕ) (l : Level) where
   arm_fits c = is_arm (out-Clause c).head (out-Clause c).items && clause_good h c
 
   abbrev arm_coded : Coded Clause
-  arm_coded = record { tell = clause_tokens; fits = arm_fits; run = arm_run x h l; starts = key_code key_of.If ∷ []; goes = else_codes; empties = false }
+  arm_coded = record { tell = clause_tokens; fits = arm_fits; run = arm_run x h l; starts = key_code key_of.If ∷ []; goes = behind_codes; empties = false }
 
   arm_bits : (e b i g : Bool) → ((e && b) && (i && g)) ≡ (true && ((true && ((e && i) && true)) && (b && g)))
   arm_bits e b i g = grind (arith, common_steps)
@@ -167,10 +167,10 @@ module _ (x : Exprs) (h : ℕ) (l : Level) where
   tail_run n = branch_run n (arm_run x h l) l.other
 
   abbrev Tail : ℕ → Coded Branch
-  Tail n = sized Branch branch_tell else_codes else_codes true tail_fits tail_run all_fit n
+  Tail n = sized Branch branch_tell else_codes behind_codes true tail_fits tail_run all_fit n
 
   abbrev Every : Coded Branch
-  Every = unbounded Branch branch_tell else_codes else_codes true tail_fits tail_run all_fit
+  Every = unbounded Branch branch_tell else_codes behind_codes true tail_fits tail_run all_fit
 
   abbrev Then : ℕ → Coded (Clause × Branch)
   Then n = following Clause Branch arm_open no_more nothing Arm (Tail n)
@@ -300,12 +300,12 @@ module _ (x : Exprs) (lx : ExprLaws x) (k : ℕ) (l : Level) (f : LevelLaws (suc
   unfolding branch_run
   tail_laws zero = idle_laws Branch (Tail x (suc k) l 0) no_more (none_fits x (suc k) l 0) (only_zero x (suc k) l) (λ r. refl) refl
   tail_laws (suc n) =
-      widened_laws Branch (made (Option (Unit {0} × Either (Clause × Branch) Stmt)) Branch (Next x (suc k) l n) branch_made branch_tell (tail_fits x (suc k) l (suc n))) else_codes else_codes
+      widened_laws Branch (made (Option (Unit {0} × Either (Clause × Branch) Stmt)) Branch (Next x (suc k) l n) branch_made branch_tell (tail_fits x (suc k) l (suc n))) else_codes behind_codes
       (made_laws (Option (Unit {0} × Either (Clause × Branch) Stmt)) Branch (Next x (suc k) l n) branch_made branch_tell (tail_fits x (suc k) l (suc n))
       (optional_laws (Unit {0} × Either (Clause × Branch) Stmt) (in_order (key_form key_of.Else) (one_or (key_code key_of.If ∷ []) (Then x (suc k) l n) (Last x (suc k) l))) (else_laws n (tail_laws n)) refl)
       (branch_makes x (suc k) l n)) refl refl
 
-  grows : Grows Branch branch_tell else_codes else_codes true (tail_fits x (suc k) l) (tail_run x (suc k) l) (all_fit x (suc k) l)
+  grows : Grows Branch branch_tell else_codes behind_codes true (tail_fits x (suc k) l) (tail_run x (suc k) l) (all_fit x (suc k) l)
   grows = record {
     lawful = tail_laws;
     up = λ p g. (size x (suc k) l p.0 p.1, enough x (suc k) l p.0 p.1 (size x (suc k) l p.0 p.1) (omega arith) g);
@@ -315,7 +315,7 @@ module _ (x : Exprs) (lx : ExprLaws x) (k : ℕ) (l : Level) (f : LevelLaws (suc
   }
 
   every_laws : Lawful Branch (formed (Every x (suc k) l))
-  every_laws = unbounded_laws Branch branch_tell else_codes else_codes true (tail_fits x (suc k) l) (tail_run x (suc k) l) (all_fit x (suc k) l) grows
+  every_laws = unbounded_laws Branch branch_tell else_codes behind_codes true (tail_fits x (suc k) l) (tail_run x (suc k) l) (all_fit x (suc k) l) grows
 
   -- what is behind an arm is found whatever follows, where its end takes no `else`
 

@@ -43,7 +43,7 @@ use Rattle.jc_parse_parts.proofs.PartForms.{sign_form, sign_at_form, key_form, k
 use Rattle.jc_parse_unit.specs.UnitReading.{Level, DeclarationRest, declaration_made, PlacedBraces, Braces, block_made, while_made, do_made, return_made, break_made, continue_made, throw_made, block_run, empty_run, while_run, do_run, return_run, break_run, continue_run, throw_run}
 use Rattle.jc_parse_unit.proofs.Bundles.{Has, has, a_sign, a_sign_at, a_key, a_key_at, an_ident, then_a, maybe_a, any_of, roomy_zero, roomy_suc}
 
-use Rattle.jc_parse_unit.proofs.SimpleStatements.{simple_codes, stmt_codes, item_codes, else_codes, body_coded, item_coded, LevelLaws, body_law, Layer, is_do, is_return, is_break, is_continue, is_throw, good_at, good_made, stmt_fits, stmt_made_law, Parens, expr_never, parens_never, parens_has}
+use Rattle.jc_parse_unit.proofs.SimpleStatements.{simple_codes, stmt_codes, item_codes, else_codes, behind_codes, body_coded, item_coded, LevelLaws, body_law, Layer, is_do, is_return, is_break, is_continue, is_throw, good_at, good_made, stmt_fits, stmt_made_law, Parens, expr_never, parens_never, parens_has}
 
 module _ (x : Exprs) (h : ℕ) (l : Level) where
   abbrev DoParts : Coded (ℕ × (Stmt × (Unit {0} × ((Unit {0} × (Expr × Unit {0})) × Unit {0}))))

@@ -1,5 +1,6 @@
 pub mod Bundles
 pub mod Closed
+pub mod Contexts
 pub mod ForStatements
 pub mod IfStatements
 pub mod Jumps

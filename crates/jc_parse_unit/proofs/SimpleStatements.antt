@@ -60,18 +60,21 @@ item_codes = key_code key_of.Class ∷ key_code key_of.Interface ∷ modifier_co
 abbrev pub else_codes : List ℕ
 else_codes = key_code key_of.Else ∷ []
 
+abbrev pub behind_codes : List ℕ
+behind_codes = key_code key_of.Else ∷ key_code key_of.Catch ∷ key_code key_of.Finally ∷ []
+
 module _ (h : ℕ) (l : Level) where
   abbrev pub body_coded : Coded Stmt
-  body_coded = record { tell = stmt_tokens; fits = λ s. nat_le (stmt_height s) h && in_body (stmt_shape s); run = l.body; starts = stmt_codes; goes = else_codes; empties = false }
+  body_coded = record { tell = stmt_tokens; fits = λ s. nat_le (stmt_height s) h && in_body (stmt_shape s); run = l.body; starts = stmt_codes; goes = behind_codes; empties = false }
 
   abbrev pub other_coded : Coded Stmt
-  other_coded = record { tell = stmt_tokens; fits = λ s. nat_le (stmt_height s) h && behind_else (stmt_shape s); run = l.other; starts = simple_codes ++ expr_codes; goes = else_codes; empties = false }
+  other_coded = record { tell = stmt_tokens; fits = λ s. nat_le (stmt_height s) h && behind_else (stmt_shape s); run = l.other; starts = simple_codes ++ expr_codes; goes = behind_codes; empties = false }
 
   abbrev pub item_coded : Coded Stmt
-  item_coded = record { tell = stmt_tokens; fits = λ s. nat_le (stmt_height s) h && in_block (stmt_shape s); run = l.item; starts = item_codes; goes = else_codes; empties = false }
+  item_coded = record { tell = stmt_tokens; fits = λ s. nat_le (stmt_height s) h && in_block (stmt_shape s); run = l.item; starts = item_codes; goes = behind_codes; empties = false }
 
   abbrev pub case_item_coded : Coded Stmt
-  case_item_coded = record { tell = stmt_tokens; fits = λ s. nat_le (stmt_height s) h && in_switch (stmt_shape s); run = l.case_item; starts = modifier_codes ++ stmt_codes; goes = else_codes; empties = false }
+  case_item_coded = record { tell = stmt_tokens; fits = λ s. nat_le (stmt_height s) h && in_switch (stmt_shape s); run = l.case_item; starts = modifier_codes ++ stmt_codes; goes = behind_codes; empties = false }
 
   abbrev pub rest_fits : DeclarationRest → Bool
   rest_fits p = nat_le (declaration_height (declaration_made [] p)) h && is_declaration (declaration_made [] p)
@@ -259,7 +262,7 @@ while_room x lx (suc k) l f = roomy_suc k (WhileParts x (suc k) l) (then_a (a_ke
 
 module _ (x : Exprs) (lx : ExprLaws x) (h : ℕ) (l : Level) where
   abbrev pub while_coded : Coded Stmt
-  while_coded = record { tell = stmt_tokens; fits = stmt_fits (ℕ × ((Unit {0} × (Expr × Unit {0})) × Stmt)) h (roomy h (WhileParts x h l)) while_made is_while; run = while_run x h l; starts = key_code key_of.While ∷ []; goes = else_codes; empties = false }
+  while_coded = record { tell = stmt_tokens; fits = stmt_fits (ℕ × ((Unit {0} × (Expr × Unit {0})) × Stmt)) h (roomy h (WhileParts x h l)) while_made is_while; run = while_run x h l; starts = key_code key_of.While ∷ []; goes = behind_codes; empties = false }
 
   pub while_law : LevelLaws h l → Law Stmt while_coded
   unfolding while_run

@@ -55,7 +55,7 @@ use Rattle.jc_parse_unit.proofs.Bundles.{Has, has, a_sign, a_sign_at, a_key, a_k
 
 use Rattle.jc_reading.proofs.Ledby.{unled, unled_back}
 use Rattle.jc_parse_parts.proofs.Rows.{rows, rows_tail, rows_tail_laws, Separate}
-use Rattle.jc_parse_unit.proofs.SimpleStatements.{simple_codes, stmt_codes, item_codes, else_codes, body_coded, item_coded, case_item_coded, LevelLaws, body_law, item_law, case_item_law, Layer, good_at, good_made, stmt_fits, stmt_made_law, told_items, all_shaped, items_fit, Parens, expr_never, parens_never, parens_has}
+use Rattle.jc_parse_unit.proofs.SimpleStatements.{simple_codes, stmt_codes, item_codes, else_codes, behind_codes, body_coded, item_coded, case_item_coded, LevelLaws, body_law, item_law, case_item_law, Layer, good_at, good_made, stmt_fits, stmt_made_law, told_items, all_shaped, items_fit, Parens, expr_never, parens_never, parens_has}
 
 use Rattle.jc_parse_unit.proofs.Switches.{is_catch, is_finally, catch_part, finally_part, clause_good, clause_good_made, told_clauses}
 

@@ -55,7 +55,7 @@ use Rattle.jc_parse_unit.proofs.Bundles.{Has, has, a_sign, a_sign_at, a_key, a_k
 
 use Rattle.jc_reading.proofs.Ledby.{unled, unled_back}
 use Rattle.jc_parse_parts.proofs.Rows.{rows, rows_tail, rows_tail_laws, Separate}
-use Rattle.jc_parse_unit.proofs.SimpleStatements.{simple_codes, stmt_codes, item_codes, else_codes, body_coded, item_coded, case_item_coded, LevelLaws, body_law, item_law, case_item_law, Layer, good_at, good_made, stmt_fits, stmt_made_law, told_items, all_shaped, items_fit, Parens, expr_never, parens_never, parens_has}
+use Rattle.jc_parse_unit.proofs.SimpleStatements.{simple_codes, stmt_codes, item_codes, else_codes, behind_codes, body_coded, item_coded, case_item_coded, LevelLaws, body_law, item_law, case_item_law, Layer, good_at, good_made, stmt_fits, stmt_made_law, told_items, all_shaped, items_fit, Parens, expr_never, parens_never, parens_has}
 
 use Rattle.jc_parse_unit.proofs.Switches.{is_catch, is_finally, catch_part, finally_part, clause_good, clause_good_made, told_clauses}
 
@@ -256,7 +256,7 @@ plain_room x lx (suc k) l f =
 
 module _ (x : Exprs) (lx : ExprLaws x) (h : ℕ) (l : Level) where
   abbrev pub plain_coded : Coded Stmt
-  plain_coded = record { tell = stmt_tokens; fits = stmt_fits (Either (Ident × (Unit {0} × Stmt)) (Expr × Unit {0})) h (roomy h (Plains x h l)) (labeled_or effect_made) is_plain; run = plain_run x h l; starts = (Plains x h l).starts; goes = else_codes; empties = false }
+  plain_coded = record { tell = stmt_tokens; fits = stmt_fits (Either (Ident × (Unit {0} × Stmt)) (Expr × Unit {0})) h (roomy h (Plains x h l)) (labeled_or effect_made) is_plain; run = plain_run x h l; starts = (Plains x h l).starts; goes = behind_codes; empties = false }
 
   pub plain_law : LevelLaws h l → Law Stmt plain_coded
   unfolding plain_run
@@ -450,7 +450,7 @@ word_room x lx (suc k) l f =
 
 module _ (x : Exprs) (lx : ExprLaws x) (h : ℕ) (l : Level) where
   abbrev pub word_coded : Coded Stmt
-  word_coded = record { tell = stmt_tokens; fits = stmt_fits (Either (Ident × (Unit {0} × Stmt)) LocalOrEffect) h (roomy h (WordForm x h l)) (labeled_or local_or_effect) is_word; run = word_run x h l; starts = (WordForm x h l).starts; goes = else_codes; empties = false }
+  word_coded = record { tell = stmt_tokens; fits = stmt_fits (Either (Ident × (Unit {0} × Stmt)) LocalOrEffect) h (roomy h (WordForm x h l)) (labeled_or local_or_effect) is_word; run = word_run x h l; starts = (WordForm x h l).starts; goes = behind_codes; empties = false }
 
   pub word_law : LevelLaws h l → Law Stmt word_coded
   unfolding word_run
