@@ -2,7 +2,7 @@
 use Rattle.std.proofs.Common.{◌≡◌, ℕ, zero, suc, max, Bool, true, false, cond, List, [], ◌∷◌, ◌++◌, map, length, Option, Some, None, refl, sym, ap, ◌∙◌, subst, ⊎_elim, ◌⊎◌, inl, inr, arith}
 use Rattle.std.proofs.Math.Bool.{and-true, and_comm}
 use Rattle.std.proofs.Math.Path.{fun_ext}
-use Rattle.std.proofs.lemmas.Bool.{false≢true, and_parts, and_from, or_left, or_right, or_cases, cases_Bool}
+use Rattle.std.proofs.lemmas.Bool.{false≢true, and_parts, and_from, or_left, or_right, or_cases, cases_Bool, cond-true, cond-false}
 use Rattle.std.proofs.lemmas.Grind.{common_steps}
 use Rattle.std.specs.Prelude.{not, ◌&&◌, ◌||◌, ◌==◌, nat_le}
 use Rattle.jc_lexer.specs.declared.token.Key.TheVariants as key_of
@@ -20,11 +20,11 @@ use Rattle.jc_grammar.specs.Statements.{stmt_tokens}
 use Rattle.jc_grammar.specs.Units.{StmtShape, ClauseShape, Role, role_in_body, role_behind_else, role_in_switch, role_in_block, in_body, in_block, in_switch, behind_else, stmt_shape, stmt_shape_step, is_member, clause_shape, is_declaration}
 use Rattle.jc_grammar.proofs.ShapesOfStatements.{stmt_shape-out, stmt_shape-Empty}
 use Rattle.jc_reading.specs.Kinds.{kind_code, sign_code, key_code, word_code, is_in, front_code, one_of}
-use Rattle.jc_reading.specs.Reading.{Read, Found, Stopped, Run, Either, This, That}
-use Rattle.jc_reading.proofs.Steps.{IsFound}
+use Rattle.jc_reading.specs.Reading.{Read, Found, Stopped, Run, becoming, Takes, Either, This, That}
+use Rattle.jc_reading.proofs.Steps.{IsFound, found_becoming}
 use Rattle.jc_reading.proofs.Forms.{Form, Lawful, Stands}
 use Rattle.jc_reading.proofs.Rooms.{room_above, room_suc}
-use Rattle.jc_reading.proofs.Signs.{none_common, all_in, apart_sets}
+use Rattle.jc_reading.proofs.Signs.{none_common, all_in, apart_sets, within_sets}
 use Rattle.jc_parse_parts.specs.Reading.{either_one}
 use Rattle.jc_parse_parts.specs.PartReading.{Exprs}
 use Rattle.jc_parse_parts.proofs.Coded.{Coded, formed, Apart, one_or, widened, widened_laws, Makes}
@@ -343,3 +343,72 @@ module _ (x : Exprs) (lx : ExprLaws x) (h : ℕ) (l : Level) (f : LevelLaws h l)
   unfolding case_item_run
   case_item_laws = refitted (CaseItems x lx h l) (λ s. nat_le (stmt_height s) (suc h) && in_switch (stmt_shape s)) (modifier_codes ++ stmt_codes) behind_codes (fits_case_items x lx h l)
       (lawful_by (CaseItems x lx h l) (stmt_of.Empty 0) (fits_case_items x lx h l (stmt_of.Empty 0) ∙ empty_switch h) (case_items_law x lx h l f)) refl refl
+
+-- which statements are found before an `else`
+
+found_settled : (c : Coded Stmt) → Law Stmt c → none_common else_codes c.goes ≡ true → (ts : List Token) (s : Stmt) (r : List Token) → Stands (formed c) ts s r → one_of else_codes r ≡ true → IsFound s r (c.run ts)
+found_settled c l n ts s r t z = ⊎_elim (λ (la : Lawful Stmt (formed c)). la.exact ts s r t (apart_sets else_codes c.goes n (front_code r) z)) (λ v. absurd (false≢true (sym (v.never s) ∙ t.1))) l
+
+begun_there : (c : Coded Stmt) → Law Stmt c → c.empties ≡ false → (ts : List Token) (s : Stmt) (r : List Token) → Stands (formed c) ts s r → one_of c.starts ts ≡ true
+begun_there c l e ts s r t = ⊎_elim (λ (la : Lawful Stmt (formed c)). ⊎_elim (λ o. o.0) (λ o. absurd (false≢true (sym e ∙ o.1))) (la.opens ts s r t)) (λ v. absurd (false≢true (sym (v.never s) ∙ t.1))) l
+
+found_merged : (codes : List ℕ) (ca cb : Coded Stmt) → Law Stmt ca → Law Stmt cb → Apart Stmt Stmt codes ca cb → ((s : Stmt) (r : List Told) → ca.tell s r ≡ cb.tell s r) → (ts : List Token) (s : Stmt) (r : List Token) → Stands (formed (merged codes ca cb)) ts s r
+    → (Stands (formed ca) ts s r → IsFound s r (ca.run ts)) → (Stands (formed cb) ts s r → IsFound s r (cb.run ts)) → IsFound s r ((merged codes ca cb).run ts)
+found_merged codes ca cb l m d same ts s r t f g =
+    ⊎_elim
+    (λ a. let u : Stands (formed ca) ts s r = (t.0, a) in
+    let q : one_of codes ts ≡ true = within_sets ca.starts codes d.this (front_code ts) (begun_there ca l d.solid ts s r u) in
+    found_becoming either_one (This s) r _ (subst (λ (v : Read (Either Stmt Stmt)). IsFound (This s) r v) (sym (cond-true (one_of codes ts) (becoming This (ca.run ts)) (becoming That (cb.run ts)) q)) (found_becoming This s r (ca.run ts) (f u))))
+    (λ b. let u : Stands (formed cb) ts s r = (subst (λ (l : List Told). Takes false l ts r) (same s []) t.0, b) in
+    let q : one_of codes ts ≡ false = apart_sets cb.starts codes d.that (front_code ts) (begun_there cb m d.solid' ts s r u) in
+    found_becoming either_one (That s) r _ (subst (λ (v : Read (Either Stmt Stmt)). IsFound (That s) r v) (sym (cond-false (one_of codes ts) (becoming This (ca.run ts)) (becoming That (cb.run ts)) q)) (found_becoming That s r (cb.run ts) (g u))))
+    (or_cases (ca.fits s) (cb.fits s) t.1)
+
+module _ (x : Exprs) (lx : ExprLaws x) (k : ℕ) (l : Level) (f : LevelLaws (suc k) l) (ts : List Token) (s : Stmt) (r : List Token) (e : (stmt_shape s).open_end ≡ false) (z : one_of else_codes r ≡ true) where
+  found_from9 : Stands (formed (From9 x lx (suc k) l)) ts s r → IsFound s r ((From9 x lx (suc k) l).run ts)
+  found_from9 t = found_merged (key_code key_of.Throw ∷ []) (throw_coded x lx (suc k) l) (try_coded x lx (suc k) l) (throw_law x lx (suc k) l) (try_law x lx (suc k) l f) (record { solid = refl; solid' = refl; this = refl; that = refl }) (λ s r. refl) ts s r t (λ u. found_settled (throw_coded x lx (suc k) l) (throw_law x lx (suc k) l) refl ts s r u z) (λ u. found_settled (try_coded x lx (suc k) l) (try_law x lx (suc k) l f) refl ts s r u z)
+
+  found_from8 : Stands (formed (From8 x lx (suc k) l)) ts s r → IsFound s r ((From8 x lx (suc k) l).run ts)
+  found_from8 t = found_merged (key_code key_of.Continue ∷ []) (continue_coded x (suc k) l) (From9 x lx (suc k) l) (continue_law x (suc k) l) (from9_law x lx (suc k) l f) (record { solid = refl; solid' = refl; this = refl; that = refl }) (λ s r. refl) ts s r t (λ u. found_settled (continue_coded x (suc k) l) (continue_law x (suc k) l) refl ts s r u z) found_from9
+
+  found_from7 : Stands (formed (From7 x lx (suc k) l)) ts s r → IsFound s r ((From7 x lx (suc k) l).run ts)
+  found_from7 t = found_merged (key_code key_of.Break ∷ []) (break_coded x (suc k) l) (From8 x lx (suc k) l) (break_law x (suc k) l) (from8_law x lx (suc k) l f) (record { solid = refl; solid' = refl; this = refl; that = refl }) (λ s r. refl) ts s r t (λ u. found_settled (break_coded x (suc k) l) (break_law x (suc k) l) refl ts s r u z) found_from8
+
+  found_from6 : Stands (formed (From6 x lx (suc k) l)) ts s r → IsFound s r ((From6 x lx (suc k) l).run ts)
+  found_from6 t = found_merged (key_code key_of.Return ∷ []) (return_coded x (suc k) l) (From7 x lx (suc k) l) (return_law x (suc k) lx l) (from7_law x lx (suc k) l f) (record { solid = refl; solid' = refl; this = refl; that = refl }) (λ s r. refl) ts s r t (λ u. found_settled (return_coded x (suc k) l) (return_law x (suc k) lx l) refl ts s r u z) found_from7
+
+  found_from5 : Stands (formed (From5 x lx (suc k) l)) ts s r → IsFound s r ((From5 x lx (suc k) l).run ts)
+  found_from5 t = found_merged (key_code key_of.Switch ∷ []) (switch_coded x lx (suc k) l) (From6 x lx (suc k) l) (switch_law x lx (suc k) l f) (from6_law x lx (suc k) l f) (record { solid = refl; solid' = refl; this = refl; that = refl }) (λ s r. refl) ts s r t (λ u. found_settled (switch_coded x lx (suc k) l) (switch_law x lx (suc k) l f) refl ts s r u z) found_from6
+
+  found_from4 : Stands (formed (From4 x lx (suc k) l)) ts s r → IsFound s r ((From4 x lx (suc k) l).run ts)
+  found_from4 t = found_merged (key_code key_of.For ∷ []) (for_coded x lx (suc k) l) (From5 x lx (suc k) l) (for_law x lx (suc k) l f) (from5_law x lx (suc k) l f) (record { solid = refl; solid' = refl; this = refl; that = refl }) (λ s r. refl) ts s r t (λ u. closed_for x lx k l f ts s r u e z) found_from5
+
+  found_from3 : Stands (formed (From3 x lx (suc k) l)) ts s r → IsFound s r ((From3 x lx (suc k) l).run ts)
+  found_from3 t = found_merged (key_code key_of.Do ∷ []) (do_coded x lx (suc k) l) (From4 x lx (suc k) l) (do_law x lx (suc k) l f) (from4_law x lx (suc k) l f) (record { solid = refl; solid' = refl; this = refl; that = refl }) (λ s r. refl) ts s r t (λ u. found_settled (do_coded x lx (suc k) l) (do_law x lx (suc k) l f) refl ts s r u z) found_from4
+
+  found_from2 : Stands (formed (From2 x lx (suc k) l)) ts s r → IsFound s r ((From2 x lx (suc k) l).run ts)
+  found_from2 t = found_merged (key_code key_of.While ∷ []) (while_coded x lx (suc k) l) (From3 x lx (suc k) l) (while_law x lx (suc k) l f) (from3_law x lx (suc k) l f) (record { solid = refl; solid' = refl; this = refl; that = refl }) (λ s r. refl) ts s r t (λ u. closed_while x lx k l f ts s r u e z) found_from3
+
+  found_from1 : Stands (formed (From1 x lx (suc k) l)) ts s r → IsFound s r ((From1 x lx (suc k) l).run ts)
+  found_from1 t = found_merged (sign_code sign_of.Semicolon ∷ []) (empty_coded x (suc k) l) (From2 x lx (suc k) l) (empty_law x (suc k) l) (from2_law x lx (suc k) l f) (record { solid = refl; solid' = refl; this = refl; that = refl }) (λ s r. refl) ts s r t (λ u. found_settled (empty_coded x (suc k) l) (empty_law x (suc k) l) refl ts s r u z) found_from2
+
+  found_from0 : Stands (formed (From0 x lx (suc k) l)) ts s r → IsFound s r ((From0 x lx (suc k) l).run ts)
+  found_from0 t = found_merged (sign_code sign_of.LeftBrace ∷ []) (block_coded x (suc k) l) (From1 x lx (suc k) l) (block_law x (suc k) l f) (from1_law x lx (suc k) l f) (record { solid = refl; solid' = refl; this = refl; that = refl }) (λ s r. refl) ts s r t (λ u. found_settled (block_coded x (suc k) l) (block_law x (suc k) l f) refl ts s r u z) found_from1
+
+  found_others : Stands (formed (Others x lx (suc k) l)) ts s r → IsFound s r ((Others x lx (suc k) l).run ts)
+  found_others t =
+      found_merged statement_codes (From0 x lx (suc k) l) (plain_coded x lx (suc k) l) (from0_law x lx (suc k) l f) (plain_law x lx (suc k) l f) (record { solid = refl; solid' = refl; this = refl; that = refl }) (λ s r. refl) ts s r t
+      found_from0 (λ u. closed_plain x lx k l f ts s r u e z)
+
+  found_bodies : Stands (formed (Bodies x lx (suc k) l)) ts s r → IsFound s r ((Bodies x lx (suc k) l).run ts)
+  found_bodies t =
+      found_merged if_codes (if_coded x lx (suc k) l) (Others x lx (suc k) l) (if_law x lx (suc k) l f) (others_law x lx (suc k) l f) (record { solid = refl; solid' = refl; this = refl; that = refl }) (λ s r. refl) ts s r t
+      (λ u. closed_if x lx k l f ts s r u e z) found_others
+
+  pub closed_other : Takes false (stmt_tokens s []) ts r → (nat_le (stmt_height s) (suc (suc k)) && behind_else (stmt_shape s)) ≡ true → IsFound s r (other_run x (suc k) l ts)
+  unfolding other_run
+  closed_other t g = found_others (t, fits_others x lx (suc k) l s ∙ g)
+
+  pub closed_body : Takes false (stmt_tokens s []) ts r → (nat_le (stmt_height s) (suc (suc k)) && in_body (stmt_shape s)) ≡ true → IsFound s r (body_run x (suc k) l ts)
+  unfolding body_run
+  closed_body t g = found_bodies (t, fits_bodies x lx (suc k) l s ∙ g)
