@@ -1,51 +1,43 @@
 -- The forms of annotations and modifiers, and that they are read as they are to be.
-use Rattle.std.proofs.Common.{◌≡◌, ℕ, zero, suc, ◌+◌, ◌<◌, ◌≤◌, max, Bool, true, false, cond, List, [], ◌∷◌, ◌++◌, map, length, length-append, Option, Some, None, refl, sym, ap, ◌∙◌, subst, ⊎_elim, ◌⊎◌, inl, inr, arith}
-use Rattle.std.proofs.Math.Bool.{and-true}
-use Rattle.std.proofs.lemmas.Bool.{false≢true, or_left, or_right, or_cases, or_from, or_parts, and_parts, and_left, and_right, false_from_ne_true}
-use Rattle.std.proofs.lemmas.Grind.{common_steps}
-use Rattle.std.specs.Prelude.{◌&&◌, ◌||◌, ◌==◌, nat_le}
+use Rattle.std.proofs.Common.{◌≡◌, ℕ, zero, suc, ◌<◌, ◌≤◌, Bool, true, false, List, [], ◌∷◌, ◌++◌, map, length, length-append, Option, Some, None, refl, sym, ap, ◌∙◌, subst, ⊎_elim, inl, inr, arith}
+use Rattle.std.proofs.lemmas.Bool.{false≢true, or_parts, and_left}
+use Rattle.std.specs.Prelude.{◌&&◌, ◌==◌, nat_le}
 use Rattle.std.specs.List.{list_all}
-use Rattle.jc_lexer.specs.declared.token.Key.{Key}
-use Rattle.jc_lexer.specs.declared.token.Key.TheVariants as key_of
 use Rattle.jc_lexer.specs.declared.token.Sign.TheVariants as sign_of
 use Rattle.jc_lexer.specs.declared.token.Token.{Token}
-use Rattle.jc_lexer.specs.declared.token.TokenKind.{TokenKind}
 use Rattle.jc_lexer.specs.declared.token.TokenKind.TheVariants as kind_of
 use Rattle.jc_tree.specs.declared.name.Ident.{Ident}
 use Rattle.jc_tree.specs.declared.expression.Expr.{Expr}
 use Rattle.jc_tree.specs.declared.expression.Expr.TheVariants as expr_of
-use Rattle.jc_tree.specs.declared.statement.Annotation.{Annotation}
 use Rattle.jc_tree.specs.declared.statement.AnnotationValue.{AnnotationValue, AnnotationValue-F, out-AnnotationValue, roll-AnnotationValue, roll-out-AnnotationValue, map-AnnotationValue}
 use Rattle.jc_tree.specs.declared.statement.AnnotationValue.TheVariants as value_of
 use Rattle.jc_tree.specs.declared.statement.Pair.{Pair}
-use Rattle.jc_tree.specs.Heights.{most, in_some, expr_height, value_height, value_step, pair_height, annotation_height}
+use Rattle.jc_tree.specs.Heights.{most, expr_height, value_height, value_step, pair_height}
 use Rattle.jc_tree.proofs.HeightsOfExpressions.{expr_height-Name}
 use Rattle.jc_tree.proofs.HeightsOfStatements.{value_height-out, value_height-Value, value_height-List}
-use Rattle.jc_grammar.specs.Told.{Told, sign, sign_at, ident, commas, names_after}
-use Rattle.jc_grammar.specs.Expressions.{expr_tokens, if_there}
-use Rattle.jc_grammar.specs.Parts.{if_some, named, value_tokens, pair_tokens, pairs_tokens, annotation_tokens}
-use Rattle.jc_grammar.specs.Shapes.{all_true, expr_shape}
-use Rattle.jc_grammar.specs.Units.{if_there_passes, is_conditional, is_value, are_pairs}
+use Rattle.jc_grammar.specs.Told.{Told}
+use Rattle.jc_grammar.specs.Parts.{value_tokens, pair_tokens}
+use Rattle.jc_grammar.specs.Shapes.{all_true}
+use Rattle.jc_grammar.specs.Units.{is_value}
 use Rattle.jc_grammar.proofs.ShapesOfExpressions.{expr_shape-Name}
 use Rattle.jc_grammar.proofs.ShapesOfStatements.{is_value-Value, is_value-List}
 use Rattle.jc_grammar.proofs.TokensOfExpressions.{expr_tokens-Name}
 use Rattle.jc_grammar.proofs.TokensOfStatements.{value_tokens-Value, value_tokens-List}
-use Rattle.jc_reading.specs.Kinds.{kind_code, sign_code, key_code, word_code, is_in, front_code, one_of}
-use Rattle.jc_reading.specs.Reading.{Read, Found, Stopped, Run, Either, This, That, Takes, rest_of}
-use Rattle.jc_reading.proofs.Steps.{Goes, IsFound, takes_front}
-use Rattle.jc_reading.proofs.Forms.{Form, Lawful, Stands}
+use Rattle.jc_reading.specs.Kinds.{kind_code, sign_code, is_in, front_code, one_of}
+use Rattle.jc_reading.specs.Reading.{Read, Either, This, That, Takes, rest_of}
+use Rattle.jc_reading.proofs.Steps.{Goes, takes_front}
+use Rattle.jc_reading.proofs.Forms.{Lawful, Stands}
 use Rattle.jc_reading.proofs.Lists.{fits_all}
-use Rattle.jc_reading.proofs.Signs.{sign_laws, sign_at_laws, ident_laws, none_common, all_in}
-use Rattle.jc_reading.proofs.Rooms.{room_none, room_above, room_suc, room_max, room_all}
-use Rattle.jc_parse_parts.specs.Reading.{with_room}
-use Rattle.jc_parse_parts.specs.PartReading.{Exprs, value_made, value_run, pair_made, pair_run, pairs_made, pairs_run, annotation_made, annotation_run}
+use Rattle.jc_reading.proofs.Signs.{sign_laws, sign_at_laws, ident_laws}
+use Rattle.jc_reading.proofs.Rooms.{room_none, room_above, room_suc, room_max}
+use Rattle.jc_parse_parts.specs.PartReading.{Exprs, value_made, value_run, pair_made}
 use Rattle.jc_parse_parts.proofs.Bools.{swap_four}
-use Rattle.jc_parse_parts.proofs.Coded.{Coded, formed, coded, coded_laws, in_order, in_order_laws, optional, listed, one_or, Apart, one_or_laws, made, Makes, made_laws, Same, same_makes}
+use Rattle.jc_parse_parts.proofs.Coded.{Coded, formed, in_order, in_order_laws, one_or, one_or_laws, made, Makes, made_laws, same_makes}
 use Rattle.jc_parse_parts.proofs.ExprForms.{ExprLaws, expr_codes, operator_codes, conditional_coded, expr_tall}
-use Rattle.jc_parse_parts.proofs.Lowest.{Law, Void, in_order_law, made_law, listed_law, optional_law, roomy, roomy_law, never_second}
-use Rattle.jc_parse_parts.proofs.PartForms.{sign_form, sign_at_form, ident_form, more_names_coded, more_names_coded_laws}
-use Rattle.jc_parse_parts.proofs.Prefers.{preferred, Prefer, preferred_laws}
-use Rattle.jc_parse_parts.proofs.Rows.{row, row_laws, Separate}
+use Rattle.jc_parse_parts.proofs.Lowest.{Law}
+use Rattle.jc_parse_parts.proofs.PartForms.{sign_form, sign_at_form, ident_form}
+use Rattle.jc_parse_parts.proofs.Prefers.{preferred, preferred_laws}
+use Rattle.jc_parse_parts.proofs.Rows.{row, row_laws}
 
 -- heights and shapes of a list together
 pub room_and : {A : Type 0} (height : A → ℕ) (shape : A → Bool) (h : ℕ) (list : List A) → (nat_le (most (map height list)) h && list_all shape list) ≡ fits_all (λ a. nat_le (height a) h && shape a) list
@@ -153,11 +145,12 @@ module _ (x : Exprs) where
 
   -- a word alone is a value
   stands_word : (h : ℕ) (t : Token) (i : Ident) (r : List Token) → t.kind ≡ kind_of.Word i.text → t.from ≡ i.at → Stands (formed (value_coded (suc h))) (t ∷ r) (value_of.Value (expr_of.Name i)) r
-  stands_word h t i r k e =
-      (subst (λ (l : List Told). Takes false l (t ∷ r) r) (sym (value_tokens-Value (expr_of.Name i) [] ∙ expr_tokens-Name i [])) ((k, e, λ q. absurd (false≢true q), λ q. absurd (false≢true q)), refl),
-      ap (λ n. nat_le n (suc h) && is_value (value_of.Value (expr_of.Name i))) (value_height-Value (expr_of.Name i) ∙ expr_height-Name i)
-      ∙ ap (λ b. b && is_value (value_of.Value (expr_of.Name i))) (room_suc 0 h ∙ room_above h)
-      ∙ is_value-Value (expr_of.Name i) ∙ ap (λ s. s.good && nat_le 1 s.level) (expr_shape-Name i))
+  stands_word h t i r k e = (
+    subst (λ (l : List Told). Takes false l (t ∷ r) r) (sym (value_tokens-Value (expr_of.Name i) [] ∙ expr_tokens-Name i [])) ((k, e, λ q. absurd (false≢true q), λ q. absurd (false≢true q)), refl),
+    ap (λ n. nat_le n (suc h) && is_value (value_of.Value (expr_of.Name i))) (value_height-Value (expr_of.Name i) ∙ expr_height-Name i)
+        ∙ ap (λ b. b && is_value (value_of.Value (expr_of.Name i))) (room_suc 0 h ∙ room_above h)
+        ∙ is_value-Value (expr_of.Name i) ∙ ap (λ s. s.good && nat_le 1 s.level) (expr_shape-Name i),
+  )
 
   -- what is left behind one token
   same_rest : (front r us : List Token) (t : Token) → (t ∷ us) ≡ front ++ r → length r ≡ length us → us ≡ r
@@ -194,5 +187,5 @@ module _ (x : Exprs) where
         (record { solid = refl; solid' = refl; goes_first = λ r e. later r e; goes_second = λ r e. later r e; longer = longer }))
         (pair_makes (suc h))
       where
-      later : (r : List Token) → one_of (sign_code sign_of.Assign ∷ operator_codes) r ≡ false → one_of operator_codes r ≡ false
-      later r e = (or_parts (sign_code sign_of.Assign == front_code r) (one_of operator_codes r) e).1
+        later : (r : List Token) → one_of (sign_code sign_of.Assign ∷ operator_codes) r ≡ false → one_of operator_codes r ≡ false
+        later r e = (or_parts (sign_code sign_of.Assign == front_code r) (one_of operator_codes r) e).1

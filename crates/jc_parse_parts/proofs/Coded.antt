@@ -1,19 +1,19 @@
 -- Forms whose tests are sets of kinds of tokens, so that whether two of them may stand next to each other is computed.
-use Rattle.std.proofs.Common.{◌≡◌, ℕ, zero, suc, ◌<◌, ◌≤◌, Bool, true, false, cond, List, [], ◌∷◌, ◌++◌, map, length, Option, Some, None, refl, sym, ap, ◌∙◌, subst, ⊎_elim, ◌⊎◌, inl, inr, arith}
-use Rattle.std.proofs.lemmas.Bool.{false≢true, or_parts, or_left, or_right, or_cases, and_from, and_parts, cases_Bool}
+use Rattle.std.proofs.Common.{◌≡◌, ℕ, ◌<◌, Bool, true, false, List, [], ◌∷◌, ◌++◌, map, length, Option, refl, sym, ap, ◌∙◌, ⊎_elim, arith}
+use Rattle.std.proofs.lemmas.Bool.{false≢true, or_left, or_right, or_cases, and_from, and_parts}
 use Rattle.std.specs.Prelude.{◌&&◌, ◌||◌, ◌==◌}
 use Rattle.jc_lexer.specs.declared.token.Token.{Token}
 use Rattle.jc_lexer.specs.declared.token.Sign.TheVariants as sign_of
 use Rattle.jc_grammar.specs.Told.{Told, commas}
 use Rattle.jc_reading.specs.Kinds.{is_in, front_code, one_of, sign_code}
-use Rattle.jc_reading.specs.Reading.{Read, Found, Stopped, Run, as_new, in_turn, perhaps, any_number, Either, This, That, either, commas_run}
-use Rattle.jc_reading.proofs.Forms.{Form, Lawful, Stands}
+use Rattle.jc_reading.specs.Reading.{Run, as_new, in_turn, perhaps, any_number, Either, either, commas_run}
+use Rattle.jc_reading.proofs.Forms.{Form, Lawful}
 use Rattle.jc_reading.proofs.Pairs.{pair, pair_laws}
 use Rattle.jc_reading.proofs.Options.{option, option_laws, tell_some, fits_some}
 use Rattle.jc_reading.proofs.Lists.{many, many_laws, tell_all, fits_all}
 use Rattle.jc_reading.proofs.Choices.{choice, choice_laws, tell_either, fits_either}
-use Rattle.jc_reading.proofs.Alikes.{alike, alike_laws}
-use Rattle.jc_reading.proofs.Retests.{retested, retested_laws}
+use Rattle.jc_reading.proofs.Alikes.{alike_laws}
+use Rattle.jc_reading.proofs.Retests.{retested_laws}
 use Rattle.jc_reading.proofs.Ledby.{commas_form, comma_starts, commas_laws, fits_some_of}
 use Rattle.jc_reading.proofs.Signs.{none_common, apart_sets, all_in, within_sets}
 
@@ -41,11 +41,12 @@ coded_laws A fa starts goes la s g =
       goes_too = g;
     })
   where
-  no_less : (ts r : List Token) → length r < length ts → ts ≡ r → ⊥
-  no_less ts r lt e = omega (arith, lt, ap length e)
-  not_then : (b c : Bool) → (b ≡ true → c ≡ true) → c ≡ false → b ≡ false
-  not_then true c f e = absurd (false≢true (sym e ∙ f refl))
-  not_then false c f e = refl
+    no_less : (ts r : List Token) → length r < length ts → ts ≡ r → ⊥
+    no_less ts r lt e = omega (arith, lt, ap length e)
+
+    not_then : (b c : Bool) → (b ≡ true → c ≡ true) → c ≡ false → b ≡ false
+    not_then true c f e = absurd (false≢true (sym e ∙ f refl))
+    not_then false c f e = refl
 
 pub in_first : (xs ys : List ℕ) (n : ℕ) → is_in xs n ≡ true → is_in (xs ++ ys) n ≡ true
 in_first [] ys n e = absurd (false≢true e)
@@ -67,9 +68,9 @@ in_next : (b : Bool) (xs ys : List ℕ) (n : ℕ) → (is_in xs n || (b && is_in
 in_next true xs ys n e = in_both xs ys n e
 in_next false xs ys n e = alone (is_in xs n) e
   where
-  alone : (b : Bool) → (b || false) ≡ true → b ≡ true
-  alone true e = refl
-  alone false e = e
+    alone : (b : Bool) → (b || false) ≡ true → b ≡ true
+    alone true e = refl
+    alone false e = e
 
 -- one and then another
 abbrev pub in_order : {A B : Type 0} → Coded A → Coded B → Coded (A × B)

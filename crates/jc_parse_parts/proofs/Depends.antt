@@ -1,12 +1,12 @@
 -- One form and then another, by the value of the first one.
-use Rattle.std.proofs.Common.{◌≡◌, ℕ, zero, suc, ◌+◌, ◌<◌, ◌≤◌, min, Bool, true, false, cond, List, [], ◌∷◌, ◌++◌, length, length-append, append_assoc, refl, sym, ap, ◌∙◌, subst, ⊎_elim, ◌⊎◌, inl, inr, arith}
-use Rattle.std.proofs.lemmas.Bool.{false≢true, cases_Bool, and_parts, and_from, and_cases, and_left, and_right, or_parts, or_left, or_right}
+use Rattle.std.proofs.Common.{◌≡◌, ℕ, ◌<◌, min, Bool, true, false, List, [], ◌∷◌, ◌++◌, length, append_assoc, refl, sym, ap, ◌∙◌, subst, ⊎_elim, inl, arith}
+use Rattle.std.proofs.lemmas.Bool.{false≢true, and_parts, and_from, or_parts, or_left, or_right}
 use Rattle.std.specs.Prelude.{◌&&◌, ◌||◌}
 use Rattle.jc_lexer.specs.declared.token.Token.{Token}
 use Rattle.jc_grammar.specs.Told.{Told}
-use Rattle.jc_reading.specs.Reading.{Read, Found, Stopped, Run, found, noting, ◌>>=◌, becoming, joined, Takes}
-use Rattle.jc_reading.proofs.Steps.{Good, Within, Goes, IsFound, Refuses, reach, Moved, Moves, Plain, good_becoming, good_bind, within_becoming, within_bind, goes_becoming, goes_bind, goes_after, goes_more, found_becoming, found_bind, reach_noting, reach_becoming, moves_becoming, moves_bind, takes_cut, takes_join, takes_front}
-use Rattle.jc_reading.proofs.Forms.{Form, Stands, Begins, Least, Opens, Lawful, begins_pick, begins_fill, begins_behind}
+use Rattle.jc_reading.specs.Reading.{Read, Found, Stopped, noting, ◌>>=◌, becoming, joined, Takes}
+use Rattle.jc_reading.proofs.Steps.{Good, Within, Goes, IsFound, Refuses, reach, Moves, Plain, good_becoming, good_bind, within_becoming, within_bind, goes_becoming, goes_after, found_becoming, found_bind, reach_noting, reach_becoming, moves_becoming, moves_bind, takes_cut, takes_join, takes_front}
+use Rattle.jc_reading.proofs.Forms.{Form, Stands, Begins, Least, Opens, Lawful, begins_pick, begins_behind}
 use Rattle.jc_parse_parts.specs.Reading.{by_value}
 
 module _ (A B : Type 0) (fa : Form A) (fb : A → Form B) (starts goes_on : List Token → Bool) where
@@ -116,9 +116,14 @@ module _ (A B : Type 0) (fa : Form A) (fb : A → Form B) (starts goes_on : List
   begins_first ts l b =
       let k = (lb b.value).least in
       record {
-        front = b.front; back = b.back; whole = b.whole; left = b.left; value = (b.value, k.value); more = b.more ++ k.tokens;
+        front = b.front;
+        back = b.back;
+        whole = b.whole;
+        left = b.left;
+        value = (b.value, k.value);
+        more = b.more ++ k.tokens;
         spelled = λ z. subst (λ (v : List Token). Stands Both (b.front ++ v) (b.value, k.value) z) (sym (append_assoc b.more k.tokens z))
-        (join (b.front ++ (b.more ++ (k.tokens ++ z))) (k.tokens ++ z) z b.value k.value (b.spelled (k.tokens ++ z)) (k.spelled z));
+            (join (b.front ++ (b.more ++ (k.tokens ++ z))) (k.tokens ++ z) z b.value k.value (b.spelled (k.tokens ++ z)) (k.spelled z));
       }
 
   begins_on : (ts : List Token) (m : Read A) → Begins A fa ts (reach m) → Good (Stands fa ts) m → Begins (A × B) Both ts (reach (m >>= (λ a q. becoming (joined a) ((fb a).run q))))
@@ -136,13 +141,21 @@ module _ (A B : Type 0) (fa : Form A) (fb : A → Form B) (starts goes_on : List
     value = (la.least.value, (lb la.least.value).least.value);
     tokens = la.least.tokens ++ (lb la.least.value).least.tokens;
     spelled = λ z. subst (λ (l : List Token). Stands Both l (la.least.value, (lb la.least.value).least.value) z) (sym (append_assoc la.least.tokens (lb la.least.value).least.tokens z))
-    (join (la.least.tokens ++ ((lb la.least.value).least.tokens ++ z)) ((lb la.least.value).least.tokens ++ z) z la.least.value (lb la.least.value).least.value (la.least.spelled ((lb la.least.value).least.tokens ++ z)) ((lb la.least.value).least.spelled z));
+        (join (la.least.tokens ++ ((lb la.least.value).least.tokens ++ z)) ((lb la.least.value).least.tokens ++ z) z la.least.value (lb la.least.value).least.value (la.least.spelled ((lb la.least.value).least.tokens ++ z)) ((lb la.least.value).least.spelled z));
   }
 
   pub depending_laws : Lawful (A × B) Both
   depending_laws = record {
-    appends = appends_pair; plain = plain_pair; within = within_both; sound = sound_both; longest = longest_both; exact = exact_both; opens = opens_both;
+    appends = appends_pair;
+    plain = plain_pair;
+    within = within_both;
+    sound = sound_both;
+    longest = longest_both;
+    exact = exact_both;
+    opens = opens_both;
     refuses = λ ts h. let o = or_parts (fa.starts ts) (fa.empties && starts ts) h in refuses_on ts (fa.run ts) (la.refuses ts o.0) (λ e. alone fa.empties (starts ts) e o.1);
     total = λ e ts. absurd (false≢true e);
-    local = local_both; begins = λ ts. begins_on ts (fa.run ts) (la.begins ts) (la.sound ts); least = least_both;
+    local = local_both;
+    begins = λ ts. begins_on ts (fa.run ts) (la.begins ts) (la.sound ts);
+    least = least_both;
   }

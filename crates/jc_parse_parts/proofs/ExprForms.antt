@@ -1,7 +1,7 @@
 -- What the parser of units needs of the forms of expressions.
-use Rattle.std.proofs.Common.{◌≡◌, ℕ, zero, suc, Bool, true, false, List, [], ◌∷◌, refl, sym, ap, ◌∙◌, subst, ⊎_elim, ◌⊎◌, inl, inr, arith}
-use Rattle.std.proofs.lemmas.Bool.{false≢true, and_left}
-use Rattle.std.specs.Prelude.{◌&&◌, ◌==◌, nat_le}
+use Rattle.std.proofs.Common.{◌≡◌, ℕ, suc, true, false, List, [], ◌∷◌, refl, ap, ◌∙◌}
+use Rattle.std.proofs.lemmas.Bool.{and_left}
+use Rattle.std.specs.Prelude.{◌&&◌, nat_le}
 use Rattle.jc_lexer.specs.declared.token.Key.TheVariants as key_of
 use Rattle.jc_lexer.specs.declared.token.Sign.TheVariants as sign_of
 use Rattle.jc_lexer.specs.declared.token.Token.{Token}
@@ -17,12 +17,11 @@ use Rattle.jc_grammar.specs.Expressions.{expr_tokens, init_tokens}
 use Rattle.jc_grammar.specs.Shapes.{is_expr, is_init}
 use Rattle.jc_grammar.specs.Units.{is_conditional, is_statement_expr}
 use Rattle.jc_reading.specs.Kinds.{sign_code, key_code, word_code, one_of}
-use Rattle.jc_reading.proofs.Forms.{Form, Lawful, Stands}
+use Rattle.jc_reading.proofs.Forms.{Lawful, Stands}
 use Rattle.jc_reading.proofs.Rooms.{room_none}
-use Rattle.jc_parse_parts.specs.Reading.{with_room}
 use Rattle.jc_parse_parts.specs.PartReading.{Exprs}
 use Rattle.jc_parse_parts.proofs.Coded.{Coded, formed}
-use Rattle.jc_parse_parts.proofs.Lowest.{Law, Void, roomy, roomy_law}
+use Rattle.jc_parse_parts.proofs.Lowest.{Law, roomy, roomy_law}
 use Rattle.jc_parse_parts.proofs.PartForms.{type_coded}
 
 -- where an expression may begin: a word, a literal, a parenthesis, a prefix operator, or one of some keywords

@@ -1,9 +1,9 @@
 -- The forms of formals, variables and results, and that they are read as they are to be.
-use Rattle.std.proofs.Common.{◌≡◌, ℕ, zero, suc, ◌+◌, ◌<◌, ◌≤◌, max, Bool, true, false, cond, List, [], ◌∷◌, ◌++◌, map, length, length-append, Option, Some, None, refl, sym, ap, ◌∙◌, subst, ⊎_elim, ◌⊎◌, inl, inr, arith}
+use Rattle.std.proofs.Common.{◌≡◌, ℕ, zero, suc, ◌<◌, ◌≤◌, Bool, true, false, cond, List, [], ◌∷◌, map, length, length-append, Option, Some, None, refl, sym, ap, ◌∙◌, ⊎_elim, inl, inr, arith}
 use Rattle.std.proofs.Math.Bool.{and-true}
-use Rattle.std.proofs.lemmas.Bool.{false≢true, or_left, or_right, or_cases, or_from, or_parts, and_parts, and_from, and_left, and_right}
+use Rattle.std.proofs.lemmas.Bool.{false≢true, and_parts, and_from, and_left, and_right}
 use Rattle.std.proofs.lemmas.Grind.{common_steps}
-use Rattle.std.specs.Prelude.{◌&&◌, ◌||◌, ◌==◌, not, nat_le}
+use Rattle.std.specs.Prelude.{◌&&◌, ◌||◌, not, nat_le}
 use Rattle.jc_lexer.specs.declared.token.Key.TheVariants as key_of
 use Rattle.jc_lexer.specs.declared.token.Sign.TheVariants as sign_of
 use Rattle.jc_lexer.specs.declared.token.Token.{Token}
@@ -15,29 +15,25 @@ use Rattle.jc_tree.specs.declared.statement.Modifier.{Modifier}
 use Rattle.jc_tree.specs.declared.statement.ResultType.{ResultType}
 use Rattle.jc_tree.specs.declared.statement.ResultType.TheVariants as result_of
 use Rattle.jc_tree.specs.declared.statement.Var.{Var}
-use Rattle.jc_tree.specs.Heights.{most, in_some, type_height, init_height, modifier_height, formal_height, var_height, result_height}
-use Rattle.jc_grammar.specs.Told.{Told, sign, sign_at, key_at, ident, commas, after_commas, brackets}
-use Rattle.jc_grammar.specs.Types.{type_tokens}
-use Rattle.jc_grammar.specs.Expressions.{if_there}
-use Rattle.jc_grammar.specs.Parts.{if_some, initialised, modifiers_tokens, formal_tokens, var_tokens, result_tokens}
+use Rattle.jc_tree.specs.Heights.{most, type_height, init_height, modifier_height, formal_height, var_height, result_height}
+use Rattle.jc_grammar.specs.Told.{Told, sign, commas, after_commas}
+use Rattle.jc_grammar.specs.Parts.{formal_tokens, var_tokens, result_tokens}
 use Rattle.jc_grammar.specs.Shapes.{is_init}
-use Rattle.jc_grammar.specs.Units.{if_there_passes, are_modifiers, are_formals, is_var}
+use Rattle.jc_grammar.specs.Units.{are_modifiers, are_formals, is_var}
 use Rattle.jc_reading.specs.Kinds.{kind_code, sign_code, key_code, word_code, is_in, front_code, one_of}
-use Rattle.jc_reading.specs.Reading.{Read, Found, Stopped, Run, found, becoming, joined, in_turn, of_kind, perhaps, perhaps_from, as_new, ◌>>=◌, Either, This, That, Takes}
-use Rattle.jc_reading.proofs.Steps.{Good, IsFound, takes_length}
-use Rattle.jc_reading.proofs.Forms.{Form, Lawful, Stands}
-use Rattle.jc_reading.proofs.Lists.{fits_all}
-use Rattle.jc_reading.proofs.Signs.{sign_laws, key_at_laws, ident_laws, none_common, apart_sets, all_in}
-use Rattle.jc_reading.proofs.Rooms.{room_above, room_max, room_all}
-use Rattle.jc_parse_type.specs.TypeReading.{type_run}
+use Rattle.jc_reading.specs.Reading.{Read, Run, found, becoming, joined, of_kind, perhaps_from, ◌>>=◌, Either, This, That, Takes}
+use Rattle.jc_reading.proofs.Steps.{Good, takes_length}
+use Rattle.jc_reading.proofs.Forms.{Lawful}
+use Rattle.jc_reading.proofs.Signs.{sign_laws, key_at_laws, ident_laws, apart_sets}
+use Rattle.jc_reading.proofs.Rooms.{room_above, room_max}
 use Rattle.jc_parse_type.proofs.TypeForms.{dims_laws}
-use Rattle.jc_parse_parts.specs.Reading.{with_room, unless, followed}
-use Rattle.jc_parse_parts.specs.PartReading.{Exprs, formal_made, formal_run, is_variable, or_no_formals, formals_tail_run, formals_made, formals_run, var_made, var_run, vars_run, result_made, result_run}
-use Rattle.jc_parse_parts.proofs.Coded.{Coded, formed, coded, coded_laws, in_order, in_order_laws, optional, optional_laws, listed, one_or, Apart, made, Makes, made_laws, Same, same_makes, widened, widened_laws}
+use Rattle.jc_parse_parts.specs.Reading.{unless, followed}
+use Rattle.jc_parse_parts.specs.PartReading.{Exprs, formal_made, formal_run, is_variable, or_no_formals, formals_tail_run, formals_made, formals_run, var_made, var_run, result_made, result_run}
+use Rattle.jc_parse_parts.proofs.Coded.{Coded, formed, in_order, in_order_laws, optional, optional_laws, one_or, made, made_laws, same_makes, widened_laws}
 use Rattle.jc_parse_parts.proofs.ExprForms.{ExprLaws, init_coded, init_tall}
 use Rattle.jc_parse_parts.proofs.Followed.{following, Follow, following_laws}
-use Rattle.jc_parse_parts.proofs.Lowest.{Law, Void, optional_law, roomy, roomy_law, one_or_law, made_law, idle_laws, never_first, never_second}
-use Rattle.jc_parse_parts.proofs.ModifierForms.{modifiers_coded, modifiers_coded_laws, modifiers_fit}
+use Rattle.jc_parse_parts.proofs.Lowest.{Law, optional_law, roomy, roomy_law, one_or_law, made_law, idle_laws, never_second}
+use Rattle.jc_parse_parts.proofs.ModifierForms.{modifiers_coded, modifiers_coded_laws}
 use Rattle.jc_parse_parts.proofs.PartForms.{sign_form, key_at_form, ident_form, dims_coded, type_coded, type_coded_laws, type_law, type_never, behind_each, behind_each_laws}
 use Rattle.jc_parse_parts.proofs.Unbounded.{Grows, unbounded, sized, unbounded_laws, takes_some, bind_same, good_more}
 
@@ -148,7 +144,12 @@ module _ (x : Exprs) (h : ℕ) where
 
   follow : Lawful Formal (formed Each) → (n : ℕ) → Follow Formal (List Formal) is_variable [] is_nil Each (Tail n)
   follow la n = record {
-    solid = refl; free = refl; bare = λ r. refl; none_fits = nil_fits n; none_is = refl; only = only_nil;
+    solid = refl;
+    free = refl;
+    bare = λ r. refl;
+    none_fits = nil_fits n;
+    none_is = refl;
+    only = only_nil;
     some = λ ts list r s e. some_tail ts list r s.0 e;
     whole = λ ts f r s e c. la.exact ts f r s (apart_sets tail_starts Each.goes refl (front_code r) c);
   }
@@ -288,7 +289,12 @@ module _ (x : Exprs) (h : ℕ) where
 
   follow_all : Lawful Formal (formed (Each x h)) → Follow Formal (List Formal) is_variable [] is_nil (Each x h) (Every x h)
   follow_all la = record {
-    solid = refl; free = refl; bare = λ r. refl; none_fits = refl; none_is = refl; only = only_nil x h;
+    solid = refl;
+    free = refl;
+    bare = λ r. refl;
+    none_fits = refl;
+    none_is = refl;
+    only = only_nil x h;
     some = λ ts list r s e. some_tail x h ts list r s.0 e;
     whole = λ ts f r s e c. la.exact ts f r s (apart_sets (tail_starts x h) (Each x h).goes refl (front_code r) c);
   }

@@ -1,9 +1,8 @@
 -- The forms of the heads of declarations behind their modifiers, and that they are read as they are to be.
-use Rattle.std.proofs.Common.{◌≡◌, ℕ, zero, suc, max, Bool, true, false, cond, List, [], ◌∷◌, ◌++◌, map, length, Option, Some, None, refl, sym, ap, ◌∙◌, subst, ⊎_elim, ◌⊎◌, inl, inr, arith}
-use Rattle.std.proofs.Math.Bool.{and-true}
-use Rattle.std.proofs.lemmas.Bool.{false≢true, or_left, or_right, or_cases, or_from, or_parts, and_parts, and_from, and_left, and_right}
+use Rattle.std.proofs.Common.{◌≡◌, ℕ, max, Bool, true, false, List, [], ◌∷◌, map, Option, Some, None, refl, ap, ◌∙◌, ⊎_elim, arith}
+use Rattle.std.proofs.lemmas.Bool.{false≢true, or_cases, and_parts}
 use Rattle.std.proofs.lemmas.Grind.{common_steps}
-use Rattle.std.specs.Prelude.{◌&&◌, ◌||◌, ◌==◌, nat_le}
+use Rattle.std.specs.Prelude.{◌&&◌, ◌||◌, nat_le}
 use Rattle.jc_lexer.specs.declared.token.Key.{Key}
 use Rattle.jc_lexer.specs.declared.token.Key.TheVariants as key_of
 use Rattle.jc_lexer.specs.declared.token.Sign.TheVariants as sign_of
@@ -15,23 +14,23 @@ use Rattle.jc_tree.specs.declared.statement.DeclarationHead.TheVariants as head_
 use Rattle.jc_tree.specs.declared.statement.Modifier.{Modifier}
 use Rattle.jc_tree.specs.declared.statement.TypeParam.{TypeParam}
 use Rattle.jc_tree.specs.Heights.{most, in_some, class_height, modifier_height, param_height, head_height}
-use Rattle.jc_grammar.specs.Told.{Told, sign, sign_at, key, key_at, ident}
+use Rattle.jc_grammar.specs.Told.{Told, key_at, ident}
 use Rattle.jc_grammar.specs.Types.{class_tokens}
 use Rattle.jc_grammar.specs.Parts.{if_some, extended, keyed_list, modifiers_tokens, params_tokens, head_tokens}
 use Rattle.jc_grammar.specs.Units.{are_modifiers, is_head}
-use Rattle.jc_reading.specs.Kinds.{kind_code, sign_code, key_code, word_code, is_in, front_code, one_of}
-use Rattle.jc_reading.specs.Reading.{Read, Found, Stopped, Run, Either, This, That, rest_of}
+use Rattle.jc_reading.specs.Kinds.{sign_code, key_code, front_code, one_of}
+use Rattle.jc_reading.specs.Reading.{Either, This, That, rest_of}
 use Rattle.jc_reading.proofs.Forms.{Form, Lawful, Stands}
 use Rattle.jc_reading.proofs.Choices.{choice, choice_laws}
 use Rattle.jc_reading.proofs.Retests.{retested_laws}
-use Rattle.jc_reading.proofs.Signs.{key_laws, key_at_laws, ident_laws, none_common, apart_sets, all_in, within_sets}
-use Rattle.jc_reading.proofs.Rooms.{room_above, room_max, room_all}
+use Rattle.jc_reading.proofs.Signs.{key_laws, key_at_laws, ident_laws, apart_sets, within_sets}
+use Rattle.jc_reading.proofs.Rooms.{room_above, room_max}
 use Rattle.jc_parse_type.specs.TypeReading.{class_run}
 use Rattle.jc_parse_parts.specs.PartReading.{Exprs, ClassHead, InterfaceHead, AnnotationHead, HeadRest, or_no_class, head_made, class_head_run, interface_head_run, annotation_head_run, head_rest_run, keyed_run}
-use Rattle.jc_parse_parts.proofs.Coded.{Coded, formed, coded, coded_laws, in_order, in_order_laws, optional, optional_laws}
-use Rattle.jc_parse_parts.proofs.LedAt.{led_at, led_at_starts, led_at_laws}
+use Rattle.jc_parse_parts.proofs.Coded.{Coded, formed, in_order, in_order_laws, optional, optional_laws}
+use Rattle.jc_parse_parts.proofs.LedAt.{led_at, led_at_laws}
 use Rattle.jc_parse_parts.proofs.ModifierForms.{modifiers_fit}
-use Rattle.jc_parse_parts.proofs.PartForms.{key_form, key_at_form, ident_form, class_coded, class_coded_laws, classes_fit, keyed, keyed_laws, params_coded, params_laws, params_fit}
+use Rattle.jc_parse_parts.proofs.PartForms.{key_form, key_at_form, ident_form, class_coded, class_coded_laws, keyed, keyed_laws, params_coded, params_laws}
 
 module _ (h : ℕ) where
   abbrev keyed_at : Key → Coded (List ClassTree)

@@ -1,15 +1,15 @@
 -- A form behind a sign whose place the tree has.
-use Rattle.std.proofs.Common.{◌≡◌, ℕ, zero, suc, ◌<◌, ◌≤◌, Bool, true, false, cond, List, [], ◌∷◌, ◌++◌, map, length, Option, Some, None, refl, sym, ap, ◌∙◌, subst, ⊎_elim, ◌⊎◌, inl, inr, arith}
-use Rattle.std.proofs.lemmas.Bool.{false≢true, or_parts, or_left, or_right, or_cases, and_from, and_parts, and_cases, cases_Bool}
+use Rattle.std.proofs.Common.{◌≡◌, ℕ, Bool, true, false, List, [], ◌∷◌, length, Option, Some, None, refl, sym, ◌∙◌, subst, ⊎_elim}
+use Rattle.std.proofs.lemmas.Bool.{false≢true, and_from, and_cases}
 use Rattle.std.specs.Prelude.{◌&&◌, ◌||◌}
 use Rattle.jc_lexer.specs.declared.token.Sign.{Sign}
 use Rattle.jc_lexer.specs.declared.token.Token.{Token}
-use Rattle.jc_reading.specs.Kinds.{kind_code, sign_code, is_in, front_code, one_of}
-use Rattle.jc_reading.specs.Reading.{Read, Found, Stopped, Run, noting, ◌>>=◌, becoming, joined, on_pick, picks_at, rest_of}
+use Rattle.jc_reading.specs.Kinds.{sign_code, one_of}
+use Rattle.jc_reading.specs.Reading.{Read, Found, Stopped, noting, ◌>>=◌, becoming, joined, on_pick, picks_at, rest_of}
 use Rattle.jc_reading.proofs.Steps.{Refuses}
 use Rattle.jc_reading.proofs.Forms.{Form, Lawful, Stands}
-use Rattle.jc_reading.proofs.Pairs.{pair, Meet, pair_laws, cut}
-use Rattle.jc_reading.proofs.Retests.{retested, Retests, retested_laws}
+use Rattle.jc_reading.proofs.Pairs.{pair, pair_laws, cut}
+use Rattle.jc_reading.proofs.Retests.{retested, retested_laws}
 use Rattle.jc_reading.proofs.Signs.{a_sign_at, sign_at_laws}
 
 module _ (A : Type 0) (s : Sign) (fa : Form A) where
@@ -51,15 +51,15 @@ module _ (A : Type 0) (s : Sign) (fa : Form A) (la : Lawful A fa) (solid : fa.em
       (λ f. refuses_pick (picks_at (sign_code s) k) k ts f)
       (and_cases (one_of (sign_code s ∷ []) (k ∷ ts)) (fa.starts ts) e)
     where
-    neither : (b : Bool) → b ≡ false → (b || false) ≡ false
-    neither true e = e
-    neither false e = e
+      neither : (b : Bool) → b ≡ false → (b || false) ≡ false
+      neither true e = e
+      neither false e = e
 
   pub led_at_laws : Lawful (ℕ × A) (led_at A s fa)
   led_at_laws = retested_laws (ℕ × A) (Behind A s fa) (led_at_starts A s fa) fa.goes_on behind_laws
       (record { opens = λ ts p r t lt. led_opens ts p r t; refuses = led_refuses; goes_too = λ ts e. alone (fa.goes_on ts) fa.empties solid e })
     where
-    alone : (b e : Bool) → e ≡ false → (b || (e && false)) ≡ true → b ≡ true
-    alone true e q h = refl
-    alone false true q h = h
-    alone false false q h = h
+      alone : (b e : Bool) → e ≡ false → (b || (e && false)) ≡ true → b ≡ true
+      alone true e q h = refl
+      alone false true q h = h
+      alone false false q h = h

@@ -1,22 +1,22 @@
 -- Forms that have no value where there is no room for one: they stop at the first token.
-use Rattle.std.proofs.Common.{◌≡◌, ℕ, zero, suc, ◌+◌, ◌<◌, ◌≤◌, Bool, true, false, cond, List, [], ◌∷◌, ◌++◌, map, length, length-append, Option, Some, None, refl, sym, ap, ◌∙◌, subst, ⊎_elim, ◌⊎◌, inl, inr, arith}
+use Rattle.std.proofs.Common.{◌≡◌, ℕ, zero, suc, Bool, true, false, cond, List, [], ◌∷◌, ◌++◌, length, Option, Some, None, refl, sym, ap, ◌∙◌, subst, ⊎_elim, ◌⊎◌, inl, inr, arith}
 use Rattle.std.proofs.Math.Path.{fun_ext}
 use Rattle.std.proofs.lemmas.Bool.{false≢true, false_from_ne_true, and_left, and_right, or_left, or_right, or_cases, cond_both, cases_Bool}
-use Rattle.std.specs.Prelude.{◌&&◌, ◌||◌, ◌==◌, not}
+use Rattle.std.specs.Prelude.{◌||◌}
 use Rattle.jc_lexer.specs.declared.token.Token.{Token}
 use Rattle.jc_lexer.specs.declared.token.Sign.TheVariants as sign_of
-use Rattle.jc_grammar.specs.Told.{Told, commas}
-use Rattle.jc_reading.specs.Kinds.{is_in, front_code, one_of, sign_code}
-use Rattle.jc_reading.specs.Reading.{Read, Found, Stopped, Run, found, becoming, as_new, in_turn, ◌>>=◌, perhaps, perhaps_from, one_more, times, any_number, Either, This, That, either, commas_run, joined, first_and_more, each_behind, Takes}
-use Rattle.jc_reading.proofs.Steps.{Good, Within, Goes, IsFound, Refuses, reach, Moved, Moves, Plain, moves_none, moves_stop, moves_found, within_becoming}
-use Rattle.jc_reading.proofs.Forms.{Form, Lawful, Stands, Begins, Opens, begins_start, begins_full}
-use Rattle.jc_reading.proofs.Options.{tell_some, fits_some}
-use Rattle.jc_reading.proofs.Lists.{tell_all, fits_all}
+use Rattle.jc_grammar.specs.Told.{Told}
+use Rattle.jc_reading.specs.Kinds.{front_code, one_of, sign_code}
+use Rattle.jc_reading.specs.Reading.{Read, Found, Stopped, Run, found, becoming, as_new, ◌>>=◌, perhaps, perhaps_from, one_more, times, any_number, Either, This, That, either, joined, first_and_more, each_behind, Takes}
+use Rattle.jc_reading.proofs.Steps.{Good, Within, Goes, IsFound, Refuses, reach, Moves, Plain, moves_none, moves_stop, moves_found}
+use Rattle.jc_reading.proofs.Forms.{Lawful, Stands, Begins, begins_start, begins_full}
+use Rattle.jc_reading.proofs.Options.{fits_some}
+use Rattle.jc_reading.proofs.Lists.{fits_all}
 use Rattle.jc_reading.proofs.Choices.{tell_either, fits_either}
 use Rattle.jc_reading.proofs.Ledby.{fits_some_of}
-use Rattle.jc_reading.proofs.Signs.{none_common, apart_sets, all_in, within_sets}
+use Rattle.jc_reading.proofs.Signs.{none_common, apart_sets, within_sets}
 use Rattle.jc_parse_parts.specs.Reading.{with_room, either_one}
-use Rattle.jc_parse_parts.proofs.Coded.{Coded, formed, coded, coded_laws, in_first, in_second, in_order, in_order_laws, optional, optional_laws, repeated, repeated_laws, listed, listed_laws, one_or, Apart, one_or_laws, made, Makes, made_laws}
+use Rattle.jc_parse_parts.proofs.Coded.{Coded, formed, coded_laws, in_first, in_second, in_order, in_order_laws, optional, optional_laws, repeated, repeated_laws, listed, listed_laws, one_or, Apart, one_or_laws, made, Makes, made_laws}
 
 -- it has no value
 pub record Void (A : Type 0) (c : Coded A) : Type 0 where
@@ -59,7 +59,9 @@ module _ (A : Type 0) (ca : Coded A) (la : Lawful A (formed ca)) (solid : ca.emp
 
   pub gated_laws : Lawful A (formed gated)
   gated_laws = record {
-    appends = la.appends; plain = la.plain; within = within_gated;
+    appends = la.appends;
+    plain = la.plain;
+    within = within_gated;
     sound = λ ts. by_test (Good (Stands (formed ca) ts)) ts (λ e. la.sound ts) (λ e. tt);
     longest = λ ts a r s. by_test (Goes (length r)) ts (λ e. la.longest ts a r s) (λ e. absurd (false≢true (sym e ∙ there ts a r s)));
     exact = λ ts a r s g. by_test (IsFound a r) ts (λ e. la.exact ts a r s g) (λ e. absurd (false≢true (sym e ∙ there ts a r s)));
@@ -68,8 +70,8 @@ module _ (A : Type 0) (ca : Coded A) (la : Lawful A (formed ca)) (solid : ca.emp
     total = λ e ts. absurd (false≢true (sym solid ∙ e));
     local = local_gated;
     begins = λ ts. by_test (λ m. Begins A (formed gated) ts (reach m)) ts
-    (λ e. let b = la.begins ts in record { front = b.front; back = b.back; whole = b.whole; left = b.left; value = b.value; more = b.more; spelled = b.spelled })
-    (λ e. begins_start A (formed gated) ts (record { value = la.least.value; tokens = la.least.tokens; spelled = la.least.spelled }));
+        (λ e. let b = la.begins ts in record { front = b.front; back = b.back; whole = b.whole; left = b.left; value = b.value; more = b.more; spelled = b.spelled })
+        (λ e. begins_start A (formed gated) ts (record { value = la.least.value; tokens = la.least.tokens; spelled = la.least.spelled }));
     least = record { value = la.least.value; tokens = la.least.tokens; spelled = la.least.spelled };
   }
 
@@ -112,9 +114,9 @@ optional_law A ca l e =
     (λ v. rerun_laws (Option A) (rerun (optional ca) (found None)) (perhaps ca.run) (λ ts. sym (ap (perhaps_from ts) (v.stops ts)))
     (idle_laws (Option A) (optional ca) None refl (only v) (λ r. refl) refl)) l
   where
-  only : Void A ca → (o : Option A) → fits_some ca.fits o ≡ true → None ≡ o
-  only v None g = refl
-  only v (Some a) g = absurd (false≢true (sym (v.never a) ∙ g))
+    only : Void A ca → (o : Option A) → fits_some ca.fits o ≡ true → None ≡ o
+    only v None g = refl
+    only v (Some a) g = absurd (false≢true (sym (v.never a) ∙ g))
 
 pub repeated_law : (A : Type 0) (ca : Coded A) → Law A ca → ca.empties ≡ false → none_common ca.starts ca.goes ≡ true → Lawful (List A) (formed (repeated ca))
 unfolding times
@@ -123,12 +125,13 @@ repeated_law A ca l e n =
     (λ v. rerun_laws (List A) (rerun (repeated ca) (found [])) (any_number ca.run) (λ ts. sym (none v (length ts) ts))
     (idle_laws (List A) (repeated ca) [] refl (only v) (λ r. refl) refl)) l
   where
-  only : Void A ca → (list : List A) → fits_all ca.fits list ≡ true → [] ≡ list
-  only v [] g = refl
-  only v (a ∷ list) g = absurd (false≢true (sym (and_left (ca.fits a) (fits_all ca.fits list) (v.never a)) ∙ g))
-  none : Void A ca → (n : ℕ) (ts : List Token) → times n ca.run ts ≡ found [] ts
-  none v zero ts = refl
-  none v (suc n) ts = ap (λ (m : Read A). one_more ts m (times n ca.run)) (v.stops ts)
+    only : Void A ca → (list : List A) → fits_all ca.fits list ≡ true → [] ≡ list
+    only v [] g = refl
+    only v (a ∷ list) g = absurd (false≢true (sym (and_left (ca.fits a) (fits_all ca.fits list) (v.never a)) ∙ g))
+
+    none : Void A ca → (n : ℕ) (ts : List Token) → times n ca.run ts ≡ found [] ts
+    none v zero ts = refl
+    none v (suc n) ts = ap (λ (m : Read A). one_more ts m (times n ca.run)) (v.stops ts)
 
 pub listed_law : (A : Type 0) (ca : Coded A) → Law A ca → ca.empties ≡ false → none_common (sign_code sign_of.Comma ∷ []) ca.goes ≡ true → Law (List A) (listed ca)
 listed_law A ca l e n =
@@ -138,9 +141,9 @@ listed_law A ca l e n =
       never = no_list v;
     })) l
   where
-  no_list : Void A ca → (list : List A) → fits_some_of ca.fits list ≡ false
-  no_list v [] = refl
-  no_list v (a ∷ list) = and_left (ca.fits a) (fits_all ca.fits list) (v.never a)
+    no_list : Void A ca → (list : List A) → fits_some_of ca.fits list ≡ false
+    no_list v [] = refl
+    no_list v (a ∷ list) = and_left (ca.fits a) (fits_all ca.fits list) (v.never a)
 
 -- the first part has no value, or the second one
 pub never_first : (A B : Type 0) (ca : Coded A) (cb : Coded B) → ((a : A) → ca.fits a ≡ false) → (p : A × B) → (in_order ca cb).fits p ≡ false
@@ -187,16 +190,16 @@ module _ (A B : Type 0) (codes : List ℕ) (ca : Coded A) (cb : Coded B) (d : Ap
   this_makes : Void B cb → Makes A (Either A B) ca This (tell_either ca.tell cb.tell) (fits_either ca.fits cb.fits)
   this_makes v = record { told = λ a r g. refl; forth = λ a g. g; back = back }
     where
-    back : (o : Either A B) → fits_either ca.fits cb.fits o ≡ true → (a : A) × (This a ≡ o) × (ca.fits a ≡ true)
-    back (This a) g = (a, refl, g)
-    back (That b) g = absurd (false≢true (sym (v.never b) ∙ g))
+      back : (o : Either A B) → fits_either ca.fits cb.fits o ≡ true → (a : A) × (This a ≡ o) × (ca.fits a ≡ true)
+      back (This a) g = (a, refl, g)
+      back (That b) g = absurd (false≢true (sym (v.never b) ∙ g))
 
   that_makes : Void A ca → Makes B (Either A B) cb That (tell_either ca.tell cb.tell) (fits_either ca.fits cb.fits)
   that_makes v = record { told = λ a r g. refl; forth = λ a g. g; back = back }
     where
-    back : (o : Either A B) → fits_either ca.fits cb.fits o ≡ true → (b : B) × (That b ≡ o) × (cb.fits b ≡ true)
-    back (That b) g = (b, refl, g)
-    back (This a) g = absurd (false≢true (sym (v.never a) ∙ g))
+      back : (o : Either A B) → fits_either ca.fits cb.fits o ≡ true → (b : B) × (That b ≡ o) × (cb.fits b ≡ true)
+      back (That b) g = (b, refl, g)
+      back (This a) g = absurd (false≢true (sym (v.never a) ∙ g))
 
   abbrev Elsewhere : List Token → Bool
   Elsewhere ts = cond (one_of codes ts) false true
@@ -212,7 +215,7 @@ module _ (A B : Type 0) (codes : List ℕ) (ca : Coded A) (cb : Coded B) (d : Ap
   first_only la v =
       let gate = gated_laws (Either A B) This_one (made_laws A (Either A B) ca This (tell_either ca.tell cb.tell) (fits_either ca.fits cb.fits) la (this_makes v)) d.solid (one_of codes) (λ ts s. within_sets ca.starts codes d.this (front_code ts) s) (λ t x y. refl) in
       let through = rerun_laws (Either A B) (rerun This_one (λ ts. cond (one_of codes ts) (becoming This (ca.run ts)) (Stopped (length ts)))) Choice.run
-        (λ ts. ap (λ (m : Read B). cond (one_of codes ts) (becoming This (ca.run ts)) (becoming That m)) (sym (v.stops ts))) gate in
+      (λ ts. ap (λ (m : Read B). cond (one_of codes ts) (becoming This (ca.run ts)) (becoming That m)) (sym (v.stops ts))) gate in
       subst (λ e. Lawful (Either A B) (record { tell = Choice.tell; fits = Choice.fits; run = Choice.run; starts = one_of Choice.starts; goes_on = one_of Choice.goes; empties = e })) d.solid
       (coded_laws (Either A B) (formed (rerun This_one Choice.run)) Choice.starts Choice.goes through (λ ts s. in_first ca.starts cb.starts (front_code ts) s) (λ ts s. in_first ca.goes cb.goes (front_code ts) s))
 
@@ -220,7 +223,7 @@ module _ (A B : Type 0) (codes : List ℕ) (ca : Coded A) (cb : Coded B) (d : Ap
   second_only v lb =
       let gate = gated_laws (Either A B) That_one (made_laws B (Either A B) cb That (tell_either ca.tell cb.tell) (fits_either ca.fits cb.fits) lb (that_makes v)) d.solid' Elsewhere elsewhere_that (λ t x y. refl) in
       let through = rerun_laws (Either A B) (rerun That_one (λ ts. cond (Elsewhere ts) (becoming That (cb.run ts)) (Stopped (length ts)))) Choice.run
-        (λ ts. swapped (one_of codes ts) (Stopped (length ts)) (becoming That (cb.run ts)) ∙ ap (λ (m : Read A). cond (one_of codes ts) (becoming This m) (becoming That (cb.run ts))) (sym (v.stops ts))) gate in
+      (λ ts. swapped (one_of codes ts) (Stopped (length ts)) (becoming That (cb.run ts)) ∙ ap (λ (m : Read A). cond (one_of codes ts) (becoming This m) (becoming That (cb.run ts))) (sym (v.stops ts))) gate in
       subst (λ e. Lawful (Either A B) (record { tell = Choice.tell; fits = Choice.fits; run = Choice.run; starts = one_of Choice.starts; goes_on = one_of Choice.goes; empties = e })) d.solid'
       (coded_laws (Either A B) (formed (rerun That_one Choice.run)) Choice.starts Choice.goes through (λ ts s. in_second ca.starts cb.starts (front_code ts) s) (λ ts s. in_second ca.goes cb.goes (front_code ts) s))
 
@@ -230,9 +233,9 @@ module _ (A B : Type 0) (codes : List ℕ) (ca : Coded A) (cb : Coded B) (d : Ap
     never = no_one;
   }
     where
-    no_one : (o : Either A B) → fits_either ca.fits cb.fits o ≡ false
-    no_one (This a) = v.never a
-    no_one (That b) = w.never b
+      no_one : (o : Either A B) → fits_either ca.fits cb.fits o ≡ false
+      no_one (This a) = v.never a
+      no_one (That b) = w.never b
 
   pub one_or_law : Law A ca → Law B cb → Law (Either A B) Choice
   one_or_law l m =
@@ -253,12 +256,14 @@ merged_law A codes ca cb l m d same =
       back = λ a g. back a (cases_Bool (ca.fits a)) g;
     })
   where
-  told : (o : Either A A) (r : List Told) → fits_either ca.fits cb.fits o ≡ true → ca.tell (either_one o) r ≡ tell_either ca.tell cb.tell o r
-  told (This a) r g = refl
-  told (That a) r g = same a r
-  forth : (o : Either A A) → fits_either ca.fits cb.fits o ≡ true → (ca.fits (either_one o) || cb.fits (either_one o)) ≡ true
-  forth (This a) g = or_left (ca.fits a) (cb.fits a) g
-  forth (That a) g = or_right (ca.fits a) (cb.fits a) g
-  back : (a : A) → (ca.fits a ≡ true) ⊎ (ca.fits a ≡ false) → (ca.fits a || cb.fits a) ≡ true → (o : Either A A) × (either_one o ≡ a) × (fits_either ca.fits cb.fits o ≡ true)
-  back a (inl t) g = (This a, refl, t)
-  back a (inr f) g = (That a, refl, ⊎_elim (λ t. absurd (false≢true (sym f ∙ t))) (λ t. t) (or_cases (ca.fits a) (cb.fits a) g))
+    told : (o : Either A A) (r : List Told) → fits_either ca.fits cb.fits o ≡ true → ca.tell (either_one o) r ≡ tell_either ca.tell cb.tell o r
+    told (This a) r g = refl
+    told (That a) r g = same a r
+
+    forth : (o : Either A A) → fits_either ca.fits cb.fits o ≡ true → (ca.fits (either_one o) || cb.fits (either_one o)) ≡ true
+    forth (This a) g = or_left (ca.fits a) (cb.fits a) g
+    forth (That a) g = or_right (ca.fits a) (cb.fits a) g
+
+    back : (a : A) → (ca.fits a ≡ true) ⊎ (ca.fits a ≡ false) → (ca.fits a || cb.fits a) ≡ true → (o : Either A A) × (either_one o ≡ a) × (fits_either ca.fits cb.fits o ≡ true)
+    back a (inl t) g = (This a, refl, t)
+    back a (inr f) g = (That a, refl, ⊎_elim (λ t. absurd (false≢true (sym f ∙ t))) (λ t. t) (or_cases (ca.fits a) (cb.fits a) g))

@@ -1,10 +1,9 @@
 -- The forms of annotations and modifiers, and that they are read as they are to be.
-use Rattle.std.proofs.Common.{◌≡◌, ℕ, zero, suc, ◌+◌, ◌<◌, ◌≤◌, max, Bool, true, false, cond, List, [], ◌∷◌, ◌++◌, map, length, Option, Some, None, refl, sym, ap, ◌∙◌, subst, ⊎_elim, ◌⊎◌, inl, inr, arith}
+use Rattle.std.proofs.Common.{◌≡◌, ℕ, Bool, true, false, List, [], ◌∷◌, map, Option, Some, None, refl, sym, ap, ◌∙◌, subst, ⊎_elim}
 use Rattle.std.proofs.Math.Bool.{and-true}
 use Rattle.std.proofs.Math.Path.{fun_ext}
-use Rattle.std.proofs.lemmas.Bool.{false≢true, or_left, or_right, or_cases, or_from, or_parts, and_parts, and_left, and_right}
+use Rattle.std.proofs.lemmas.Bool.{false≢true, or_right, or_cases, and_parts}
 use Rattle.std.specs.Prelude.{◌&&◌, ◌||◌, ◌==◌, nat_le}
-use Rattle.std.specs.List.{list_all}
 use Rattle.jc_lexer.specs.declared.token.Key.{Key}
 use Rattle.jc_lexer.specs.declared.token.Key.TheVariants as key_of
 use Rattle.jc_lexer.specs.declared.token.Sign.TheVariants as sign_of
@@ -18,27 +17,27 @@ use Rattle.jc_tree.specs.declared.statement.Modifier.TheVariants as modifier_of
 use Rattle.jc_tree.specs.declared.statement.ModifierWord.{ModifierWord}
 use Rattle.jc_tree.specs.declared.statement.ModifierWord.TheVariants as word_of
 use Rattle.jc_tree.specs.declared.statement.Pair.{Pair}
-use Rattle.jc_tree.specs.Heights.{most, in_some, value_height, pair_height, annotation_height, modifier_height}
-use Rattle.jc_grammar.specs.Told.{Told, sign, sign_at, key_at, ident, each, commas, names_after}
-use Rattle.jc_grammar.specs.Parts.{if_some, pair_tokens, pairs_tokens, annotation_tokens, modifier_key, modifier_tokens, modifiers_tokens}
+use Rattle.jc_tree.specs.Heights.{most, in_some, pair_height, annotation_height, modifier_height}
+use Rattle.jc_grammar.specs.Told.{Told, sign_at, key_at, ident, names_after}
+use Rattle.jc_grammar.specs.Parts.{if_some, pairs_tokens, annotation_tokens, modifier_key, modifier_tokens, modifiers_tokens}
 use Rattle.jc_grammar.specs.Units.{if_there_passes, is_value, are_pairs, is_modifier, are_modifiers}
 use Rattle.jc_reading.specs.Kinds.{kind_code, sign_code, key_code, word_code, is_in, front_code, one_of}
-use Rattle.jc_reading.specs.Reading.{Read, Found, Stopped, Run, Either, This, That, picking, rest_of}
+use Rattle.jc_reading.specs.Reading.{Either, This, That, rest_of}
 use Rattle.jc_reading.proofs.Codes.{some_is, none_is}
-use Rattle.jc_reading.proofs.Forms.{Form, Lawful, Stands}
-use Rattle.jc_reading.proofs.Lists.{many, Follows, many_laws, tell_all, fits_all}
+use Rattle.jc_reading.proofs.Forms.{Form, Lawful}
+use Rattle.jc_reading.proofs.Lists.{many, many_laws, tell_all, fits_all}
 use Rattle.jc_reading.proofs.Choices.{choice, choice_laws}
-use Rattle.jc_reading.proofs.Alikes.{alike, Alike, alike_laws}
-use Rattle.jc_reading.proofs.Kindly.{token, Picks, token_laws}
-use Rattle.jc_reading.proofs.Signs.{sign_laws, sign_at_laws, ident_laws, none_common, apart_sets, all_in, within_sets, in_more}
-use Rattle.jc_reading.proofs.Rooms.{room_above, room_max, room_all}
+use Rattle.jc_reading.proofs.Alikes.{alike_laws}
+use Rattle.jc_reading.proofs.Kindly.{token, token_laws}
+use Rattle.jc_reading.proofs.Signs.{sign_laws, ident_laws, apart_sets, within_sets, in_more}
+use Rattle.jc_reading.proofs.Rooms.{room_above}
 use Rattle.jc_parse_type.specs.TypeReading.{at_its_place}
-use Rattle.jc_parse_parts.specs.PartReading.{Exprs, pair_run, pair_made, pairs_made, pairs_run, annotation_made, annotation_run, modifier_word_of, modifier_word_of_kind, picks_modifier, modifier_word_codes, modifier_made, modifier_run, modifiers_run}
-use Rattle.jc_parse_parts.proofs.AnnotationForms.{room_and, value_coded, value_never, Paired, pair_fits, pairs_laws, value_codes}
-use Rattle.jc_parse_parts.proofs.Coded.{Coded, formed, coded, coded_laws, in_order, in_order_laws, optional, optional_laws, listed, made, Makes, made_laws, Same, same_makes}
-use Rattle.jc_parse_parts.proofs.ExprForms.{ExprLaws, operator_codes}
-use Rattle.jc_parse_parts.proofs.LedAt.{led_at, led_at_starts, led_at_laws}
-use Rattle.jc_parse_parts.proofs.Lowest.{Law, Void, listed_law, optional_law, roomy, roomy_law}
+use Rattle.jc_parse_parts.specs.PartReading.{Exprs, pair_run, pairs_made, pairs_run, annotation_made, annotation_run, modifier_word_of, modifier_word_of_kind, picks_modifier, modifier_word_codes, modifier_made, modifier_run, modifiers_run}
+use Rattle.jc_parse_parts.proofs.AnnotationForms.{room_and, value_never, Paired, pair_fits, pairs_laws}
+use Rattle.jc_parse_parts.proofs.Coded.{Coded, formed, coded, coded_laws, in_order, in_order_laws, optional, optional_laws, listed, made_laws}
+use Rattle.jc_parse_parts.proofs.ExprForms.{ExprLaws}
+use Rattle.jc_parse_parts.proofs.LedAt.{led_at, led_at_laws}
+use Rattle.jc_parse_parts.proofs.Lowest.{Law, listed_law, optional_law, roomy, roomy_law}
 use Rattle.jc_parse_parts.proofs.PartForms.{sign_form, ident_form, more_names_coded, more_names_coded_laws}
 
 module _ (x : Exprs) where
@@ -124,7 +123,8 @@ module _ (x : Exprs) where
           told = λ p r g. ap (λ (l : List Told). sign_at sign_of.At p.0 ∷ ident p.1.0 ∷ names_after p.1.1.0 l) (told_if p.1.1.1 r);
           forth = λ p g. fit_if p.1.1.1 ∙ g;
           back = λ a g. ((a.at, (a.first, (a.more, a.pairs))), refl, sym (fit_if a.pairs) ∙ g);
-          starts_too = λ ts e. e; goes_too = λ ts e. e;
+          starts_too = λ ts e. e;
+          goes_too = λ ts e. e;
         })
 
 -- a modifier's word
@@ -239,9 +239,9 @@ module _ (x : Exprs) (h : ℕ) where
         goes_too = λ ts e. alone (one_of after_codes ts) e;
       })
     where
-    alone : (b : Bool) → (b || false) ≡ true → b ≡ true
-    alone true e = refl
-    alone false e = e
+      alone : (b : Bool) → (b || false) ≡ true → b ≡ true
+      alone true e = refl
+      alone false e = e
 
   starts_codes : (ts : List Token) → modifier_starts ts ≡ true → one_of modifier_codes ts ≡ true
   starts_codes ts e =
@@ -285,10 +285,11 @@ module _ (x : Exprs) (h : ℕ) where
       coded_laws (List Modifier) modifiers_form modifier_codes (sign_code sign_of.LeftParen ∷ sign_code sign_of.Dot ∷ modifier_codes) (modifiers_laws lx) starts_codes
       (λ ts e. ⊎_elim (λ t. further ts (starts_codes ts t)) (λ t. nearer ts t) (or_cases (modifier_starts ts) (one_of after_codes ts) e))
     where
-    further : (ts : List Token) → one_of modifier_codes ts ≡ true → one_of (sign_code sign_of.LeftParen ∷ sign_code sign_of.Dot ∷ modifier_codes) ts ≡ true
-    further ts e = or_right (sign_code sign_of.LeftParen == front_code ts) (is_in (sign_code sign_of.Dot ∷ modifier_codes) (front_code ts)) (or_right (sign_code sign_of.Dot == front_code ts) (is_in modifier_codes (front_code ts)) e)
-    nearer : (ts : List Token) → one_of after_codes ts ≡ true → one_of (sign_code sign_of.LeftParen ∷ sign_code sign_of.Dot ∷ modifier_codes) ts ≡ true
-    nearer ts e = within_sets after_codes (sign_code sign_of.LeftParen ∷ sign_code sign_of.Dot ∷ modifier_codes) refl (front_code ts) e
+      further : (ts : List Token) → one_of modifier_codes ts ≡ true → one_of (sign_code sign_of.LeftParen ∷ sign_code sign_of.Dot ∷ modifier_codes) ts ≡ true
+      further ts e = or_right (sign_code sign_of.LeftParen == front_code ts) (is_in (sign_code sign_of.Dot ∷ modifier_codes) (front_code ts)) (or_right (sign_code sign_of.Dot == front_code ts) (is_in modifier_codes (front_code ts)) e)
+
+      nearer : (ts : List Token) → one_of after_codes ts ≡ true → one_of (sign_code sign_of.LeftParen ∷ sign_code sign_of.Dot ∷ modifier_codes) ts ≡ true
+      nearer ts e = within_sets after_codes (sign_code sign_of.LeftParen ∷ sign_code sign_of.Dot ∷ modifier_codes) refl (front_code ts) e
 
   -- one modifier at least
   abbrev pub modifier_coded : Coded Modifier

@@ -1,7 +1,7 @@
 -- The forms of names, classes in lists and type parameters, and that they are read as they are to be.
-use Rattle.std.proofs.Common.{◌≡◌, ℕ, zero, suc, max, Bool, true, false, cond, List, [], ◌∷◌, ◌++◌, map, length, Option, Some, None, refl, sym, ap, ◌∙◌, subst, ⊎_elim, ◌⊎◌, inl, inr, arith}
+use Rattle.std.proofs.Common.{◌≡◌, ℕ, zero, suc, Bool, true, false, List, [], ◌∷◌, map, Option, Some, None, refl, sym, ap, ◌∙◌, inl, inr, arith}
 use Rattle.std.proofs.Math.Bool.{and-true}
-use Rattle.std.proofs.lemmas.Bool.{false≢true, or_left, or_right, or_cases, and_parts}
+use Rattle.std.proofs.lemmas.Bool.{false≢true, and_parts}
 use Rattle.std.proofs.lemmas.Grind.{common_steps}
 use Rattle.std.specs.Prelude.{◌&&◌, ◌||◌, ◌==◌, nat_le}
 use Rattle.jc_lexer.specs.declared.token.Key.{Key}
@@ -16,22 +16,22 @@ use Rattle.jc_tree.specs.declared.statement.TypeParam.{TypeParam}
 use Rattle.jc_tree.specs.declared.statement.TypeParams.{TypeParams}
 use Rattle.jc_tree.specs.Heights.{most, class_height, type_height, param_height, params_of_height}
 use Rattle.jc_tree.proofs.HeightsOfTypes.{type_height-parts}
-use Rattle.jc_grammar.specs.Told.{Told, sign, sign_at, key, key_at, ident, names_after, after_commas, commas, brackets}
-use Rattle.jc_grammar.specs.Types.{class_tokens, type_tokens, angled}
+use Rattle.jc_grammar.specs.Told.{Told, sign, sign_at, key, ident, names_after, after_commas}
+use Rattle.jc_grammar.specs.Types.{class_tokens}
 use Rattle.jc_grammar.specs.Parts.{keyed_list, after_ands, bounds_tokens, param_tokens, params_tokens, params_of_tokens}
-use Rattle.jc_reading.specs.Kinds.{kind_code, sign_code, key_code, word_code, is_in, front_code, one_of}
-use Rattle.jc_reading.specs.Reading.{Read, Found, Stopped, Run, Either, This, That, rest_of, behind_it, each_behind}
-use Rattle.jc_reading.proofs.Forms.{Form, Lawful, Stands}
-use Rattle.jc_reading.proofs.Lists.{tell_all, fits_all}
-use Rattle.jc_reading.proofs.Alikes.{alike, Alike, alike_laws}
-use Rattle.jc_reading.proofs.Ledby.{or_false, led, led_starts, led_many, led_many_laws, fits_some_of, unled, unled_back, unled_fits, behind_fits}
-use Rattle.jc_reading.proofs.Signs.{a_sign, a_sign_at, a_key, a_key_at, an_ident, sign_laws, sign_at_laws, key_laws, key_at_laws, ident_laws, none_common, in_more}
-use Rattle.jc_reading.proofs.Rooms.{room_none, room_above, room_suc, room_max, room_all}
-use Rattle.jc_parse_type.specs.TypeReading.{dims_run, type_run, class_run}
-use Rattle.jc_parse_type.proofs.TypeForms.{type_codes, goes_on_type, goes_on_class, type_form, class_form, class_laws, arg_laws, type_laws, bracket_codes, dims_form, dims_laws}
+use Rattle.jc_reading.specs.Kinds.{sign_code, key_code, word_code, front_code, one_of}
+use Rattle.jc_reading.specs.Reading.{rest_of, behind_it}
+use Rattle.jc_reading.proofs.Forms.{Form, Lawful}
+use Rattle.jc_reading.proofs.Lists.{fits_all}
+use Rattle.jc_reading.proofs.Alikes.{alike_laws}
+use Rattle.jc_reading.proofs.Ledby.{led_many, led_many_laws, unled, unled_back, behind_fits}
+use Rattle.jc_reading.proofs.Signs.{a_sign, a_sign_at, a_key, a_key_at, an_ident, sign_laws, sign_at_laws, key_laws, ident_laws, none_common}
+use Rattle.jc_reading.proofs.Rooms.{room_none, room_above, room_max, room_all}
+use Rattle.jc_parse_type.specs.TypeReading.{type_run, class_run}
+use Rattle.jc_parse_type.proofs.TypeForms.{type_codes, type_form, class_form, class_laws, arg_laws, type_laws, bracket_codes, dims_form}
 use Rattle.jc_parse_parts.specs.PartReading.{more_names_run, or_nothing, keyed_run, bounds_made, bounds_run, param_made, param_run, or_no_params, params_run, params_made, params_of_run}
-use Rattle.jc_parse_parts.proofs.Coded.{Coded, formed, coded, coded_laws, with_next, in_order, in_order_laws, optional, optional_laws, repeated, repeated_laws, listed, listed_laws, one_or, Apart, one_or_laws, made, Makes, made_laws, Same, same_makes}
-use Rattle.jc_parse_parts.proofs.Lowest.{Law, Void}
+use Rattle.jc_parse_parts.proofs.Coded.{Coded, formed, coded, coded_laws, with_next, in_order, in_order_laws, optional, optional_laws, repeated, repeated_laws, listed, listed_laws, made, made_laws, same_makes}
+use Rattle.jc_parse_parts.proofs.Lowest.{Law}
 
 -- tokens
 abbrev pub sign_form : Sign → Coded (Unit {0})
@@ -113,9 +113,11 @@ unfolding more_names_run
 more_names_laws = alike_laws (List (Unit {0} × Ident)) (List Ident) Names (map behind_it) names_after (λ list. true) dot_word dot_word
     (led_many_laws Ident sign_of.Dot an_ident ident_laws refl (λ ts e. refl))
     (record {
-      told = λ list r g. told_names list r; forth = λ list g. refl;
+      told = λ list r g. told_names list r;
+      forth = λ list g. refl;
       back = λ list g. (unled list, unled_back list, all_true (unled list));
-      starts_too = λ ts e. e; goes_too = λ ts e. twice (dot_word ts) e;
+      starts_too = λ ts e. e;
+      goes_too = λ ts e. twice (dot_word ts) e;
     })
 
 abbrev pub more_names_coded : Coded (List Ident)
@@ -135,12 +137,13 @@ pub behind_each_laws : (A : Type 0) (s : Sign) (ca : Coded A) → Lawful A (form
 behind_each_laws A s ca la e n =
     repeated_laws (Unit {0} × A) (in_order (sign_form s) ca) (in_order_laws (Unit {0}) A (sign_form s) ca (sign_laws s) la (apart_nothing ca.starts)) refl (plain_goes ca.empties e n)
   where
-  apart_nothing : (xs : List ℕ) → none_common xs [] ≡ true
-  apart_nothing [] = refl
-  apart_nothing (c ∷ xs) = apart_nothing xs
-  plain_goes : (b : Bool) → b ≡ false → none_common (sign_code s ∷ []) ca.goes ≡ true → none_common (sign_code s ∷ []) (with_next b ca.goes []) ≡ true
-  plain_goes true q e = absurd (false≢true (sym q))
-  plain_goes false q e = e
+    apart_nothing : (xs : List ℕ) → none_common xs [] ≡ true
+    apart_nothing [] = refl
+    apart_nothing (c ∷ xs) = apart_nothing xs
+
+    plain_goes : (b : Bool) → b ≡ false → none_common (sign_code s ∷ []) ca.goes ≡ true → none_common (sign_code s ∷ []) (with_next b ca.goes []) ≡ true
+    plain_goes true q e = absurd (false≢true (sym q))
+    plain_goes false q e = e
 
 pub told_commas : {A : Type 0} (ca : Coded A) (list : List (Unit {0} × A)) (r : List Told) → after_commas (map ca.tell (map behind_it list)) r ≡ (behind_each sign_of.Comma ca).tell list r
 told_commas ca [] r = refl

@@ -1,12 +1,12 @@
 -- The one form, or where it stops the other.
-use Rattle.std.proofs.Common.{◌≡◌, ℕ, zero, suc, ◌+◌, ◌<◌, ◌≤◌, min, Bool, true, false, cond, List, [], ◌∷◌, ◌++◌, length, length-append, refl, sym, ap, ◌∙◌, subst, ⊎_elim, ◌⊎◌, inl, inr, arith}
+use Rattle.std.proofs.Common.{◌≡◌, ℕ, ◌<◌, ◌≤◌, min, true, false, List, [], ◌++◌, length, refl, sym, ap, ◌∙◌, subst, ⊎_elim, inl, arith}
 use Rattle.std.proofs.lemmas.Bool.{false≢true, cases_Bool}
 use Rattle.jc_lexer.specs.declared.token.Token.{Token}
 use Rattle.jc_grammar.specs.Told.{Told}
-use Rattle.jc_reading.specs.Kinds.{is_in, front_code, one_of}
-use Rattle.jc_reading.specs.Reading.{Read, Found, Stopped, Run, noting, becoming, Either, This, That}
-use Rattle.jc_reading.proofs.Steps.{Good, Within, Goes, IsFound, Refuses, reach, Moved, Moves, Plain, good_becoming, good_noting, within_becoming, within_noting, goes_becoming, goes_noting, found_becoming, found_noting, reach_becoming, reach_noting, moves_becoming, moved_noting}
-use Rattle.jc_reading.proofs.Forms.{Form, Lawful, Stands, Begins, Opens, begins_as, begins_pick}
+use Rattle.jc_reading.specs.Kinds.{front_code, one_of}
+use Rattle.jc_reading.specs.Reading.{Read, Found, Stopped, noting, becoming, Either, This, That}
+use Rattle.jc_reading.proofs.Steps.{Good, Within, Goes, IsFound, Refuses, reach, Moves, Plain, good_becoming, good_noting, within_becoming, within_noting, goes_becoming, goes_noting, found_becoming, found_noting, reach_becoming, reach_noting, moves_becoming, moved_noting}
+use Rattle.jc_reading.proofs.Forms.{Lawful, Stands, Begins, Opens, begins_as, begins_pick}
 use Rattle.jc_reading.proofs.Choices.{tell_either, fits_either}
 use Rattle.jc_parse_parts.specs.Reading.{or_else, preferring}
 use Rattle.jc_parse_parts.proofs.Coded.{Coded, formed, in_first, in_second}
@@ -99,8 +99,13 @@ module _ (A B : Type 0) (goes : List ℕ) (ca : Coded A) (cb : Coded B) (la : La
 
   pub preferred_laws : Lawful (Either A B) (formed Whole)
   preferred_laws = record {
-    appends = appends; plain = plain; within = λ ts. within_on ts (ca.run ts) (la.within ts); sound = λ ts. sound_on ts (ca.run ts) (la.sound ts);
-    longest = longest_on; exact = exact_on; opens = opens_on;
+    appends = appends;
+    plain = plain;
+    within = λ ts. within_on ts (ca.run ts) (la.within ts);
+    sound = λ ts. sound_on ts (ca.run ts) (la.sound ts);
+    longest = longest_on;
+    exact = exact_on;
+    opens = opens_on;
     refuses = λ ts g. refuses_on ts (ca.run ts) (la.refuses ts (no_first ts g)) (lb.refuses ts (no_second ts g));
     total = λ e ts. absurd (false≢true e);
     local = λ p x y. moves_on p x y (ca.run (p ++ x)) (ca.run (p ++ y)) (la.local p x y);
@@ -108,9 +113,10 @@ module _ (A B : Type 0) (goes : List ℕ) (ca : Coded A) (cb : Coded B) (la : La
     least = record { value = That lb.least.value; tokens = lb.least.tokens; spelled = lb.least.spelled };
   }
     where
-    appends : (o : Either A B) (r : List Told) → Whole.fits o ≡ true → Whole.tell o r ≡ Whole.tell o [] ++ r
-    appends (This a) r g = la.appends a r g
-    appends (That b) r g = lb.appends b r g
-    plain : (o : Either A B) → Whole.fits o ≡ true → Plain (Whole.tell o [])
-    plain (This a) g = la.plain a g
-    plain (That b) g = lb.plain b g
+      appends : (o : Either A B) (r : List Told) → Whole.fits o ≡ true → Whole.tell o r ≡ Whole.tell o [] ++ r
+      appends (This a) r g = la.appends a r g
+      appends (That b) r g = lb.appends b r g
+
+      plain : (o : Either A B) → Whole.fits o ≡ true → Plain (Whole.tell o [])
+      plain (This a) g = la.plain a g
+      plain (That b) g = lb.plain b g

@@ -1,7 +1,7 @@
 -- Lists whose last part may have a sign behind it, up to a sign that ends them.
-use Rattle.std.proofs.Common.{◌≡◌, ℕ, zero, suc, ◌<◌, ◌≤◌, Bool, true, false, cond, List, [], ◌∷◌, ◌++◌, map, length, Option, Some, None, refl, sym, ap, ◌∙◌, subst, ⊎_elim, ◌⊎◌, inl, inr, arith}
+use Rattle.std.proofs.Common.{◌≡◌, ℕ, Bool, true, false, cond, List, [], ◌∷◌, map, refl, sym, ap, ◌∙◌, ⊎_elim, inl, inr}
 use Rattle.std.proofs.Math.Bool.{and-true}
-use Rattle.std.proofs.lemmas.Bool.{false≢true, or_parts, or_left, or_right, or_cases, or_from, and_from, and_left, and_right, and_parts, cases_Bool, cond-true, eq-eqb}
+use Rattle.std.proofs.lemmas.Bool.{false≢true, or_left, or_right, or_cases, or_from, and_left, and_right, and_parts, cond-true, eq-eqb}
 use Rattle.std.specs.Prelude.{◌&&◌, ◌||◌, ◌==◌}
 use Rattle.jc_lexer.specs.declared.token.Sign.{Sign}
 use Rattle.jc_lexer.specs.declared.token.Sign.TheVariants as sign_of
@@ -9,17 +9,17 @@ use Rattle.jc_lexer.specs.declared.token.Token.{Token}
 use Rattle.jc_grammar.specs.Told.{Told, sign, commas, after_commas}
 use Rattle.jc_grammar.specs.Expressions.{if_there}
 use Rattle.jc_reading.specs.Kinds.{is_in, front_code, one_of, sign_code}
-use Rattle.jc_reading.specs.Reading.{Read, Found, Stopped, Run, as_new, in_turn, becoming, joined, ◌>>=◌, of_kind, each_behind, Either, This, That, either, behind_it, rest_of}
-use Rattle.jc_reading.proofs.Forms.{Form, Lawful, Stands}
+use Rattle.jc_reading.specs.Reading.{Read, becoming, joined, ◌>>=◌, Either, This, That, behind_it, rest_of}
+use Rattle.jc_reading.proofs.Forms.{Form, Lawful}
 use Rattle.jc_reading.proofs.Pairs.{pair, pair_laws}
 use Rattle.jc_reading.proofs.Lists.{many, tell_all, fits_all}
-use Rattle.jc_reading.proofs.Choices.{choice, Decides, choice_laws}
-use Rattle.jc_reading.proofs.Alikes.{alike, Alike, alike_laws}
-use Rattle.jc_reading.proofs.Ledby.{or_false, led, led_starts, led_laws, led_many, led_many_laws, unled, unled_back, unled_fits, behind_fits}
+use Rattle.jc_reading.proofs.Choices.{choice, choice_laws}
+use Rattle.jc_reading.proofs.Alikes.{alike_laws}
+use Rattle.jc_reading.proofs.Ledby.{or_false, led, led_starts, led_laws, led_many_laws, unled, unled_back, behind_fits}
 use Rattle.jc_reading.proofs.Signs.{a_sign, sign_laws, none_common, apart_sets, all_in}
-use Rattle.jc_parse_parts.specs.PartReading.{which, closing_run, rows_tail_run, row_made, row_run}
-use Rattle.jc_parse_parts.proofs.Coded.{Coded, formed, coded, coded_laws, with_next, in_order, in_order_laws, one_or, Apart, made, Makes, Same, same_makes}
-use Rattle.jc_parse_parts.proofs.Lowest.{Law, Void, in_order_law, one_or_law, made_law, never_first}
+use Rattle.jc_parse_parts.specs.PartReading.{which, closing_run, row_made}
+use Rattle.jc_parse_parts.proofs.Coded.{Coded, formed, coded, coded_laws, with_next, in_order, in_order_laws, one_or, made, same_makes}
+use Rattle.jc_parse_parts.proofs.Lowest.{Law, Void, one_or_law, made_law, never_first}
 
 pub void_first : (A B : Type 0) (ca : Coded A) (cb : Coded B) → Void A ca → Void (A × B) (in_order ca cb)
 void_first A B ca cb v = record {
@@ -37,7 +37,8 @@ module _ (between end : Sign) (differ : none_common (sign_code end ∷ []) (sign
   ends_laws : Lawful (Either (Unit {0} × Unit {0}) (Unit {0})) Ends
   ends_laws = choice_laws (Unit {0} × Unit {0}) (Unit {0}) (sign_code between ∷ []) Twice (a_sign end) (led_laws (Unit {0}) between (a_sign end) (sign_laws end) refl) (sign_laws end)
       (record {
-        solid = refl; solid' = refl;
+        solid = refl;
+        solid' = refl;
         this = λ ts e. (and_parts (one_of (sign_code between ∷ []) ts) (one_of (sign_code end ∷ []) (rest_of ts)) e).0;
         that = λ ts e. apart_sets (sign_code end ∷ []) (sign_code between ∷ []) differ (front_code ts) e;
       })
@@ -169,8 +170,9 @@ module _ (end : Sign) (differ : none_common (sign_code end ∷ []) (sign_code si
       (inl (closing_coded sign_of.Comma end differ)) (rows_law sign_of.Comma end differ A ca l h))
       (same_makes (Either Bool (A × (List (Unit {0} × A) × Bool))) (List A × Bool) Rows row_made row_tell row_fits (record { told = told_row; fit = fit_row; back = back_row })))
     where
-    both_in : (c d : ℕ) → all_in (c ∷ d ∷ []) (c ∷ d ∷ []) ≡ true
-    both_in c d = cond-true (is_in (c ∷ d ∷ []) c) (cond (is_in (c ∷ d ∷ []) d) true false) false (or_left (c == c) (is_in (d ∷ []) c) (eq-eqb c c refl)) ∙ cond-true (is_in (c ∷ d ∷ []) d) true false (or_right (c == d) (is_in (d ∷ []) d) (or_left (d == d) false (eq-eqb d d refl)))
-    that_starts : (b : Bool) → b ≡ false → none_common ca.starts (sign_code sign_of.Comma ∷ sign_code end ∷ []) ≡ true → none_common (with_next b ca.starts (sign_code sign_of.Comma ∷ sign_code end ∷ [])) (sign_code sign_of.Comma ∷ sign_code end ∷ []) ≡ true
-    that_starts true q e = absurd (false≢true (sym q))
-    that_starts false q e = e
+      both_in : (c d : ℕ) → all_in (c ∷ d ∷ []) (c ∷ d ∷ []) ≡ true
+      both_in c d = cond-true (is_in (c ∷ d ∷ []) c) (cond (is_in (c ∷ d ∷ []) d) true false) false (or_left (c == c) (is_in (d ∷ []) c) (eq-eqb c c refl)) ∙ cond-true (is_in (c ∷ d ∷ []) d) true false (or_right (c == d) (is_in (d ∷ []) d) (or_left (d == d) false (eq-eqb d d refl)))
+
+      that_starts : (b : Bool) → b ≡ false → none_common ca.starts (sign_code sign_of.Comma ∷ sign_code end ∷ []) ≡ true → none_common (with_next b ca.starts (sign_code sign_of.Comma ∷ sign_code end ∷ [])) (sign_code sign_of.Comma ∷ sign_code end ∷ []) ≡ true
+      that_starts true q e = absurd (false≢true (sym q))
+      that_starts false q e = e

@@ -1,13 +1,13 @@
 -- The one form or the other by what stands behind a first token that both may begin with.
-use Rattle.std.proofs.Common.{◌≡◌, ℕ, zero, suc, ◌+◌, ◌<◌, ◌≤◌, min, Bool, true, false, cond, List, [], ◌∷◌, ◌++◌, length, length-append, refl, sym, ap, ◌∙◌, subst, ⊎_elim, ◌⊎◌, inl, inr, arith}
+use Rattle.std.proofs.Common.{◌≡◌, ℕ, ◌+◌, ◌<◌, ◌≤◌, min, Bool, true, false, cond, List, [], ◌∷◌, ◌++◌, length, length-append, refl, sym, ap, ◌∙◌, subst, ⊎_elim, inl, arith}
 use Rattle.std.proofs.lemmas.Bool.{false≢true, cond_both, cases_Bool, cases_lt, eqb-true}
-use Rattle.std.specs.Prelude.{◌&&◌, ◌||◌, ◌==◌}
+use Rattle.std.specs.Prelude.{◌&&◌, ◌==◌}
 use Rattle.jc_lexer.specs.declared.token.Token.{Token}
 use Rattle.jc_grammar.specs.Told.{Told}
 use Rattle.jc_reading.specs.Kinds.{kind_code, is_in, front_code, one_of}
-use Rattle.jc_reading.specs.Reading.{Read, Found, Stopped, Run, noting, becoming, as_new, Either, This, That, rest_of}
+use Rattle.jc_reading.specs.Reading.{Read, Found, Stopped, noting, becoming, Either, This, That}
 use Rattle.jc_reading.proofs.Steps.{Good, Within, Goes, IsFound, Refuses, reach, Moved, Moves, Plain, good_becoming, good_noting, within_becoming, within_noting, goes_becoming, goes_noting, found_becoming, found_noting, reach_becoming, reach_noting, moves_becoming, moved_noting, moves_none}
-use Rattle.jc_reading.proofs.Forms.{Form, Lawful, Stands, Begins, Least, Opens, begins_as, begins_pick}
+use Rattle.jc_reading.proofs.Forms.{Form, Lawful, Stands, Begins, Opens, begins_as, begins_pick}
 use Rattle.jc_reading.proofs.Choices.{tell_either, fits_either}
 use Rattle.jc_parse_parts.specs.Reading.{by_second, past, second_is}
 use Rattle.jc_parse_parts.proofs.Coded.{Coded, formed, in_first, in_second}
@@ -18,14 +18,14 @@ takes_first A form la solid t z a r s ts =
     ⊎_elim (λ (far : length ts < reach (form.run (t ∷ ts))). absurd (too_far (form.run (t ∷ ts)) (form.run (t ∷ z)) far (la.within (t ∷ ts)) (la.within (t ∷ z)) (la.sound (t ∷ z)) (la.longest (t ∷ z) a r s) (la.local (t ∷ []) ts z far)))
     (λ (near : reach (form.run (t ∷ ts)) ≤ length ts). near) (cases_lt (length ts) (reach (form.run (t ∷ ts))))
   where
-  too_far : (m n : Read A) → length ts < reach m → Within (length (t ∷ ts)) m → Within (length (t ∷ z)) n → Good (Stands form (t ∷ z)) n → Goes (length r) n → Moved ts z m n → ⊥
-  too_far (Found b q l) (Found c p k) far w v g i h = omega (arith, far, w.0, w.1, v.0, v.1, h.4, shorter c p g)
-    where
-    shorter : (c : A) (p : List Token) → Stands form (t ∷ z) c p → length p < length (t ∷ z)
-    shorter c p g = ⊎_elim (λ o. o.1) (λ o. absurd (false≢true (sym solid ∙ o.1))) (la.opens (t ∷ z) c p g)
-  too_far (Found b q l) (Stopped k) far w v g i h = absurd h
-  too_far (Stopped l) (Found c p k) far w v g i h = absurd h
-  too_far (Stopped l) (Stopped k) far w v g i h = absurd i
+    too_far : (m n : Read A) → length ts < reach m → Within (length (t ∷ ts)) m → Within (length (t ∷ z)) n → Good (Stands form (t ∷ z)) n → Goes (length r) n → Moved ts z m n → ⊥
+    too_far (Found b q l) (Found c p k) far w v g i h = omega (arith, far, w.0, w.1, v.0, v.1, h.4, shorter c p g)
+      where
+        shorter : (c : A) (p : List Token) → Stands form (t ∷ z) c p → length p < length (t ∷ z)
+        shorter c p g = ⊎_elim (λ o. o.1) (λ o. absurd (false≢true (sym solid ∙ o.1))) (la.opens (t ∷ z) c p g)
+    too_far (Found b q l) (Stopped k) far w v g i h = absurd h
+    too_far (Stopped l) (Found c p k) far w v g i h = absurd h
+    too_far (Stopped l) (Stopped k) far w v g i h = absurd i
 
 -- the first form is read where a token of `codes` stands behind one of the kind `code`
 abbrev pub seconds : {A B : Type 0} → ℕ → List ℕ → Coded A → Coded B → Coded (Either A B)
@@ -56,21 +56,26 @@ module _ (A B : Type 0) (code : ℕ) (codes : List ℕ) (ca : Coded A) (cb : Cod
   first_begins : (t : Token) (ts : List Token) → kind_code t.kind ≡ code → Begins A (formed ca) (t ∷ ts) (length ts)
   first_begins t ts e = behind_one (la.begins (t ∷ [])) (d.passes t [] e)
     where
-    behind_one : Begins A (formed ca) (t ∷ []) (reach (ca.run (t ∷ []))) → reach (ca.run (t ∷ [])) ≤ 0 → Begins A (formed ca) (t ∷ ts) (length ts)
-    behind_one b le =
-        let e : (t ∷ []) ≡ b.front = whole b.front b.back b.whole (omega (arith, b.left, le)) in
-        record {
-          front = t ∷ []; back = ts; whole = refl; left = refl; value = b.value; more = b.more;
-          spelled = λ z. subst (λ (l : List Token). Stands (formed ca) (l ++ (b.more ++ z)) b.value z) (sym e) (b.spelled z);
-        }
-      where
-      whole : (front back : List Token) → (t ∷ []) ≡ front ++ back → length back ≡ 0 → (t ∷ []) ≡ front
-      whole front [] e l = e ∙ nil_right front
+      behind_one : Begins A (formed ca) (t ∷ []) (reach (ca.run (t ∷ []))) → reach (ca.run (t ∷ [])) ≤ 0 → Begins A (formed ca) (t ∷ ts) (length ts)
+      behind_one b le =
+          let e : (t ∷ []) ≡ b.front = whole b.front b.back b.whole (omega (arith, b.left, le)) in
+          record {
+            front = t ∷ [];
+            back = ts;
+            whole = refl;
+            left = refl;
+            value = b.value;
+            more = b.more;
+            spelled = λ z. subst (λ (l : List Token). Stands (formed ca) (l ++ (b.more ++ z)) b.value z) (sym e) (b.spelled z);
+          }
         where
-        nil_right : (front : List Token) → front ++ [] ≡ front
-        nil_right [] = refl
-        nil_right (f ∷ front) = ap (λ (l : List Token). f ∷ l) (nil_right front)
-      whole front (u ∷ back) e l = absurd (omega (arith, l))
+          whole : (front back : List Token) → (t ∷ []) ≡ front ++ back → length back ≡ 0 → (t ∷ []) ≡ front
+          whole front [] e l = e ∙ nil_right front
+            where
+              nil_right : (front : List Token) → front ++ [] ≡ front
+              nil_right [] = refl
+              nil_right (f ∷ front) = ap (λ (l : List Token). f ∷ l) (nil_right front)
+          whole front (u ∷ back) e l = absurd (omega (arith, l))
 
   by_test : (P : Read (Either A B) → Type 0) (ts : List Token) → (Tested ts ≡ true → P (becoming This (ca.run ts))) → (Tested ts ≡ false → P (past code ts (Second ts))) → P (Choice.run ts)
   by_test P ts f g = cond_both (Tested ts) (becoming This (ca.run ts)) (past code ts (Second ts)) P f g
@@ -137,8 +142,8 @@ module _ (A B : Type 0) (code : ℕ) (codes : List ℕ) (ca : Coded A) (cb : Cod
       (λ q. subst (λ k. k ≤ length x) (sym (reach_becoming This (ca.run (t ∷ x)))) (d.passes t x (eqb-true (kind_code t.kind) code e)))
       (λ q. subst (λ (b : Bool). reach (cond b (noting (length x) (Second (t ∷ x))) (Second (t ∷ x))) ≤ length x) (sym e) (noted (Second (t ∷ x))))
     where
-    noted : (m : Read (Either A B)) → reach (noting (length x) m) ≤ length x
-    noted m = let f : reach (noting (length x) m) ≡ min (length x) (reach m) = reach_noting (length x) m in omega (arith, f)
+      noted : (m : Read (Either A B)) → reach (noting (length x) m) ≤ length x
+      noted m = let f : reach (noting (length x) m) ≡ min (length x) (reach m) = reach_noting (length x) m in omega (arith, f)
 
   past_first : (t : Token) (x y : List Token) → (kind_code t.kind == code) ≡ false → Moves x y (Second (t ∷ x)) (Second (t ∷ y)) → Moves x y (past code (t ∷ x) (Second (t ∷ x))) (past code (t ∷ y) (Second (t ∷ y)))
   past_first t x y e h =
@@ -153,8 +158,8 @@ module _ (A B : Type 0) (code : ℕ) (codes : List ℕ) (ca : Coded A) (cb : Cod
       (moves_becoming x y This (ca.run (t ∷ x)) (ca.run (t ∷ y)) (la.local (t ∷ []) x y)) (past_first t x y q (moves_becoming x y That (cb.run (t ∷ x)) (cb.run (t ∷ y)) (lb.local (t ∷ []) x y))))
       (cases_Bool (kind_code t.kind == code))
     where
-    too_near : (k : ℕ) → k ≤ length x → length x < k → ⊥
-    too_near k a b = omega (arith, a, b)
+      too_near : (k : ℕ) → k ≤ length x → length x < k → ⊥
+      too_near k a b = omega (arith, a, b)
   local_seconds (t ∷ u ∷ p) x y =
       moves_test (Tested (t ∷ u ∷ (p ++ x))) (Tested (t ∷ u ∷ (p ++ y))) x y (becoming This (ca.run (t ∷ u ∷ (p ++ x)))) (becoming This (ca.run (t ∷ u ∷ (p ++ y)))) (past code (t ∷ u ∷ (p ++ x)) (Second (t ∷ u ∷ (p ++ x)))) (past code (t ∷ u ∷ (p ++ y)) (Second (t ∷ u ∷ (p ++ y)))) refl
       (moves_becoming x y This (ca.run (t ∷ u ∷ (p ++ x))) (ca.run (t ∷ u ∷ (p ++ y))) (la.local (t ∷ u ∷ p) x y))
@@ -175,21 +180,28 @@ module _ (A B : Type 0) (code : ℕ) (codes : List ℕ) (ca : Coded A) (cb : Cod
 
   pub seconds_laws : Lawful (Either A B) (formed Choice)
   seconds_laws = record {
-    appends = appends; plain = plain; within = within_seconds;
+    appends = appends;
+    plain = plain;
+    within = within_seconds;
     sound = λ ts. by_test (Good (Stands (formed Choice) ts)) ts
-    (λ e. good_becoming (Stands (formed ca) ts) (Stands (formed Choice) ts) This (ca.run ts) (la.sound ts) (λ a r s. s))
-    (λ e. let g = good_becoming (Stands (formed cb) ts) (Stands (formed Choice) ts) That (cb.run ts) (lb.sound ts) (λ b r s. s) in by_past (Good (Stands (formed Choice) ts)) ts (Second ts) g (λ l. good_noting (Stands (formed Choice) ts) l (Second ts) g));
-    longest = longest_seconds; exact = exact_seconds; opens = opens_seconds; refuses = refuses_seconds;
-    total = λ e ts. absurd (false≢true e); local = local_seconds;
+        (λ e. good_becoming (Stands (formed ca) ts) (Stands (formed Choice) ts) This (ca.run ts) (la.sound ts) (λ a r s. s))
+        (λ e. let g = good_becoming (Stands (formed cb) ts) (Stands (formed Choice) ts) That (cb.run ts) (lb.sound ts) (λ b r s. s) in by_past (Good (Stands (formed Choice) ts)) ts (Second ts) g (λ l. good_noting (Stands (formed Choice) ts) l (Second ts) g));
+    longest = longest_seconds;
+    exact = exact_seconds;
+    opens = opens_seconds;
+    refuses = refuses_seconds;
+    total = λ e ts. absurd (false≢true e);
+    local = local_seconds;
     begins = λ ts. by_test (λ m. Begins (Either A B) (formed Choice) ts (reach m)) ts
-    (λ e. subst (λ k. Begins (Either A B) (formed Choice) ts k) (sym (reach_becoming This (ca.run ts))) (begins_as A (Either A B) (formed ca) (formed Choice) This ts (reach (ca.run ts)) (λ us a z s. s) (la.begins ts)))
-    (λ e. past_begins ts);
+        (λ e. subst (λ k. Begins (Either A B) (formed Choice) ts k) (sym (reach_becoming This (ca.run ts))) (begins_as A (Either A B) (formed ca) (formed Choice) This ts (reach (ca.run ts)) (λ us a z s. s) (la.begins ts)))
+        (λ e. past_begins ts);
     least = record { value = This la.least.value; tokens = la.least.tokens; spelled = la.least.spelled };
   }
     where
-    appends : (o : Either A B) (r : List Told) → Choice.fits o ≡ true → Choice.tell o r ≡ Choice.tell o [] ++ r
-    appends (This a) r g = la.appends a r g
-    appends (That b) r g = lb.appends b r g
-    plain : (o : Either A B) → Choice.fits o ≡ true → Plain (Choice.tell o [])
-    plain (This a) g = la.plain a g
-    plain (That b) g = lb.plain b g
+      appends : (o : Either A B) (r : List Told) → Choice.fits o ≡ true → Choice.tell o r ≡ Choice.tell o [] ++ r
+      appends (This a) r g = la.appends a r g
+      appends (That b) r g = lb.appends b r g
+
+      plain : (o : Either A B) → Choice.fits o ≡ true → Plain (Choice.tell o [])
+      plain (This a) g = la.plain a g
+      plain (That b) g = lb.plain b g

@@ -1,18 +1,17 @@
 -- A value of one form with a certain token behind it, and more; or else another form.
-use Rattle.std.proofs.Common.{◌≡◌, ℕ, zero, suc, ◌+◌, ◌<◌, ◌≤◌, min, Bool, true, false, cond, List, [], ◌∷◌, ◌++◌, length, length-append, append_assoc, refl, sym, ap, ◌∙◌, subst, ⊎_elim, ◌⊎◌, inl, inr, arith}
-use Rattle.std.proofs.lemmas.Bool.{false≢true, cond_both, cond-true, cond-false, cases_Bool, cases_lt, and_parts, and_from}
-use Rattle.std.specs.Prelude.{◌&&◌, ◌||◌, ◌==◌}
+use Rattle.std.proofs.Common.{◌≡◌, ℕ, ◌+◌, ◌<◌, ◌≤◌, min, Bool, true, false, cond, List, [], ◌∷◌, ◌++◌, length, refl, sym, ap, ◌∙◌, subst, ⊎_elim, inl, arith}
+use Rattle.std.proofs.lemmas.Bool.{false≢true, cond_both, cond-true, cases_Bool}
 use Rattle.jc_lexer.specs.declared.token.Token.{Token}
 use Rattle.jc_grammar.specs.Told.{Told}
 use Rattle.jc_reading.specs.Kinds.{is_in, front_code, one_of}
-use Rattle.jc_reading.specs.Reading.{Read, Found, Stopped, Run, noting, becoming, Either, This, That, Takes}
+use Rattle.jc_reading.specs.Reading.{Read, Found, Stopped, noting, becoming, Either, This, That}
 use Rattle.jc_reading.proofs.Steps.{Good, Within, Goes, IsFound, Refuses, reach, Moved, Moves, Plain, good_becoming, good_noting, within_becoming, within_noting, within_more, goes_becoming, goes_noting, found_becoming, found_noting, reach_becoming, reach_noting, moves_becoming, moved_noting, takes_front}
-use Rattle.jc_reading.proofs.Forms.{Form, Lawful, Stands, Begins, Least, Opens, begins_as, begins_fill, begins_behind, begins_pick}
+use Rattle.jc_reading.proofs.Forms.{Form, Lawful, Stands, Begins, Opens, begins_as, begins_fill, begins_behind, begins_pick}
 use Rattle.jc_reading.proofs.Pairs.{pair, Meet, pair_laws, cut, join}
 use Rattle.jc_reading.proofs.Choices.{tell_either, fits_either}
 use Rattle.jc_reading.proofs.Signs.{apart_sets, none_common, within_sets, all_in}
 use Rattle.jc_parse_parts.specs.Reading.{tried, trying}
-use Rattle.jc_parse_parts.proofs.Coded.{Coded, formed, in_first, in_second, in_order, in_order_laws, with_next}
+use Rattle.jc_parse_parts.proofs.Coded.{Coded, formed, in_first, in_second, in_order}
 
 module _ (A B C : Type 0) (codes : List ℕ) (ca : Coded A) (cc : Coded C) (cb : Coded B) where
   abbrev pub attempted : Coded (Either (A × C) B)
@@ -20,7 +19,9 @@ module _ (A B C : Type 0) (codes : List ℕ) (ca : Coded A) (cc : Coded C) (cb :
     tell = tell_either (in_order ca cc).tell cb.tell;
     fits = fits_either (in_order ca cc).fits cb.fits;
     run = trying codes ca.run cc.run cb.run;
-    starts = ca.starts ++ cb.starts; goes = cc.goes ++ cb.goes; empties = false;
+    starts = ca.starts ++ cb.starts;
+    goes = cc.goes ++ cb.goes;
+    empties = false;
   }
 
   pub record Attempts : Type 0 where
@@ -116,8 +117,8 @@ module _ (A B C : Type 0) (codes : List ℕ) (ca : Coded A) (cc : Coded C) (cb :
       let w = parted ts p r s in
       ⊎_elim (λ o. inl (in_first ca.starts cb.starts (front_code ts) o.0, shorter w.0 o.1 (lc.opens w.0 p.1 r w.2))) (λ o. absurd (false≢true (sym d.solid ∙ o.1))) (la.opens ts p.0 w.0 w.1)
     where
-    shorter : (m : List Token) → length m < length ts → Opens (formed cc) m r → length r < length ts
-    shorter m lt o = ⊎_elim (λ i. omega (arith, i.1, lt)) (λ i. omega (arith, lt, ap length i.0)) o
+      shorter : (m : List Token) → length m < length ts → Opens (formed cc) m r → length r < length ts
+      shorter m lt o = ⊎_elim (λ i. omega (arith, i.1, lt)) (λ i. omega (arith, lt, ap length i.0)) o
   opens_tries ts (That b) r s = ⊎_elim (λ o. inl (in_second ca.starts cb.starts (front_code ts) o.0, o.1)) (λ o. absurd (false≢true (sym d.solid' ∙ o.1))) (lb.opens ts b r s)
 
   no_first : (ts : List Token) → one_of Whole.starts ts ≡ false → one_of ca.starts ts ≡ false
@@ -149,12 +150,12 @@ module _ (A B C : Type 0) (codes : List ℕ) (ca : Coded A) (cc : Coded C) (cb :
   moved_found p x y a b r s [] l k ab rq sq e le lt =
       absurd (none l (far_first (one_of codes r) x l (first_part a (cc.run r)) (becoming That (cb.run (p ++ x))) lt) (subst (λ (v : List Token). l ≤ length v) rq le))
     where
-    none : (l : ℕ) → length x < l → l ≤ length x → ⊥
-    none l a b = omega (arith, a, b)
+      none : (l : ℕ) → length x < l → l ≤ length x → ⊥
+      none l a b = omega (arith, a, b)
   moved_found p x y a b r s (u ∷ q) l k ab rq sq e le lt =
       let lt' = subst (λ (v : List Token). length x < reach (Run_on (p ++ x) (Found a v l))) rq lt in
       let m = moved_test (one_of codes (u ∷ (q ++ x))) x y l k (first_part a (cc.run (u ∷ (q ++ x)))) (first_part a (cc.run (u ∷ (q ++ y)))) (becoming That (cb.run (p ++ x))) (becoming That (cb.run (p ++ y))) e
-        (moves_becoming x y (λ c. This (a, c)) (cc.run (u ∷ (q ++ x))) (cc.run (u ∷ (q ++ y))) (lc.local (u ∷ q) x y)) (moves_becoming x y That (cb.run (p ++ x)) (cb.run (p ++ y)) (lb.local p x y)) lt' in
+      (moves_becoming x y (λ c. This (a, c)) (cc.run (u ∷ (q ++ x))) (cc.run (u ∷ (q ++ y))) (lc.local (u ∷ q) x y)) (moves_becoming x y That (cb.run (p ++ x)) (cb.run (p ++ y)) (lb.local p x y)) lt' in
       let m1 = subst (λ (v : List Token). Moved x y (Run_on (p ++ x) (Found a v l)) (Run_on (p ++ y) (Found a (u ∷ (q ++ y)) k))) (sym rq) m in
       let m2 = subst (λ (v : List Token). Moved x y (Run_on (p ++ x) (Found a r l)) (Run_on (p ++ y) (Found a v k))) (sym sq) m1 in
       subst (λ (c : A). Moved x y (Run_on (p ++ x) (Found a r l)) (Run_on (p ++ y) (Found c s k))) ab m2
@@ -191,8 +192,13 @@ module _ (A B C : Type 0) (codes : List ℕ) (ca : Coded A) (cc : Coded C) (cb :
 
   pub attempted_laws : Lawful (Either (A × C) B) (formed Whole)
   attempted_laws = record {
-    appends = appends; plain = plain; within = λ ts. within_on ts (ca.run ts) (la.within ts); sound = λ ts. sound_on ts (ca.run ts) (la.sound ts);
-    longest = longest_tries; exact = exact_tries; opens = opens_tries;
+    appends = appends;
+    plain = plain;
+    within = λ ts. within_on ts (ca.run ts) (la.within ts);
+    sound = λ ts. sound_on ts (ca.run ts) (la.sound ts);
+    longest = longest_tries;
+    exact = exact_tries;
+    opens = opens_tries;
     refuses = λ ts g. refuses_on ts (ca.run ts) (la.refuses ts (no_first ts g)) (lb.refuses ts (no_second ts g));
     total = λ e ts. absurd (false≢true e);
     local = λ p x y. moves_on p x y (ca.run (p ++ x)) (ca.run (p ++ y)) (la.within (p ++ x)) (la.local p x y);
@@ -200,9 +206,10 @@ module _ (A B C : Type 0) (codes : List ℕ) (ca : Coded A) (cc : Coded C) (cb :
     least = record { value = That lb.least.value; tokens = lb.least.tokens; spelled = lb.least.spelled };
   }
     where
-    appends : (o : Either (A × C) B) (r : List Told) → Whole.fits o ≡ true → Whole.tell o r ≡ Whole.tell o [] ++ r
-    appends (This p) r g = both_laws.appends p r g
-    appends (That b) r g = lb.appends b r g
-    plain : (o : Either (A × C) B) → Whole.fits o ≡ true → Plain (Whole.tell o [])
-    plain (This p) g = both_laws.plain p g
-    plain (That b) g = lb.plain b g
+      appends : (o : Either (A × C) B) (r : List Told) → Whole.fits o ≡ true → Whole.tell o r ≡ Whole.tell o [] ++ r
+      appends (This p) r g = both_laws.appends p r g
+      appends (That b) r g = lb.appends b r g
+
+      plain : (o : Either (A × C) B) → Whole.fits o ≡ true → Plain (Whole.tell o [])
+      plain (This p) g = both_laws.plain p g
+      plain (That b) g = lb.plain b g

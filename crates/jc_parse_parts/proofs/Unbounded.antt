@@ -1,11 +1,11 @@
 -- A form that is read with room for as many parts as there are tokens.
-use Rattle.std.proofs.Common.{◌≡◌, ℕ, zero, suc, ◌+◌, ◌<◌, ◌≤◌, Bool, true, false, List, [], ◌∷◌, ◌++◌, length, length-append, refl, sym, ap, ◌∙◌, subst, ⊎_elim, ◌⊎◌, inl, inr, arith}
+use Rattle.std.proofs.Common.{◌≡◌, ℕ, ◌+◌, ◌<◌, ◌≤◌, Bool, true, false, List, ◌++◌, length, refl, sym, ap, ◌∙◌, subst, ⊎_elim, arith}
 use Rattle.std.proofs.lemmas.Bool.{false≢true}
 use Rattle.jc_lexer.specs.declared.token.Token.{Token}
 use Rattle.jc_grammar.specs.Told.{Told}
 use Rattle.jc_reading.specs.Reading.{Read, Found, Stopped, Run, ◌>>=◌, noting}
-use Rattle.jc_reading.proofs.Steps.{Good, Within, Goes, IsFound, Refuses, reach, Moved, Moves, Plain}
-use Rattle.jc_reading.proofs.Forms.{Form, Lawful, Stands, Begins, Least, Opens}
+use Rattle.jc_reading.proofs.Steps.{Good, Moves}
+use Rattle.jc_reading.proofs.Forms.{Form, Lawful, Stands}
 use Rattle.jc_parse_parts.proofs.Coded.{Coded, formed}
 
 pub good_more : {A : Type 0} (P Q : A → List Token → Type 0) (m : Read A) → ((a : A) (r : List Token) → P a r → Q a r) → Good P m → Good Q m
@@ -59,6 +59,6 @@ module _ (V : Type 0) (tell : V → List Told → List Told) (starts goes : List
       total = λ e ts. (h.lawful (length ts)).total e ts;
       local = moved_there;
       begins = λ ts. let b = (h.lawful (length ts)).begins ts in
-        record { front = b.front; back = b.back; whole = b.whole; left = b.left; value = b.value; more = b.more; spelled = λ z. ((b.spelled z).0, h.down (length ts) b.value (b.spelled z).1) };
+          record { front = b.front; back = b.back; whole = b.whole; left = b.left; value = b.value; more = b.more; spelled = λ z. ((b.spelled z).0, h.down (length ts) b.value (b.spelled z).1) };
       least = let l = (h.lawful 0).least in record { value = l.value; tokens = l.tokens; spelled = λ z. ((l.spelled z).0, h.down 0 l.value (l.spelled z).1) };
     }

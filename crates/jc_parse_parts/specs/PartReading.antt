@@ -1,5 +1,5 @@
 -- How the parts of units are read: names, annotations, modifiers, type parameters, formals, variables and heads (JLS 7, 8, 9).
-use Rattle.std.specs.Prelude.{◌≡◌, ℕ, zero, suc, Bool, true, false, cond, ◌==◌, List, [], ◌∷◌, map, length, Option, Some, None}
+use Rattle.std.specs.Prelude.{ℕ, zero, suc, Bool, true, false, List, [], ◌∷◌, map, length, Option, Some, None}
 use Rattle.jc_lexer.specs.declared.token.Key.{Key}
 use Rattle.jc_lexer.specs.declared.token.Key.TheVariants as key_of
 use Rattle.jc_lexer.specs.declared.token.Sign.{Sign}
@@ -29,8 +29,8 @@ use Rattle.jc_tree.specs.declared.statement.TypeParam.{TypeParam}
 use Rattle.jc_tree.specs.declared.statement.TypeParams.{TypeParams}
 use Rattle.jc_tree.specs.declared.statement.Var.{Var}
 use Rattle.jc_reading.specs.Kinds.{sign_code, key_code}
-use Rattle.jc_reading.specs.Reading.{Read, Found, Stopped, Run, found, as_new, in_turn, perhaps, any_number, each_behind, Either, This, That, either, picking, behind_it, commas_run, of_kind, at_kind, an_ident_at}
-use Rattle.jc_parse_type.specs.TypeReading.{dims_run, type_run, class_run, at_its_place}
+use Rattle.jc_reading.specs.Reading.{Stopped, Run, found, as_new, in_turn, perhaps, any_number, each_behind, Either, This, That, either, picking, behind_it, commas_run, of_kind, at_kind, an_ident_at}
+use Rattle.jc_parse_type.specs.TypeReading.{dims_run, type_run, at_its_place}
 use Rattle.jc_parse_parts.specs.Reading.{with_room, followed, preferring}
 
 -- how expressions are read at each height

@@ -1,20 +1,14 @@
 -- Forms together with their laws, and those that are made of others.
-use Rattle.std.proofs.Common.{◌≡◌, ℕ, zero, suc, Bool, true, false, List, [], ◌∷◌, ◌++◌, length, Option, Some, None, refl, sym, ap, ◌∙◌, subst, ⊎_elim, ◌⊎◌, inl, inr, arith}
-use Rattle.std.proofs.lemmas.Bool.{false≢true, and_from, and_parts, or_left, or_right, or_cases, cases_Bool}
-use Rattle.std.specs.Prelude.{◌&&◌, ◌||◌, nat_le}
+use Rattle.std.proofs.Common.{◌≡◌, ℕ, suc, true, false, List, Option, refl, sym, ◌∙◌, ⊎_elim, inl, inr}
+use Rattle.std.proofs.lemmas.Bool.{false≢true}
 use Rattle.jc_lexer.specs.declared.token.Key.{Key}
 use Rattle.jc_lexer.specs.declared.token.Sign.{Sign}
-use Rattle.jc_lexer.specs.declared.token.Sign.TheVariants as sign_of
-use Rattle.jc_lexer.specs.declared.token.Token.{Token}
 use Rattle.jc_tree.specs.declared.name.Ident.{Ident}
-use Rattle.jc_grammar.specs.Told.{Told}
-use Rattle.jc_reading.specs.Kinds.{sign_code, key_code, word_code}
-use Rattle.jc_reading.specs.Reading.{Read, Found, Stopped, Run, Either, This, That, becoming}
-use Rattle.jc_reading.proofs.Forms.{Form, Lawful, Stands}
-use Rattle.jc_reading.proofs.Signs.{sign_laws, sign_at_laws, key_laws, key_at_laws, ident_laws, none_common, all_in}
+use Rattle.jc_reading.proofs.Forms.{Lawful}
+use Rattle.jc_reading.proofs.Signs.{sign_laws, sign_at_laws, key_laws, key_at_laws, ident_laws, none_common}
 use Rattle.jc_parse_parts.specs.Reading.{with_room}
-use Rattle.jc_parse_parts.proofs.Coded.{Coded, formed, in_order, in_order_laws, optional, optional_laws, repeated, repeated_laws, listed, listed_laws, one_or, Apart, one_or_laws}
-use Rattle.jc_parse_parts.proofs.Lowest.{Law, Void, rerun, rerun_laws, roomy, optional_law, repeated_law}
+use Rattle.jc_parse_parts.proofs.Coded.{Coded, formed, in_order, in_order_laws, optional, optional_laws, repeated, repeated_laws}
+use Rattle.jc_parse_parts.proofs.Lowest.{Law, rerun_laws, roomy}
 use Rattle.jc_parse_parts.proofs.PartForms.{sign_form, sign_at_form, key_form, key_at_form, ident_form}
 
 pub record Has (A : Type 0) : Type 0 where

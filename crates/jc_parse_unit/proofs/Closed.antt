@@ -1,14 +1,14 @@
 -- Values that are found whatever follows.
-use Rattle.std.proofs.Common.{◌≡◌, ℕ, Bool, true, false, cond, List, [], ◌∷◌, Option, Some, None, refl, sym, ap, ◌∙◌, subst, ⊎_elim, ◌⊎◌, inl, inr, arith}
+use Rattle.std.proofs.Common.{◌≡◌, ℕ, Bool, true, false, List, [], Some, sym, ap, ◌∙◌, subst, ⊎_elim}
 use Rattle.std.proofs.lemmas.Bool.{false≢true, cond-true, cond-false}
 use Rattle.jc_lexer.specs.declared.token.Token.{Token}
 use Rattle.jc_grammar.specs.Told.{Told}
-use Rattle.jc_reading.specs.Kinds.{is_in, front_code, one_of}
-use Rattle.jc_reading.specs.Reading.{Read, Found, Stopped, Run, becoming, joined, perhaps_from, as_new, Either, This, That, Takes}
+use Rattle.jc_reading.specs.Kinds.{front_code, one_of}
+use Rattle.jc_reading.specs.Reading.{Read, becoming, joined, perhaps_from, as_new, Either, This, That, Takes}
 use Rattle.jc_reading.proofs.Steps.{IsFound, found_bind, found_becoming}
-use Rattle.jc_reading.proofs.Forms.{Form, Lawful, Stands}
+use Rattle.jc_reading.proofs.Forms.{Lawful, Stands}
 use Rattle.jc_reading.proofs.Pairs.{cut}
-use Rattle.jc_reading.proofs.Signs.{none_common, all_in, apart_sets, within_sets}
+use Rattle.jc_reading.proofs.Signs.{none_common, apart_sets, within_sets}
 use Rattle.jc_parse_parts.proofs.Coded.{Coded, formed, in_order, optional, one_or, Apart, made, Makes}
 
 -- where the second part is found whatever follows

@@ -1,10 +1,10 @@
 -- The statements of each context, together.
-use Rattle.std.proofs.Common.{◌≡◌, ℕ, zero, suc, max, Bool, true, false, cond, List, [], ◌∷◌, ◌++◌, map, length, Option, Some, None, refl, sym, ap, ◌∙◌, subst, ⊎_elim, ◌⊎◌, inl, inr, arith}
-use Rattle.std.proofs.Math.Bool.{and-true, and_comm}
+use Rattle.std.proofs.Common.{◌≡◌, ℕ, suc, Bool, true, false, List, [], ◌∷◌, ◌++◌, refl, sym, ap, ◌∙◌, subst, ⊎_elim, arith}
+use Rattle.std.proofs.Math.Bool.{and_comm}
 use Rattle.std.proofs.Math.Path.{fun_ext}
-use Rattle.std.proofs.lemmas.Bool.{false≢true, and_parts, and_from, or_left, or_right, or_cases, cases_Bool, cond-true, cond-false}
+use Rattle.std.proofs.lemmas.Bool.{false≢true, or_cases, cond-true, cond-false}
 use Rattle.std.proofs.lemmas.Grind.{common_steps}
-use Rattle.std.specs.Prelude.{not, ◌&&◌, ◌||◌, ◌==◌, nat_le}
+use Rattle.std.specs.Prelude.{not, ◌&&◌, ◌||◌, nat_le}
 use Rattle.jc_lexer.specs.declared.token.Key.TheVariants as key_of
 use Rattle.jc_lexer.specs.declared.token.Sign.TheVariants as sign_of
 use Rattle.jc_lexer.specs.declared.token.Token.{Token}
@@ -17,23 +17,22 @@ use Rattle.jc_tree.specs.Heights.{stmt_height}
 use Rattle.jc_tree.proofs.HeightsOfStatements.{stmt_height-Empty}
 use Rattle.jc_grammar.specs.Told.{Told}
 use Rattle.jc_grammar.specs.Statements.{stmt_tokens}
-use Rattle.jc_grammar.specs.Units.{StmtShape, ClauseShape, Role, role_in_body, role_behind_else, role_in_switch, role_in_block, in_body, in_block, in_switch, behind_else, stmt_shape, stmt_shape_step, is_member, clause_shape, is_declaration}
+use Rattle.jc_grammar.specs.Units.{StmtShape, ClauseShape, role_in_body, role_behind_else, role_in_switch, in_body, in_switch, behind_else, stmt_shape, stmt_shape_step, is_member, clause_shape, is_declaration}
 use Rattle.jc_grammar.proofs.ShapesOfStatements.{stmt_shape-out, stmt_shape-Empty}
-use Rattle.jc_reading.specs.Kinds.{kind_code, sign_code, key_code, word_code, is_in, front_code, one_of}
-use Rattle.jc_reading.specs.Reading.{Read, Found, Stopped, Run, becoming, Takes, Either, This, That}
+use Rattle.jc_reading.specs.Kinds.{sign_code, key_code, front_code, one_of}
+use Rattle.jc_reading.specs.Reading.{Read, becoming, Takes, Either, This, That}
 use Rattle.jc_reading.proofs.Steps.{IsFound, found_becoming}
-use Rattle.jc_reading.proofs.Forms.{Form, Lawful, Stands}
+use Rattle.jc_reading.proofs.Forms.{Lawful, Stands}
 use Rattle.jc_reading.proofs.Rooms.{room_above, room_suc}
 use Rattle.jc_reading.proofs.Signs.{none_common, all_in, apart_sets, within_sets}
 use Rattle.jc_parse_parts.specs.Reading.{either_one}
 use Rattle.jc_parse_parts.specs.PartReading.{Exprs}
-use Rattle.jc_parse_parts.proofs.Coded.{Coded, formed, Apart, one_or, widened, widened_laws, Makes}
+use Rattle.jc_parse_parts.proofs.Coded.{Coded, formed, Apart, widened_laws}
 use Rattle.jc_parse_parts.proofs.ExprForms.{ExprLaws, expr_codes}
-use Rattle.jc_parse_parts.proofs.Lowest.{Law, Void, merged, merged_law}
+use Rattle.jc_parse_parts.proofs.Lowest.{Law, merged, merged_law}
 use Rattle.jc_parse_parts.proofs.ModifierForms.{modifier_codes}
-use Rattle.jc_parse_unit.specs.UnitReading.{Level, if_codes, statement_codes, simple_run, other_run, body_run, case_item_run}
+use Rattle.jc_parse_unit.specs.UnitReading.{Level, if_codes, statement_codes, other_run, body_run, case_item_run}
 use Rattle.jc_parse_unit.proofs.Bundles.{lawful_by}
-use Rattle.jc_parse_unit.proofs.Closed.{closed_made, closed_this, closed_that}
 use Rattle.jc_parse_unit.proofs.SimpleStatements.{stmt_codes, else_codes, behind_codes, LevelLaws, Layer, good_at, is_block, is_empty, is_while, is_do, is_return, is_break, is_continue, is_throw, block_coded, block_law, empty_coded, empty_law, while_coded, while_law, closed_while}
 use Rattle.jc_parse_unit.proofs.Jumps.{do_coded, do_law, return_coded, return_law, break_coded, break_law, continue_coded, continue_law, throw_coded, throw_law}
 use Rattle.jc_parse_unit.proofs.Switches.{is_switch, switch_coded, switch_law}
@@ -130,8 +129,8 @@ shaped_other s = ap (λ (g : StmtShape). behind_else g) (stmt_shape-out s) ∙ r
 room_other : (h : ℕ) (s : Stmt) → (nat_le (stmt_height s) (suc h) && behind_else (stmt_shape s)) ≡ (allowed_other (out-Stmt s) && good_at h s)
 room_other h s = ap (λ b. nat_le (stmt_height s) (suc h) && b) (shaped_other s) ∙ swap (nat_le (stmt_height s) (suc h)) (allowed_other (out-Stmt s)) (stmt_shape s).good
   where
-  swap : (n a g : Bool) → (n && (a && g)) ≡ (a && (n && g))
-  swap n a g = grind (arith, common_steps)
+    swap : (n a g : Bool) → (n && (a && g)) ≡ (a && (n && g))
+    swap n a g = grind (arith, common_steps)
 
 abbrev pub allowed_body : Layer → Bool
 allowed_body layer = (is_if layer || (is_simple layer || is_plain layer))
@@ -167,8 +166,8 @@ shaped_body s = ap (λ (g : StmtShape). in_body g) (stmt_shape-out s) ∙ roles_
 room_body : (h : ℕ) (s : Stmt) → (nat_le (stmt_height s) (suc h) && in_body (stmt_shape s)) ≡ (allowed_body (out-Stmt s) && good_at h s)
 room_body h s = ap (λ b. nat_le (stmt_height s) (suc h) && b) (shaped_body s) ∙ swap (nat_le (stmt_height s) (suc h)) (allowed_body (out-Stmt s)) (stmt_shape s).good
   where
-  swap : (n a g : Bool) → (n && (a && g)) ≡ (a && (n && g))
-  swap n a g = grind (arith, common_steps)
+    swap : (n a g : Bool) → (n && (a && g)) ≡ (a && (n && g))
+    swap n a g = grind (arith, common_steps)
 
 abbrev pub allowed_switch : Layer → Bool
 allowed_switch layer = (is_if layer || (is_simple layer || (is_moded_local layer || is_word layer)))
@@ -204,8 +203,8 @@ shaped_switch s = ap (λ (g : StmtShape). in_switch g) (stmt_shape-out s) ∙ ro
 room_switch : (h : ℕ) (s : Stmt) → (nat_le (stmt_height s) (suc h) && in_switch (stmt_shape s)) ≡ (allowed_switch (out-Stmt s) && good_at h s)
 room_switch h s = ap (λ b. nat_le (stmt_height s) (suc h) && b) (shaped_switch s) ∙ swap (nat_le (stmt_height s) (suc h)) (allowed_switch (out-Stmt s)) (stmt_shape s).good
   where
-  swap : (n a g : Bool) → (n && (a && g)) ≡ (a && (n && g))
-  swap n a g = grind (arith, common_steps)
+    swap : (n a g : Bool) → (n && (a && g)) ≡ (a && (n && g))
+    swap n a g = grind (arith, common_steps)
 
 -- the forms
 

@@ -1,76 +1,47 @@
 -- The statement `for`.
-use Rattle.std.proofs.Common.{length-append, ◌≡◌, ℕ, zero, suc, max, Bool, true, false, cond, List, [], ◌∷◌, ◌++◌, map, length, Option, Some, None, refl, sym, ap, ◌∙◌, subst, ⊎_elim, ◌⊎◌, inl, inr, arith}
-use Rattle.std.proofs.Math.Bool.{and-true}
-use Rattle.std.proofs.Math.Path.{fun_ext}
-use Rattle.std.proofs.lemmas.Bool.{false≢true, and_left, and_right, and_parts, and_from, or_left, or_right, or_cases, cases_Bool}
+use Rattle.std.proofs.Common.{◌≡◌, ℕ, zero, suc, max, Bool, true, false, List, [], ◌∷◌, map, Option, Some, None, refl, sym, ap, ◌∙◌, subst, arith}
+use Rattle.std.proofs.lemmas.Bool.{false≢true, and_right, and_parts, and_from}
 use Rattle.std.proofs.lemmas.Grind.{common_steps}
-use Rattle.std.specs.Prelude.{not, min, ◌+◌, ◌≤◌, ◌<◌, ◌&&◌, ◌||◌, ◌==◌, nat_le}
+use Rattle.std.specs.Prelude.{◌&&◌, nat_le}
 use Rattle.std.specs.List.{list_all}
 use Rattle.jc_lexer.specs.declared.token.Key.TheVariants as key_of
 use Rattle.jc_lexer.specs.declared.token.Sign.TheVariants as sign_of
 use Rattle.jc_lexer.specs.declared.token.Token.{Token}
 use Rattle.jc_tree.specs.declared.name.Ident.{Ident}
 use Rattle.jc_tree.specs.declared.expression.Expr.{Expr}
-use Rattle.jc_tree.specs.declared.statement.Clause.{Clause, out-Clause, roll-Clause, roll-out-Clause}
-use Rattle.jc_tree.specs.declared.types.ClassTree.{ClassTree}
 use Rattle.jc_tree.specs.declared.types.TypeTree.{TypeTree}
-use Rattle.jc_tree.specs.declared.statement.ClauseHead.{ClauseHead}
-use Rattle.jc_tree.specs.declared.statement.ClauseHead.TheVariants as clause_of
 use Rattle.jc_tree.specs.declared.statement.Modifier.{Modifier}
-use Rattle.jc_tree.specs.declared.statement.Resource.{Resource}
-use Rattle.jc_tree.specs.declared.statement.Resources.{Resources}
-use Rattle.jc_tree.specs.declared.statement.Declaration.{Declaration}
-use Rattle.jc_tree.specs.declared.statement.Member.{Member}
 use Rattle.jc_tree.specs.declared.statement.Stmt.{Stmt, Stmt-F, out-Stmt, roll-Stmt, roll-out-Stmt}
 use Rattle.jc_tree.specs.declared.statement.Stmt.TheVariants as stmt_of
-use Rattle.jc_tree.specs.Heights.{most, in_some, expr_height, type_height, class_height, modifier_height, clause_head_height, clause_height, resource_height, resources_of_height, stmt_height, declaration_height}
-use Rattle.jc_tree.proofs.HeightsOfStatements.{stmt_height-For, stmt_height-While, stmt_height-Do, stmt_height-Return, stmt_height-Break, stmt_height-Continue, stmt_height-Throw}
-use Rattle.jc_grammar.specs.Told.{Told, Spelled, sign, sign_at, key, key_at, ident, each}
+use Rattle.jc_tree.specs.Heights.{most, in_some, expr_height, type_height, modifier_height, stmt_height}
+use Rattle.jc_tree.proofs.HeightsOfStatements.{stmt_height-For}
+use Rattle.jc_grammar.specs.Told.{Told, sign, ident}
 use Rattle.jc_grammar.specs.Expressions.{expr_tokens}
-use Rattle.jc_grammar.specs.Expressions.{if_there}
-use Rattle.jc_grammar.specs.Types.{type_tokens, class_tokens}
-use Rattle.jc_grammar.specs.Parts.{if_some, modifiers_tokens, after_bars, resource_tokens, after_semicolons, resources_tokens}
+use Rattle.jc_grammar.specs.Types.{type_tokens}
+use Rattle.jc_grammar.specs.Parts.{if_some, modifiers_tokens}
 use Rattle.jc_grammar.specs.Shapes.{is_expr}
-use Rattle.jc_grammar.specs.Statements.{stmt_tokens, clause_tokens, braced, in_parens}
-use Rattle.jc_grammar.specs.Units.{is_for_head, is_for_init, DeclaresVars, are_locals, is_var, is_statement_expr, ClauseShape, is_of_switch, is_of_catch, is_of_finally, is_of_if, clause_with, clause_shape, switch_good, catches_good, some_clause, try_good, are_modifiers, is_resource, are_resources, is_conditional, StmtShape, Anywhere, statement, if_there_passes, in_body, in_block, in_switch, behind_else, stmt_shape, is_declaration}
-use Rattle.jc_grammar.proofs.ShapesOfStatements.{stmt_shape-For, stmt_shape-While, stmt_shape-Do, stmt_shape-Return, stmt_shape-Break, stmt_shape-Continue, stmt_shape-Throw}
-use Rattle.jc_grammar.proofs.TokensOfStatements.{stmt_tokens-For, stmt_tokens-While, stmt_tokens-Do, stmt_tokens-Return, stmt_tokens-Break, stmt_tokens-Continue, stmt_tokens-Throw}
-use Rattle.jc_reading.specs.Kinds.{kind_code, sign_code, key_code, word_code, is_in, front_code, one_of}
-use Rattle.jc_reading.specs.Reading.{Read, Found, Stopped, Run, ◌>>=◌, joined, noting, becoming, Takes, rest_of, Either, This, That, behind_it}
-use Rattle.jc_reading.proofs.Steps.{Good, Goes, IsFound, reach, reach_noting, found_becoming, found_noting, takes_cut, takes_front}
-use Rattle.jc_reading.proofs.Forms.{Form, Lawful, Stands}
-use Rattle.jc_reading.proofs.Lists.{tell_all, fits_all}
-use Rattle.jc_reading.proofs.Rooms.{room_none, room_above, room_suc, room_max, room_all}
+use Rattle.jc_grammar.specs.Statements.{stmt_tokens}
+use Rattle.jc_grammar.specs.Units.{is_for_head, is_for_init, are_locals, is_var, is_statement_expr, are_modifiers, StmtShape, if_there_passes, in_body, stmt_shape}
+use Rattle.jc_grammar.proofs.ShapesOfStatements.{stmt_shape-For}
+use Rattle.jc_grammar.proofs.TokensOfStatements.{stmt_tokens-For}
+use Rattle.jc_reading.specs.Kinds.{sign_code, key_code, word_code, front_code, one_of}
+use Rattle.jc_reading.specs.Reading.{Takes, Either, This, That, behind_it}
+use Rattle.jc_reading.proofs.Steps.{IsFound, takes_cut}
+use Rattle.jc_reading.proofs.Forms.{Lawful, Stands}
+use Rattle.jc_reading.proofs.Lists.{fits_all}
+use Rattle.jc_reading.proofs.Rooms.{room_above, room_max}
 use Rattle.jc_parse_parts.specs.Reading.{with_room}
 use Rattle.jc_parse_parts.specs.PartReading.{Exprs}
 use Rattle.jc_parse_parts.proofs.AnnotationForms.{room_and}
-use Rattle.jc_parse_parts.proofs.Coded.{Coded, formed, in_order, in_order_laws, optional, repeated, one_or, Apart, one_or_laws, Same, same_makes, made, Makes, made_laws, OfKind, kind_makes}
-use Rattle.jc_parse_parts.proofs.ExprForms.{effect_coded, ExprLaws, expr_coded, conditional_coded, expr_tall}
-use Rattle.jc_parse_parts.proofs.HeadForms.{head_starts}
-use Rattle.jc_parse_parts.proofs.Lowest.{Law, Void, roomy, one_or_law, made_law, optional_law, repeated_law, never_first, never_second}
+use Rattle.jc_parse_parts.proofs.Coded.{Coded, formed, in_order, optional, one_or, one_or_laws, made_laws, OfKind, kind_makes}
+use Rattle.jc_parse_parts.proofs.ExprForms.{effect_coded, ExprLaws, expr_coded}
+use Rattle.jc_parse_parts.proofs.Lowest.{Law, roomy, optional_law}
 use Rattle.jc_parse_parts.proofs.ModifierForms.{modifiers_coded, modifiers_coded_laws}
-use Rattle.jc_parse_parts.proofs.PartForms.{sign_form, sign_at_form, key_form, key_at_form, ident_form, class_coded, class_coded_laws, type_coded, type_coded_laws, type_never, behind_each, behind_each_laws, room_behind}
-use Rattle.jc_parse_unit.specs.UnitReading.{ForRest, ForNamed, ForParts, or_no_effects, or_no_init, basic_made, named_made, for_head_made, for_made, for_rest_run, for_named_run, for_head_run, for_run, labeled_or, labeled_made, effect_made, local_or_effect, local_made, variables_made, Variables, variables_run, label_run, plain_run, word_run, local_run, Level, Braces, CaseLabel, case_made, case_run, switch_made, switch_run, CatchParts, catch_made, catch_run, finally_made, finally_run, or_none, clauses_made, clauses_run, some_clauses_made, some_clauses_run, resource_made, resource_run, resources_made, resources_run, TryParts, try_made, try_run}
-use Rattle.jc_parse_unit.proofs.Bundles.{Has, has, a_sign, a_sign_at, a_key, a_key_at, an_ident, then_a, maybe_a, any_of, roomy_zero, roomy_suc, lawful_by}
-
+use Rattle.jc_parse_parts.proofs.PartForms.{sign_form, key_at_form, ident_form, type_coded, type_coded_laws, behind_each, behind_each_laws}
+use Rattle.jc_parse_unit.specs.UnitReading.{ForRest, ForNamed, ForParts, or_no_effects, or_no_init, basic_made, named_made, for_head_made, for_made, for_rest_run, for_named_run, for_head_run, for_run, Level}
+use Rattle.jc_parse_unit.proofs.Bundles.{has, a_sign, a_key_at, an_ident, then_a, roomy_zero, roomy_suc}
 use Rattle.jc_reading.proofs.Ledby.{unled, unled_back}
-use Rattle.jc_parse_parts.proofs.Rows.{rows, rows_tail, rows_tail_laws, Separate}
-use Rattle.jc_parse_unit.proofs.SimpleStatements.{simple_codes, stmt_codes, item_codes, else_codes, behind_codes, body_coded, item_coded, case_item_coded, LevelLaws, body_law, item_law, case_item_law, Layer, good_at, good_made, stmt_fits, stmt_made_law, told_items, all_shaped, items_fit, Parens, expr_never, parens_never, parens_has}
-
-use Rattle.jc_parse_unit.proofs.Switches.{is_catch, is_finally, catch_part, finally_part, clause_good, clause_good_made, told_clauses}
-
-use Rattle.std.proofs.lemmas.Bool.{cond-true, cond-false, cond_both, eqb-true, eq-eqb, false_from_ne_true}
-use Rattle.jc_lexer.specs.declared.token.Key.{Key}
-use Rattle.jc_lexer.specs.declared.token.Sign.{Sign}
-use Rattle.jc_lexer.specs.declared.token.TokenKind.{TokenKind}
-use Rattle.jc_lexer.specs.declared.token.TokenKind.TheVariants as kind_of
-use Rattle.jc_rules.specs.declared.text.Text.{Text}
-use Rattle.jc_tree.specs.declared.types.BaseTree.{BaseTree}
-use Rattle.jc_tree.specs.declared.types.BaseTree.TheVariants as base_of
-use Rattle.jc_tree.specs.declared.types.ClassTree.{roll-ClassTree}
-use Rattle.jc_tree.specs.declared.types.TypePart.{TypePart, roll-TypePart}
-use Rattle.jc_tree.specs.declared.types.TypeTree.{roll-TypeTree}
-use Rattle.jc_tree.specs.declared.expression.Expr.TheVariants as expr_of
+use Rattle.jc_parse_unit.proofs.SimpleStatements.{else_codes, behind_codes, body_coded, LevelLaws, Layer, good_at, good_made, stmt_fits, stmt_made_law}
 use Rattle.jc_tree.specs.declared.statement.LocalVars.{LocalVars}
 use Rattle.jc_tree.specs.declared.expression.Init.{Init}
 use Rattle.jc_tree.specs.declared.statement.ForHead.{ForHead}
@@ -78,37 +49,25 @@ use Rattle.jc_tree.specs.declared.statement.ForHead.TheVariants as for_of
 use Rattle.jc_tree.specs.declared.statement.ForInit.{ForInit}
 use Rattle.jc_tree.specs.declared.statement.ForInit.TheVariants as init_of
 use Rattle.jc_tree.specs.declared.statement.Var.{Var}
-use Rattle.jc_tree.specs.Heights.{for_height, for_init_height, init_height, local_height, var_height, base_height, part_height}
-use Rattle.jc_tree.proofs.HeightsOfTypes.{base_height-Class, class_height-made, part_height-made, type_height-made}
-use Rattle.jc_tree.proofs.HeightsOfExpressions.{expr_height-Name}
+use Rattle.jc_tree.specs.Heights.{for_height, for_init_height, local_height, var_height}
 use Rattle.jc_grammar.specs.Told.{after_commas}
-use Rattle.jc_grammar.specs.Types.{base_tokens, part_tokens}
 use Rattle.jc_grammar.specs.Told.{commas, brackets}
-use Rattle.jc_grammar.specs.Parts.{for_tokens, for_init_tokens, initialised, local_tokens, var_tokens}
-use Rattle.jc_grammar.specs.Shapes.{is_init}
-use Rattle.jc_grammar.specs.Shapes.{expr_shape, is_effect}
-use Rattle.jc_grammar.proofs.ShapesOfExpressions.{expr_shape-Name}
-use Rattle.jc_grammar.proofs.TokensOfExpressions.{expr_tokens-Name}
-use Rattle.jc_grammar.proofs.TokensOfTypes.{base_tokens-Class, class_tokens-made, part_tokens-made, type_tokens-made}
+use Rattle.jc_grammar.specs.Parts.{for_tokens, initialised, var_tokens}
 use Rattle.jc_reading.proofs.Ledby.{behind_fits}
 use Rattle.jc_reading.proofs.Pairs.{cut}
-use Rattle.jc_reading.proofs.Signs.{ident_laws, none_common, apart_sets, within_sets}
-use Rattle.jc_parse_parts.specs.Reading.{second_is, by_second, past}
-use Rattle.jc_parse_parts.proofs.FormalForms.{vars_coded, vars_laws, var_fits, var_coded}
+use Rattle.jc_reading.proofs.Signs.{apart_sets}
+use Rattle.jc_parse_parts.proofs.FormalForms.{var_fits, var_coded}
 use Rattle.jc_parse_parts.proofs.ModifierForms.{modifier_coded, modifier_coded_laws, modifiers_fit, modifier_fits, fit_modifiers}
 use Rattle.jc_parse_parts.proofs.PartForms.{told_commas}
-use Rattle.jc_parse_parts.proofs.Seconds.{seconds, Parts, seconds_laws, takes_first}
-use Rattle.jc_parse_parts.proofs.Tries.{attempted, Attempts, attempted_laws}
+use Rattle.jc_parse_parts.proofs.Tries.{attempted, attempted_laws}
 use Rattle.jc_parse_unit.proofs.Closed.{closed_order, closed_made}
-
 use Rattle.jc_reading.proofs.Ledby.{fits_some_of}
 use Rattle.jc_parse_parts.proofs.Coded.{listed, listed_laws}
-use Rattle.jc_parse_parts.proofs.ExprForms.{expr_in, expr_law, effect_in, effect_law, init_coded}
+use Rattle.jc_parse_parts.proofs.ExprForms.{expr_in, expr_law, effect_in, effect_law}
 use Rattle.jc_parse_parts.proofs.FormalForms.{Given, given_law, dims_coded_laws, var_laws}
 use Rattle.jc_parse_parts.proofs.Lowest.{listed_law}
 use Rattle.jc_parse_parts.proofs.ModifierForms.{modifier_codes}
 use Rattle.jc_parse_parts.proofs.PartForms.{dims_coded}
-
 
 module _ (x : Exprs) (h : ℕ) where
   abbrev Updates : Coded (Option (List Expr))
@@ -214,7 +173,9 @@ module _ (x : Exprs) (h : ℕ) where
       let b = and_parts (nat_le (in_some expr_height test) h && if_there_passes is_expr test) (nat_le (most (map expr_height update)) h && list_all is_statement_expr update) a.1 in
       let w = updates_back update b.1 in
       record {
-        rest = (tt, (test, (tt, w.0))); same = ap (λ (effects : List Expr). for_of.Basic init test effects) w.1; init_fits = a.0;
+        rest = (tt, (test, (tt, w.0)));
+        same = ap (λ (effects : List Expr). for_of.Basic init test effects) w.1;
+        init_fits = a.0;
         rest_fits = and_from ((optional (expr_in x h)).fits test) (true && Updates.fits w.0) (sym (test_fit test) ∙ b.0) w.2;
       }
 
@@ -312,23 +273,25 @@ module _ (x : Exprs) (h : ℕ) where
   head_of_named : (head : ForHead) (modifiers : List Modifier) (ty : TypeTree) → NamedBack head modifiers ty → (p : ForParts) × (for_head_made p ≡ head) × (HeadForm.fits p ≡ true)
   head_of_named head [] ty w = (That (That (This (ty, w.named))), w.same, and_from (nat_le (type_height ty) h) (NamedForm.fits w.named) w.type_fits w.named_fits)
   head_of_named head (m ∷ modifiers) ty w =
-      let a = and_parts (modifier_fits x h m) (fits_all (modifier_fits x h) modifiers) (sym (fit_modifiers x h (m ∷ modifiers)) ∙ w.mods) in
-      (That (This (m, (modifiers, (ty, w.named)))), w.same,
-      and_from (modifier_fits x h m) _ a.0 (and_from (modifiers_fit x h modifiers) _ (fit_modifiers x h modifiers ∙ a.1) (and_from (nat_le (type_height ty) h) (NamedForm.fits w.named) w.type_fits w.named_fits)))
+      let a = and_parts (modifier_fits x h m) (fits_all (modifier_fits x h) modifiers) (sym (fit_modifiers x h (m ∷ modifiers)) ∙ w.mods) in (
+        That (This (m, (modifiers, (ty, w.named)))),
+        w.same,
+        and_from (modifier_fits x h m) _ a.0 (and_from (modifiers_fit x h modifiers) _ (fit_modifiers x h modifiers ∙ a.1) (and_from (nat_le (type_height ty) h) (NamedForm.fits w.named) w.type_fits w.named_fits)),
+      )
 
   var_of : (v : Var) → (o : Option (Unit {0} × Init)) × (record { name = v.name; dims = v.dims; init = or_no_init o } ≡ v)
   var_of v = by v.init refl
     where
-    by : (init : Option Init) → v.init ≡ init → (o : Option (Unit {0} × Init)) × (record { name = v.name; dims = v.dims; init = or_no_init o } ≡ v)
-    by None e = (None, ap (λ (init : Option Init). record { name = v.name; dims = v.dims; init = init }) (sym e))
-    by (Some init) e = (Some (tt, init), ap (λ (init : Option Init). record { name = v.name; dims = v.dims; init = init }) (sym e))
+      by : (init : Option Init) → v.init ≡ init → (o : Option (Unit {0} × Init)) × (record { name = v.name; dims = v.dims; init = or_no_init o } ≡ v)
+      by None e = (None, ap (λ (init : Option Init). record { name = v.name; dims = v.dims; init = init }) (sym e))
+      by (Some init) e = (Some (tt, init), ap (λ (init : Option Init). record { name = v.name; dims = v.dims; init = init }) (sym e))
 
   local_back : (vars : LocalVars) (test : Option Expr) (update : List Expr) → BasicBack (init_of.Local vars) test update → NamedBack (for_of.Basic (init_of.Local vars) test update) vars.modifiers vars.ty
   local_back vars test update w =
       let v = var_of vars.first in
       let e : vars_of vars.modifiers vars.ty vars.first.name vars.first.dims v.0 (unled vars.more) ≡ vars =
-        ap (λ (first : Var). record { modifiers = vars.modifiers; ty = vars.ty; first = first; more = map behind_it (unled vars.more) }) v.1
-        ∙ ap (λ (more : List Var). record { modifiers = vars.modifiers; ty = vars.ty; first = vars.first; more = more }) (unled_back vars.more) in
+      ap (λ (first : Var). record { modifiers = vars.modifiers; ty = vars.ty; first = first; more = map behind_it (unled vars.more) }) v.1
+      ∙ ap (λ (more : List Var). record { modifiers = vars.modifiers; ty = vars.ty; first = vars.first; more = more }) (unled_back vars.more) in
       let g = sym (fit_vars vars.modifiers vars.ty vars.first.name vars.first.dims v.0 (unled vars.more)) ∙ ap (λ (u : LocalVars). nat_le (local_height u) h && are_locals u) e ∙ w.init_fits in
       let a = and_parts (modifiers_fit x h vars.modifiers) _ g in
       let b = and_parts (nat_le (type_height vars.ty) h) _ a.1 in
@@ -336,7 +299,8 @@ module _ (x : Exprs) (h : ℕ) where
       record {
         named = (vars.first.name, (vars.first.dims, That (v.0, (unled vars.more, w.rest))));
         same = ap (λ (u : LocalVars). basic_made (init_of.Local u) w.rest) e ∙ w.same;
-        mods = a.0; type_fits = b.0;
+        mods = a.0;
+        type_fits = b.0;
         named_fits = and_from (Equal.fits v.0) _ c.0 (and_from (MoreVars.fits (unled vars.more)) (Rest.fits w.rest) c.1 w.rest_fits);
       }
 
@@ -388,11 +352,15 @@ module _ (x : Exprs) (lx : ExprLaws x) (k : ℕ) where
   type_or_laws =
       attempted_laws TypeTree (List Expr × ForRest) ForNamed (word_code ∷ []) (type_coded (suc k)) (NamedForm x (suc k)) (EffectsForm x (suc k)) (type_coded_laws k) named_laws effects_rest_laws
       (record {
-        solid = refl; solid' = refl; solid'' = refl; next = refl; meets = refl;
+        solid = refl;
+        solid' = refl;
+        solid'' = refl;
+        next = refl;
+        meets = refl;
         other = λ ts p r ty q s t e.
-        let c = cut (List Expr) ForRest (formed (listed (effect_coded x (suc k)))) (formed (Rest x (suc k))) effects_laws rest_laws (λ v q. apart_sets (sign_code sign_of.Semicolon ∷ []) (listed (effect_coded x (suc k))).goes refl (front_code v) q) ts p r s in
-        let w = first_effect ts p.0 c.0 c.1 in
-        lx.effect_or_type k ts w.0 w.1 ty q w.2 t e;
+            let c = cut (List Expr) ForRest (formed (listed (effect_coded x (suc k)))) (formed (Rest x (suc k))) effects_laws rest_laws (λ v q. apart_sets (sign_code sign_of.Semicolon ∷ []) (listed (effect_coded x (suc k))).goes refl (front_code v) q) ts p r s in
+            let w = first_effect ts p.0 c.0 c.1 in
+            lx.effect_or_type k ts w.0 w.1 ty q w.2 t e;
       })
 
   for_head_laws : Lawful ForHead (formed (for_head_coded x (suc k)))

@@ -1,70 +1,44 @@
 -- The statement `if`: its arms, and what is behind the last `else`.
-use Rattle.std.proofs.Common.{length-append, ◌≡◌, ℕ, zero, suc, max, Bool, true, false, cond, List, [], ◌∷◌, ◌++◌, map, length, Option, Some, None, refl, sym, ap, ◌∙◌, subst, ⊎_elim, ◌⊎◌, inl, inr, arith}
+use Rattle.std.proofs.Common.{length-append, ◌≡◌, ℕ, zero, suc, max, Bool, true, false, cond, List, [], ◌∷◌, map, length, Option, Some, None, refl, sym, ap, ◌∙◌, arith}
 use Rattle.std.proofs.Math.Bool.{and-true}
-use Rattle.std.proofs.Math.Path.{fun_ext}
-use Rattle.std.proofs.lemmas.Bool.{false≢true, and_left, and_right, and_parts, and_from, or_left, or_right, or_cases, cases_Bool}
+use Rattle.std.proofs.lemmas.Bool.{false≢true, and_left, and_right, and_parts, and_from}
 use Rattle.std.proofs.lemmas.Grind.{common_steps}
-use Rattle.std.specs.Prelude.{not, ◌+◌, ◌≤◌, ◌<◌, ◌&&◌, ◌||◌, ◌==◌, nat_le}
-use Rattle.std.specs.List.{list_all}
+use Rattle.std.specs.Prelude.{not, ◌≤◌, ◌<◌, ◌&&◌, ◌||◌, nat_le}
 use Rattle.jc_lexer.specs.declared.token.Key.TheVariants as key_of
-use Rattle.jc_lexer.specs.declared.token.Sign.TheVariants as sign_of
 use Rattle.jc_lexer.specs.declared.token.Token.{Token}
-use Rattle.jc_tree.specs.declared.name.Ident.{Ident}
 use Rattle.jc_tree.specs.declared.expression.Expr.{Expr}
 use Rattle.jc_tree.specs.declared.statement.Clause.{Clause, out-Clause, roll-Clause, roll-out-Clause}
-use Rattle.jc_tree.specs.declared.types.ClassTree.{ClassTree}
-use Rattle.jc_tree.specs.declared.types.TypeTree.{TypeTree}
 use Rattle.jc_tree.specs.declared.statement.ClauseHead.{ClauseHead}
 use Rattle.jc_tree.specs.declared.statement.ClauseHead.TheVariants as clause_of
-use Rattle.jc_tree.specs.declared.statement.Modifier.{Modifier}
-use Rattle.jc_tree.specs.declared.statement.Resource.{Resource}
-use Rattle.jc_tree.specs.declared.statement.Resources.{Resources}
-use Rattle.jc_tree.specs.declared.statement.Declaration.{Declaration}
-use Rattle.jc_tree.specs.declared.statement.Member.{Member}
 use Rattle.jc_tree.specs.declared.statement.Stmt.{Stmt, Stmt-F, out-Stmt, roll-Stmt, roll-out-Stmt}
 use Rattle.jc_tree.specs.declared.statement.Stmt.TheVariants as stmt_of
-use Rattle.jc_tree.specs.Heights.{most, in_some, expr_height, type_height, class_height, modifier_height, clause_head_height, clause_height, resource_height, resources_of_height, stmt_height, declaration_height}
-use Rattle.jc_tree.proofs.HeightsOfStatements.{clause_height-made, clause_height-parts, stmt_height-If, stmt_height-While, stmt_height-Do, stmt_height-Return, stmt_height-Break, stmt_height-Continue, stmt_height-Throw}
-use Rattle.jc_grammar.specs.Told.{Told, Spelled, sign, sign_at, key, key_at, ident, each}
-use Rattle.jc_grammar.specs.Expressions.{expr_tokens}
-use Rattle.jc_grammar.specs.Expressions.{if_there}
-use Rattle.jc_grammar.specs.Types.{type_tokens, class_tokens}
-use Rattle.jc_grammar.specs.Parts.{if_some, modifiers_tokens, after_bars, resource_tokens, after_semicolons, resources_tokens}
+use Rattle.jc_tree.specs.Heights.{most, expr_height, clause_height, stmt_height}
+use Rattle.jc_tree.proofs.HeightsOfStatements.{stmt_height-If}
+use Rattle.jc_grammar.specs.Told.{Told}
 use Rattle.jc_grammar.specs.Shapes.{is_expr}
 use Rattle.jc_grammar.specs.Statements.{stmt_tokens, clause_tokens, after_elses}
-use Rattle.jc_grammar.specs.Units.{arms_good, one_body, if_shape, ClauseShape, is_of_switch, is_of_catch, is_of_finally, is_of_if, clause_with, clause_shape, switch_good, catches_good, some_clause, try_good, are_modifiers, is_resource, are_resources, is_conditional, StmtShape, Anywhere, statement, if_there_passes, in_body, in_block, in_switch, behind_else, stmt_shape, is_declaration}
-use Rattle.jc_grammar.proofs.ShapesOfStatements.{clause_shape-made, clause_shape-parts, stmt_shape-If, stmt_shape-While, stmt_shape-Do, stmt_shape-Return, stmt_shape-Break, stmt_shape-Continue, stmt_shape-Throw}
-use Rattle.jc_grammar.proofs.TokensOfStatements.{clause_tokens-made, stmt_tokens-If, stmt_tokens-While, stmt_tokens-Do, stmt_tokens-Return, stmt_tokens-Break, stmt_tokens-Continue, stmt_tokens-Throw}
-use Rattle.jc_reading.specs.Kinds.{kind_code, sign_code, key_code, word_code, is_in, front_code, one_of}
-use Rattle.jc_reading.specs.Reading.{Read, Found, Stopped, Run, found, becoming, joined, in_turn, of_kind, perhaps, perhaps_from, as_new, either, ◌>>=◌, Takes, Either, This, That, behind_it}
-use Rattle.jc_reading.proofs.Steps.{Good, IsFound, found_bind, found_becoming, takes_length}
-use Rattle.jc_reading.proofs.Forms.{Form, Lawful, Stands}
-use Rattle.jc_reading.proofs.Lists.{tell_all, fits_all}
-use Rattle.jc_reading.proofs.Rooms.{room_none, room_above, room_suc, room_max, room_all}
+use Rattle.jc_grammar.specs.Units.{arms_good, ClauseShape, is_of_if, clause_with, clause_shape, StmtShape, in_body, behind_else, stmt_shape}
+use Rattle.jc_grammar.proofs.ShapesOfStatements.{clause_shape-made, clause_shape-parts, stmt_shape-If}
+use Rattle.jc_grammar.proofs.TokensOfStatements.{clause_tokens-made, stmt_tokens-If}
+use Rattle.jc_reading.specs.Kinds.{kind_code, key_code, is_in, one_of}
+use Rattle.jc_reading.specs.Reading.{Read, Run, found, becoming, joined, of_kind, perhaps_from, either, Takes, Either, This, That}
+use Rattle.jc_reading.proofs.Steps.{Good, IsFound, takes_length}
+use Rattle.jc_reading.proofs.Forms.{Lawful, Stands}
+use Rattle.jc_reading.proofs.Rooms.{room_above, room_max}
 use Rattle.jc_parse_parts.specs.Reading.{with_room}
 use Rattle.jc_parse_parts.specs.PartReading.{Exprs}
-use Rattle.jc_parse_parts.proofs.AnnotationForms.{room_and}
-use Rattle.jc_parse_parts.proofs.Coded.{Coded, formed, in_order, in_order_laws, optional, repeated, one_or, Apart, one_or_laws, Same, same_makes, made, Makes, made_laws, OfKind, kind_makes}
-use Rattle.jc_parse_parts.proofs.ExprForms.{ExprLaws, expr_coded, conditional_coded, expr_tall}
-use Rattle.jc_parse_parts.proofs.HeadForms.{head_starts}
-use Rattle.jc_parse_parts.proofs.Lowest.{Law, Void, roomy, one_or_law, made_law, optional_law, repeated_law, never_first, never_second}
-use Rattle.jc_parse_parts.proofs.ModifierForms.{modifiers_coded, modifiers_coded_laws}
-use Rattle.jc_parse_parts.proofs.PartForms.{sign_form, sign_at_form, key_form, key_at_form, ident_form, class_coded, class_coded_laws, type_coded, type_coded_laws, type_never, behind_each, behind_each_laws, room_behind}
-use Rattle.jc_parse_unit.specs.UnitReading.{arm_made, arm_run, arm_open, Branch, no_more, branch_made, branch_run, if_made, if_run, Level, Braces, CaseLabel, case_made, case_run, switch_made, switch_run, CatchParts, catch_made, catch_run, finally_made, finally_run, or_none, clauses_made, clauses_run, some_clauses_made, some_clauses_run, resource_made, resource_run, resources_made, resources_run, TryParts, try_made, try_run}
-use Rattle.jc_parse_unit.proofs.Bundles.{Has, has, a_sign, a_sign_at, a_key, a_key_at, an_ident, then_a, maybe_a, any_of, roomy_zero, roomy_suc, lawful_by}
-
-use Rattle.jc_reading.proofs.Ledby.{unled, unled_back}
-use Rattle.jc_parse_parts.proofs.Rows.{rows, rows_tail, rows_tail_laws, Separate}
-use Rattle.jc_parse_unit.proofs.SimpleStatements.{simple_codes, stmt_codes, item_codes, else_codes, behind_codes, body_coded, item_coded, case_item_coded, LevelLaws, body_law, item_law, case_item_law, Layer, good_at, good_made, stmt_fits, stmt_made_law, told_items, all_shaped, items_fit, Parens, expr_never, parens_never, parens_has}
-
-use Rattle.jc_parse_unit.proofs.Switches.{is_catch, is_finally, catch_part, finally_part, clause_good, clause_good_made, told_clauses}
-
-use Rattle.std.proofs.lemmas.Bool.{cond-true, cond-false, false_from_ne_true}
-use Rattle.jc_reading.proofs.Pairs.{cut}
-use Rattle.jc_reading.proofs.Signs.{none_common, all_in, apart_sets, within_sets, key_laws}
-use Rattle.jc_reading.proofs.Choices.{tell_either, fits_either}
+use Rattle.jc_parse_parts.proofs.Coded.{Coded, formed, in_order, in_order_laws, optional, one_or, one_or_laws, same_makes, made, Makes, made_laws, OfKind, kind_makes}
+use Rattle.jc_parse_parts.proofs.ExprForms.{ExprLaws}
+use Rattle.jc_parse_parts.proofs.Lowest.{Law, roomy, never_first, never_second}
+use Rattle.jc_parse_parts.proofs.PartForms.{key_form, key_at_form}
+use Rattle.jc_parse_unit.specs.UnitReading.{arm_made, arm_run, arm_open, Branch, no_more, branch_made, branch_run, if_made, if_run, Level, or_none}
+use Rattle.jc_parse_unit.proofs.Bundles.{Has, has, a_key_at, then_a, roomy_zero, roomy_suc}
+use Rattle.jc_parse_unit.proofs.SimpleStatements.{else_codes, behind_codes, body_coded, LevelLaws, Layer, good_at, good_made, stmt_fits, stmt_made_law, Parens, parens_never, parens_has}
+use Rattle.jc_parse_unit.proofs.Switches.{clause_good, clause_good_made}
+use Rattle.std.proofs.lemmas.Bool.{false_from_ne_true}
+use Rattle.jc_reading.proofs.Signs.{key_laws}
 use Rattle.jc_parse_parts.specs.Reading.{unless, followed}
-use Rattle.jc_parse_parts.proofs.Coded.{widened, widened_laws, optional_laws}
+use Rattle.jc_parse_parts.proofs.Coded.{widened_laws, optional_laws}
 use Rattle.jc_parse_parts.proofs.Followed.{following, Follow, following_laws, following_whole}
 use Rattle.jc_parse_parts.proofs.Lowest.{idle_laws}
 use Rattle.jc_parse_parts.proofs.Unbounded.{Grows, unbounded, sized, unbounded_laws, takes_some, bind_same, good_more}
@@ -97,10 +71,11 @@ module _ (x : Exprs) (h : ℕ) (l : Level) where
       ∙ arm_bits (nat_le (expr_height test) h) (nat_le (stmt_height body) h) (is_expr test) (in_body (stmt_shape body))
 
   back_arm : (c : Clause) (head : ClauseHead) (items : List Stmt) → (out-Clause c).head ≡ head → (out-Clause c).items ≡ items → is_arm head items ≡ true → (p : ℕ × ((Unit {0} × (Expr × Unit {0})) × Stmt)) × (arm_made p ≡ c)
-  back_arm c (clause_of.If test) (s ∷ []) q i g =
-      (((out-Clause c).at, ((tt, (test, tt)), s)),
-      ap (λ (k : ClauseHead). roll-Clause (record { at = (out-Clause c).at; head = k; items = s ∷ [] })) (sym q)
-      ∙ ap (λ (list : List Stmt). roll-Clause (record { at = (out-Clause c).at; head = (out-Clause c).head; items = list })) (sym i) ∙ roll-out-Clause c)
+  back_arm c (clause_of.If test) (s ∷ []) q i g = (
+    ((out-Clause c).at, ((tt, (test, tt)), s)),
+    ap (λ (k : ClauseHead). roll-Clause (record { at = (out-Clause c).at; head = k; items = s ∷ [] })) (sym q)
+        ∙ ap (λ (list : List Stmt). roll-Clause (record { at = (out-Clause c).at; head = (out-Clause c).head; items = list })) (sym i) ∙ roll-out-Clause c,
+  )
   back_arm c _ _ q i g = absurd (false≢true g)
 
   arm_makes : Makes (ℕ × ((Unit {0} × (Expr × Unit {0})) × Stmt)) Clause ArmParts arm_made clause_tokens arm_fits
@@ -282,7 +257,12 @@ module _ (x : Exprs) (lx : ExprLaws x) (k : ℕ) (l : Level) (f : LevelLaws (suc
 
   follow : (n : ℕ) → Follow Clause Branch arm_open no_more nothing (Arm x (suc k) l) (Tail x (suc k) l n)
   follow n = record {
-    solid = refl; free = refl; bare = λ r. refl; none_fits = none_fits x (suc k) l n; none_is = refl; only = only_none x (suc k) l;
+    solid = refl;
+    free = refl;
+    bare = λ r. refl;
+    none_fits = none_fits x (suc k) l n;
+    none_is = refl;
+    only = only_none x (suc k) l;
     some = λ ts p r s e. some_tail x (suc k) l ts p r s.0 e;
     whole = λ ts c r s e q. closed_arm x lx k l f ts c r s e q;
   }
@@ -363,13 +343,13 @@ module _ (x : Exprs) (h : ℕ) (l : Level) where
   arm_shape : (head : ClauseHead) (items : List Stmt) (n : Bool) → (n && (is_of_if (clause_with head (map stmt_shape items)).part && (clause_with head (map stmt_shape items)).good)) ≡ (is_arm head items && (n && (clause_with head (map stmt_shape items)).good))
   arm_shape (clause_of.If test) [] n = none n (is_expr test)
     where
-    none : (n e : Bool) → (n && (true && (e && false))) ≡ (false && (n && (e && false)))
-    none n e = grind (arith, common_steps)
+      none : (n e : Bool) → (n && (true && (e && false))) ≡ (false && (n && (e && false)))
+      none n e = grind (arith, common_steps)
   arm_shape (clause_of.If test) (s ∷ []) n = refl
   arm_shape (clause_of.If test) (s ∷ t ∷ items) n = none n (is_expr test)
     where
-    none : (n e : Bool) → (n && (true && (e && false))) ≡ (false && (n && (e && false)))
-    none n e = grind (arith, common_steps)
+      none : (n e : Bool) → (n && (true && (e && false))) ≡ (false && (n && (e && false)))
+      none n e = grind (arith, common_steps)
   arm_shape (clause_of.Case label) items n = and_right n false refl
   arm_shape clause_of.Default items n = and_right n false refl
   arm_shape (clause_of.Catch modifiers first more name) items n = and_right n false refl
@@ -449,7 +429,12 @@ module _ (x : Exprs) (h : ℕ) (l : Level) where
 all_follow : (x : Exprs) (lx : ExprLaws x) (k : ℕ) (l : Level) (f : LevelLaws (suc k) l) → Follow Clause Branch arm_open no_more nothing (Arm x (suc k) l) (Every x (suc k) l)
 unfolding last_fits
 all_follow x lx k l f = record {
-  solid = refl; free = refl; bare = λ r. refl; none_fits = refl; none_is = refl; only = only_none x (suc k) l;
+  solid = refl;
+  free = refl;
+  bare = λ r. refl;
+  none_fits = refl;
+  none_is = refl;
+  only = only_none x (suc k) l;
   some = λ ts p r s e. some_tail x (suc k) l ts p r s.0 e;
   whole = λ ts c r s e q. closed_arm x lx k l f ts c r s e q;
 }
@@ -493,5 +478,5 @@ closed_if x lx k l f ts s r t e z =
     following_whole Clause Branch arm_open no_more nothing (Arm x (suc k) l) (Every x (suc k) l) (arm_laws x lx k l f) (every_laws x lx k l f) (all_follow x lx k l f) ts p r u (not_nothing p.1 o)
     (λ m v. closed_tail x lx k l f (length m) m p.1 r (v.0, enough x (suc k) l p.1.0 p.1.1 (length m) (short_there m p.1 v) v.1) o z))
   where
-  short_there : (m : List Token) (p : Branch) → Stands (formed (Every x (suc k) l)) m p r → size x (suc k) l p.0 p.1 ≤ length m
-  short_there m p v = let i = long_told x (suc k) l (arm_laws x lx k l f) f.other p.0 p.1 v.1 in omega (arith, i, takes_length false (branch_tell p []) m r v.0)
+    short_there : (m : List Token) (p : Branch) → Stands (formed (Every x (suc k) l)) m p r → size x (suc k) l p.0 p.1 ≤ length m
+    short_there m p v = let i = long_told x (suc k) l (arm_laws x lx k l f) f.other p.0 p.1 v.1 in omega (arith, i, takes_length false (branch_tell p []) m r v.0)

@@ -1,49 +1,35 @@
 -- Statements that their first token tells: `do` and jumps.
-use Rattle.std.proofs.Common.{◌≡◌, ℕ, zero, suc, max, Bool, true, false, cond, List, [], ◌∷◌, ◌++◌, map, length, Option, Some, None, refl, sym, ap, ◌∙◌, subst, ⊎_elim, ◌⊎◌, inl, inr, arith}
+use Rattle.std.proofs.Common.{◌≡◌, ℕ, zero, suc, max, Bool, true, false, List, [], ◌∷◌, Option, Some, None, refl, sym, ap, ◌∙◌, inl, arith}
 use Rattle.std.proofs.Math.Bool.{and-true}
-use Rattle.std.proofs.lemmas.Bool.{false≢true, and_left, and_right}
+use Rattle.std.proofs.lemmas.Bool.{false≢true}
 use Rattle.std.proofs.lemmas.Grind.{common_steps}
-use Rattle.std.specs.Prelude.{◌&&◌, ◌||◌, ◌==◌, nat_le}
-use Rattle.std.specs.List.{list_all}
+use Rattle.std.specs.Prelude.{◌&&◌, nat_le}
 use Rattle.jc_lexer.specs.declared.token.Key.TheVariants as key_of
 use Rattle.jc_lexer.specs.declared.token.Sign.TheVariants as sign_of
-use Rattle.jc_lexer.specs.declared.token.Token.{Token}
 use Rattle.jc_tree.specs.declared.name.Ident.{Ident}
 use Rattle.jc_tree.specs.declared.expression.Expr.{Expr}
-use Rattle.jc_tree.specs.declared.statement.Clause.{Clause}
-use Rattle.jc_tree.specs.declared.statement.Declaration.{Declaration}
-use Rattle.jc_tree.specs.declared.statement.Member.{Member}
 use Rattle.jc_tree.specs.declared.statement.Stmt.{Stmt, Stmt-F, out-Stmt, roll-Stmt, roll-out-Stmt}
 use Rattle.jc_tree.specs.declared.statement.Stmt.TheVariants as stmt_of
-use Rattle.jc_tree.specs.Heights.{most, in_some, expr_height, stmt_height, declaration_height}
-use Rattle.jc_tree.proofs.HeightsOfStatements.{stmt_height-Block, stmt_height-Empty, stmt_height-While, stmt_height-Do, stmt_height-Return, stmt_height-Break, stmt_height-Continue, stmt_height-Throw}
-use Rattle.jc_grammar.specs.Told.{Told, Spelled, sign, sign_at, key, key_at, ident, each}
+use Rattle.jc_tree.specs.Heights.{in_some, expr_height, stmt_height}
+use Rattle.jc_tree.proofs.HeightsOfStatements.{stmt_height-Do, stmt_height-Return, stmt_height-Break, stmt_height-Continue, stmt_height-Throw}
+use Rattle.jc_grammar.specs.Told.{Told, sign, key_at}
 use Rattle.jc_grammar.specs.Expressions.{expr_tokens}
 use Rattle.jc_grammar.specs.Parts.{if_some}
 use Rattle.jc_grammar.specs.Shapes.{is_expr}
 use Rattle.jc_grammar.specs.Statements.{stmt_tokens, labeled}
-use Rattle.jc_grammar.specs.Units.{StmtShape, Anywhere, statement, if_there_passes, in_body, in_block, in_switch, behind_else, stmt_shape, is_declaration}
-use Rattle.jc_grammar.proofs.ShapesOfStatements.{stmt_shape-Block, stmt_shape-Empty, stmt_shape-While, stmt_shape-Do, stmt_shape-Return, stmt_shape-Break, stmt_shape-Continue, stmt_shape-Throw}
-use Rattle.jc_grammar.proofs.TokensOfStatements.{stmt_tokens-Block, stmt_tokens-Empty, stmt_tokens-While, stmt_tokens-Do, stmt_tokens-Return, stmt_tokens-Break, stmt_tokens-Continue, stmt_tokens-Throw}
-use Rattle.jc_reading.specs.Kinds.{kind_code, sign_code, key_code, word_code, is_in, front_code, one_of}
-use Rattle.jc_reading.specs.Reading.{Read, Found, Stopped, Run, Either, This, That, perhaps, in_turn, at_kind}
-use Rattle.jc_reading.proofs.Steps.{IsFound}
-use Rattle.jc_reading.proofs.Forms.{Form, Lawful, Stands}
-use Rattle.jc_reading.proofs.Lists.{tell_all, fits_all}
-use Rattle.jc_reading.proofs.Rooms.{room_none, room_above, room_suc, room_max, room_all}
-use Rattle.jc_parse_parts.specs.Reading.{with_room}
+use Rattle.jc_grammar.specs.Units.{if_there_passes, in_body, stmt_shape}
+use Rattle.jc_grammar.proofs.ShapesOfStatements.{stmt_shape-Do, stmt_shape-Return, stmt_shape-Break, stmt_shape-Continue, stmt_shape-Throw}
+use Rattle.jc_grammar.proofs.TokensOfStatements.{stmt_tokens-Do, stmt_tokens-Return, stmt_tokens-Break, stmt_tokens-Continue, stmt_tokens-Throw}
+use Rattle.jc_reading.specs.Kinds.{key_code}
+use Rattle.jc_reading.proofs.Rooms.{room_above, room_max}
 use Rattle.jc_parse_parts.specs.PartReading.{Exprs}
-use Rattle.jc_parse_parts.proofs.AnnotationForms.{room_and}
-use Rattle.jc_parse_parts.proofs.Coded.{Coded, formed, in_order, optional, repeated, made, Makes, made_laws, OfKind, kind_makes}
-use Rattle.jc_parse_parts.proofs.ExprForms.{ExprLaws, expr_codes, expr_coded, expr_in, expr_law, expr_tall}
-use Rattle.jc_parse_parts.proofs.HeadForms.{head_starts}
-use Rattle.jc_parse_parts.proofs.Lowest.{Law, Void, roomy, made_law, optional_law, repeated_law, never_first, never_second}
-use Rattle.jc_parse_parts.proofs.ModifierForms.{modifier_codes}
-use Rattle.jc_parse_parts.proofs.PartForms.{sign_form, sign_at_form, key_form, key_at_form, ident_form}
-use Rattle.jc_parse_unit.specs.UnitReading.{Level, DeclarationRest, declaration_made, PlacedBraces, Braces, block_made, while_made, do_made, return_made, break_made, continue_made, throw_made, block_run, empty_run, while_run, do_run, return_run, break_run, continue_run, throw_run}
-use Rattle.jc_parse_unit.proofs.Bundles.{Has, has, a_sign, a_sign_at, a_key, a_key_at, an_ident, then_a, maybe_a, any_of, roomy_zero, roomy_suc}
-
-use Rattle.jc_parse_unit.proofs.SimpleStatements.{simple_codes, stmt_codes, item_codes, else_codes, behind_codes, body_coded, item_coded, LevelLaws, body_law, Layer, is_do, is_return, is_break, is_continue, is_throw, good_at, good_made, stmt_fits, stmt_made_law, Parens, expr_never, parens_never, parens_has}
+use Rattle.jc_parse_parts.proofs.Coded.{Coded, in_order, optional}
+use Rattle.jc_parse_parts.proofs.ExprForms.{ExprLaws, expr_coded, expr_in, expr_law}
+use Rattle.jc_parse_parts.proofs.Lowest.{Law, roomy, optional_law, never_first, never_second}
+use Rattle.jc_parse_parts.proofs.PartForms.{sign_form, key_form, key_at_form, ident_form}
+use Rattle.jc_parse_unit.specs.UnitReading.{Level, do_made, return_made, break_made, continue_made, throw_made, do_run, return_run, break_run, continue_run, throw_run}
+use Rattle.jc_parse_unit.proofs.Bundles.{has, a_sign, a_key, a_key_at, an_ident, then_a, maybe_a, roomy_zero, roomy_suc}
+use Rattle.jc_parse_unit.proofs.SimpleStatements.{body_coded, LevelLaws, Layer, is_do, is_return, is_break, is_continue, is_throw, good_at, good_made, stmt_fits, stmt_made_law, Parens, expr_never, parens_has}
 
 module _ (x : Exprs) (h : ℕ) (l : Level) where
   abbrev DoParts : Coded (ℕ × (Stmt × (Unit {0} × ((Unit {0} × (Expr × Unit {0})) × Unit {0}))))

@@ -1,48 +1,43 @@
 -- Statements that their first token tells: blocks, loops and jumps.
-use Rattle.std.proofs.Common.{◌≡◌, ℕ, zero, suc, max, Bool, true, false, cond, List, [], ◌∷◌, ◌++◌, map, length, Option, Some, None, refl, sym, ap, ◌∙◌, subst, ⊎_elim, ◌⊎◌, inl, inr, arith}
+use Rattle.std.proofs.Common.{◌≡◌, ℕ, zero, suc, max, Bool, true, false, List, [], ◌∷◌, ◌++◌, map, refl, sym, ap, ◌∙◌, inl, inr, arith}
 use Rattle.std.proofs.Math.Bool.{and-true}
-use Rattle.std.proofs.lemmas.Bool.{false≢true, and_left, and_right}
+use Rattle.std.proofs.lemmas.Bool.{false≢true, and_left}
 use Rattle.std.proofs.lemmas.Grind.{common_steps}
-use Rattle.std.specs.Prelude.{◌&&◌, ◌||◌, ◌==◌, nat_le}
+use Rattle.std.specs.Prelude.{◌&&◌, nat_le}
 use Rattle.std.specs.List.{list_all}
 use Rattle.jc_lexer.specs.declared.token.Key.TheVariants as key_of
 use Rattle.jc_lexer.specs.declared.token.Sign.TheVariants as sign_of
 use Rattle.jc_lexer.specs.declared.token.Token.{Token}
-use Rattle.jc_tree.specs.declared.name.Ident.{Ident}
 use Rattle.jc_tree.specs.declared.expression.Expr.{Expr}
 use Rattle.jc_tree.specs.declared.statement.Clause.{Clause}
 use Rattle.jc_tree.specs.declared.statement.Declaration.{Declaration}
 use Rattle.jc_tree.specs.declared.statement.Member.{Member}
 use Rattle.jc_tree.specs.declared.statement.Stmt.{Stmt, Stmt-F, out-Stmt, roll-Stmt, roll-out-Stmt}
 use Rattle.jc_tree.specs.declared.statement.Stmt.TheVariants as stmt_of
-use Rattle.jc_tree.specs.Heights.{most, in_some, expr_height, stmt_height, declaration_height}
-use Rattle.jc_tree.proofs.HeightsOfStatements.{stmt_height-Block, stmt_height-Empty, stmt_height-While, stmt_height-Do, stmt_height-Return, stmt_height-Break, stmt_height-Continue, stmt_height-Throw}
-use Rattle.jc_grammar.specs.Told.{Told, Spelled, sign, sign_at, key, key_at, ident, each}
-use Rattle.jc_grammar.specs.Expressions.{expr_tokens}
-use Rattle.jc_grammar.specs.Parts.{if_some}
+use Rattle.jc_tree.specs.Heights.{most, expr_height, stmt_height, declaration_height}
+use Rattle.jc_tree.proofs.HeightsOfStatements.{stmt_height-Block, stmt_height-Empty, stmt_height-While}
+use Rattle.jc_grammar.specs.Told.{Told, sign, sign_at, each}
 use Rattle.jc_grammar.specs.Shapes.{is_expr}
-use Rattle.jc_grammar.specs.Statements.{stmt_tokens, labeled}
-use Rattle.jc_grammar.specs.Units.{StmtShape, Anywhere, statement, if_there_passes, in_body, in_block, in_switch, behind_else, stmt_shape, is_declaration}
-use Rattle.jc_grammar.proofs.ShapesOfStatements.{stmt_shape-Block, stmt_shape-Empty, stmt_shape-While, stmt_shape-Do, stmt_shape-Return, stmt_shape-Break, stmt_shape-Continue, stmt_shape-Throw}
-use Rattle.jc_grammar.proofs.TokensOfStatements.{stmt_tokens-Block, stmt_tokens-Empty, stmt_tokens-While, stmt_tokens-Do, stmt_tokens-Return, stmt_tokens-Break, stmt_tokens-Continue, stmt_tokens-Throw}
-use Rattle.jc_reading.specs.Kinds.{kind_code, sign_code, key_code, word_code, is_in, front_code, one_of}
-use Rattle.jc_reading.specs.Reading.{Read, Found, Stopped, Run, Either, This, That, perhaps, in_turn, at_kind}
+use Rattle.jc_grammar.specs.Statements.{stmt_tokens}
+use Rattle.jc_grammar.specs.Units.{StmtShape, Anywhere, statement, in_body, in_block, in_switch, behind_else, stmt_shape, is_declaration}
+use Rattle.jc_grammar.proofs.ShapesOfStatements.{stmt_shape-Block, stmt_shape-Empty, stmt_shape-While}
+use Rattle.jc_grammar.proofs.TokensOfStatements.{stmt_tokens-Block, stmt_tokens-Empty, stmt_tokens-While}
+use Rattle.jc_reading.specs.Kinds.{sign_code, key_code, one_of}
 use Rattle.jc_reading.proofs.Steps.{IsFound}
-use Rattle.jc_reading.proofs.Forms.{Form, Lawful, Stands}
+use Rattle.jc_reading.proofs.Forms.{Lawful, Stands}
 use Rattle.jc_reading.proofs.Lists.{tell_all, fits_all}
-use Rattle.jc_reading.proofs.Rooms.{room_none, room_above, room_suc, room_max, room_all}
+use Rattle.jc_reading.proofs.Rooms.{room_above, room_suc, room_max}
 use Rattle.jc_parse_parts.specs.Reading.{with_room}
 use Rattle.jc_parse_parts.specs.PartReading.{Exprs}
 use Rattle.jc_parse_parts.proofs.AnnotationForms.{room_and}
-use Rattle.jc_parse_parts.proofs.Coded.{Coded, formed, in_order, optional, repeated, made, Makes, made_laws, OfKind, kind_makes}
-use Rattle.jc_parse_parts.proofs.ExprForms.{ExprLaws, expr_codes, expr_coded, expr_in, expr_law, expr_tall}
-use Rattle.jc_parse_parts.proofs.HeadForms.{head_starts}
-use Rattle.jc_parse_parts.proofs.Lowest.{Law, Void, roomy, made_law, optional_law, repeated_law, never_first, never_second}
+use Rattle.jc_parse_parts.proofs.Coded.{Coded, formed, in_order, repeated, made, OfKind, kind_makes}
+use Rattle.jc_parse_parts.proofs.ExprForms.{ExprLaws, expr_codes, expr_coded, expr_tall}
+use Rattle.jc_parse_parts.proofs.Lowest.{Law, Void, roomy, made_law, repeated_law, never_first, never_second}
 use Rattle.jc_parse_parts.proofs.ModifierForms.{modifier_codes}
-use Rattle.jc_parse_parts.proofs.PartForms.{sign_form, sign_at_form, key_form, key_at_form, ident_form}
-use Rattle.jc_parse_unit.specs.UnitReading.{Level, DeclarationRest, declaration_made, PlacedBraces, Braces, block_made, while_made, do_made, return_made, break_made, continue_made, throw_made, block_run, empty_run, while_run, do_run, return_run, break_run, continue_run, throw_run}
+use Rattle.jc_parse_parts.proofs.PartForms.{sign_form, sign_at_form, key_at_form}
+use Rattle.jc_parse_unit.specs.UnitReading.{Level, DeclarationRest, declaration_made, PlacedBraces, block_made, while_made, block_run, empty_run, while_run}
 use Rattle.jc_parse_unit.proofs.Closed.{closed_order, closed_made}
-use Rattle.jc_parse_unit.proofs.Bundles.{Has, has, a_sign, a_sign_at, a_key, a_key_at, an_ident, then_a, maybe_a, any_of, roomy_zero, roomy_suc}
+use Rattle.jc_parse_unit.proofs.Bundles.{Has, has, a_sign, a_sign_at, a_key_at, then_a, roomy_zero, roomy_suc}
 
 -- where a statement may begin that is no declaration: a keyword, a brace, a semicolon or an expression
 abbrev pub simple_codes : List ℕ
@@ -282,7 +277,10 @@ closed_while x lx k l f ts s r t e n =
     closed_made (ℕ × ((Unit {0} × (Expr × Unit {0})) × Stmt)) Stmt (roomy (suc k) (WhileParts x (suc k) l)) while_made stmt_tokens (stmt_fits (ℕ × ((Unit {0} × (Expr × Unit {0})) × Stmt)) (suc k) (roomy (suc k) (WhileParts x (suc k) l)) while_made is_while)
     (kind_makes (ℕ × ((Unit {0} × (Expr × Unit {0})) × Stmt)) Stmt (roomy (suc k) (WhileParts x (suc k) l)) while_made stmt_tokens (λ s. is_while (out-Stmt s)) (good_at (suc k))
     (record {
-      told = λ p r. stmt_tokens-While p.0 p.1.0.1.0 p.1.1 r; fit = fit_while x (suc k) l; is_kind = λ p. ap is_while (stmt_of.outs-While p.0 p.1.0.1.0 p.1.1); back = λ s g. back_while x (suc k) l s (out-Stmt s) refl g;
+      told = λ p r. stmt_tokens-While p.0 p.1.0.1.0 p.1.1 r;
+      fit = fit_while x (suc k) l;
+      is_kind = λ p. ap is_while (stmt_of.outs-While p.0 p.1.0.1.0 p.1.1);
+      back = λ s g. back_while x (suc k) l s (out-Stmt s) refl g;
     })) ts s r t
     (λ p q u. closed_order _ _ (key_at_form key_of.While) inner.form (a_key_at key_of.While).laws inner.laws refl refl ts p r u
     (λ m v. closed_order _ _ (Parens x (suc k) l) (body_coded (suc k) l) (parens_has x lx k l).laws f.body refl refl m p.1 r v

@@ -1,63 +1,40 @@
 -- The parts of `try`, and the statement.
-use Rattle.std.proofs.Common.{◌≡◌, ℕ, zero, suc, max, Bool, true, false, cond, List, [], ◌∷◌, ◌++◌, map, length, Option, Some, None, refl, sym, ap, ◌∙◌, subst, ⊎_elim, ◌⊎◌, inl, inr, arith}
+use Rattle.std.proofs.Common.{◌≡◌, ℕ, max, Bool, true, false, List, [], ◌∷◌, map, Option, Some, None, refl, sym, ap, ◌∙◌, ⊎_elim, arith}
 use Rattle.std.proofs.Math.Bool.{and-true}
-use Rattle.std.proofs.Math.Path.{fun_ext}
-use Rattle.std.proofs.lemmas.Bool.{false≢true, and_left, and_right, and_parts, and_from, or_left, or_right, or_cases, cases_Bool}
+use Rattle.std.proofs.lemmas.Bool.{false≢true, and_right, and_parts, and_from, or_cases}
 use Rattle.std.proofs.lemmas.Grind.{common_steps}
-use Rattle.std.specs.Prelude.{◌&&◌, ◌||◌, ◌==◌, nat_le}
+use Rattle.std.specs.Prelude.{◌&&◌, ◌||◌, nat_le}
 use Rattle.std.specs.List.{list_all}
 use Rattle.jc_lexer.specs.declared.token.Key.TheVariants as key_of
 use Rattle.jc_lexer.specs.declared.token.Sign.TheVariants as sign_of
-use Rattle.jc_lexer.specs.declared.token.Token.{Token}
-use Rattle.jc_tree.specs.declared.name.Ident.{Ident}
-use Rattle.jc_tree.specs.declared.expression.Expr.{Expr}
 use Rattle.jc_tree.specs.declared.statement.Clause.{Clause, out-Clause, roll-Clause, roll-out-Clause}
 use Rattle.jc_tree.specs.declared.types.ClassTree.{ClassTree}
-use Rattle.jc_tree.specs.declared.types.TypeTree.{TypeTree}
 use Rattle.jc_tree.specs.declared.statement.ClauseHead.{ClauseHead}
 use Rattle.jc_tree.specs.declared.statement.ClauseHead.TheVariants as clause_of
-use Rattle.jc_tree.specs.declared.statement.Modifier.{Modifier}
-use Rattle.jc_tree.specs.declared.statement.Resource.{Resource}
-use Rattle.jc_tree.specs.declared.statement.Resources.{Resources}
-use Rattle.jc_tree.specs.declared.statement.Declaration.{Declaration}
-use Rattle.jc_tree.specs.declared.statement.Member.{Member}
-use Rattle.jc_tree.specs.declared.statement.Stmt.{Stmt, Stmt-F, out-Stmt, roll-Stmt, roll-out-Stmt}
-use Rattle.jc_tree.specs.declared.statement.Stmt.TheVariants as stmt_of
-use Rattle.jc_tree.specs.Heights.{most, in_some, expr_height, type_height, class_height, modifier_height, clause_head_height, clause_height, resource_height, resources_of_height, stmt_height, declaration_height}
-use Rattle.jc_tree.proofs.HeightsOfStatements.{clause_height-made, clause_height-parts, stmt_height-Switch, stmt_height-Try, stmt_height-While, stmt_height-Do, stmt_height-Return, stmt_height-Break, stmt_height-Continue, stmt_height-Throw}
-use Rattle.jc_grammar.specs.Told.{Told, Spelled, sign, sign_at, key, key_at, ident, each}
-use Rattle.jc_grammar.specs.Expressions.{expr_tokens}
-use Rattle.jc_grammar.specs.Expressions.{if_there}
-use Rattle.jc_grammar.specs.Types.{type_tokens, class_tokens}
-use Rattle.jc_grammar.specs.Parts.{if_some, modifiers_tokens, after_bars, resource_tokens, after_semicolons, resources_tokens}
-use Rattle.jc_grammar.specs.Shapes.{is_expr}
-use Rattle.jc_grammar.specs.Statements.{stmt_tokens, clause_tokens, braced, in_parens}
-use Rattle.jc_grammar.specs.Units.{ClauseShape, is_of_switch, is_of_catch, is_of_finally, is_of_if, clause_with, clause_shape, switch_good, catches_good, some_clause, try_good, are_modifiers, is_resource, are_resources, is_conditional, StmtShape, Anywhere, statement, if_there_passes, in_body, in_block, in_switch, behind_else, stmt_shape, is_declaration}
-use Rattle.jc_grammar.proofs.ShapesOfStatements.{clause_shape-made, clause_shape-parts, stmt_shape-Switch, stmt_shape-Try, stmt_shape-While, stmt_shape-Do, stmt_shape-Return, stmt_shape-Break, stmt_shape-Continue, stmt_shape-Throw}
-use Rattle.jc_grammar.proofs.TokensOfStatements.{clause_tokens-made, stmt_tokens-Switch, stmt_tokens-Try, stmt_tokens-While, stmt_tokens-Do, stmt_tokens-Return, stmt_tokens-Break, stmt_tokens-Continue, stmt_tokens-Throw}
-use Rattle.jc_reading.specs.Kinds.{kind_code, sign_code, key_code, word_code, is_in, front_code, one_of}
-use Rattle.jc_reading.specs.Reading.{Read, Found, Stopped, Run, Either, This, That, behind_it}
-use Rattle.jc_reading.proofs.Steps.{IsFound}
-use Rattle.jc_reading.proofs.Forms.{Form, Lawful, Stands}
-use Rattle.jc_reading.proofs.Lists.{tell_all, fits_all}
-use Rattle.jc_reading.proofs.Rooms.{room_none, room_above, room_suc, room_max, room_all}
-use Rattle.jc_parse_parts.specs.Reading.{with_room}
+use Rattle.jc_tree.specs.declared.statement.Stmt.{Stmt}
+use Rattle.jc_tree.specs.Heights.{most, class_height, modifier_height, clause_height, stmt_height}
+use Rattle.jc_grammar.specs.Told.{Told, sign, key_at, ident, each}
+use Rattle.jc_grammar.specs.Types.{class_tokens}
+use Rattle.jc_grammar.specs.Parts.{modifiers_tokens, after_bars}
+use Rattle.jc_grammar.specs.Statements.{stmt_tokens, clause_tokens, braced}
+use Rattle.jc_grammar.specs.Units.{ClauseShape, is_of_catch, is_of_finally, clause_shape, catches_good, some_clause, are_modifiers, in_block, stmt_shape}
+use Rattle.jc_grammar.proofs.TokensOfStatements.{clause_tokens-made}
+use Rattle.jc_reading.specs.Kinds.{key_code}
+use Rattle.jc_reading.specs.Reading.{Either, This, That, behind_it}
+use Rattle.jc_reading.proofs.Forms.{Lawful}
+use Rattle.jc_reading.proofs.Lists.{fits_all}
+use Rattle.jc_reading.proofs.Rooms.{room_above, room_max}
 use Rattle.jc_parse_parts.specs.PartReading.{Exprs}
-use Rattle.jc_parse_parts.proofs.AnnotationForms.{room_and}
-use Rattle.jc_parse_parts.proofs.Coded.{Coded, formed, in_order, in_order_laws, optional, repeated, one_or, Apart, one_or_laws, Same, same_makes, made, Makes, made_laws, OfKind, kind_makes}
-use Rattle.jc_parse_parts.proofs.ExprForms.{ExprLaws, expr_coded, conditional_coded, expr_tall}
-use Rattle.jc_parse_parts.proofs.HeadForms.{head_starts}
-use Rattle.jc_parse_parts.proofs.Lowest.{Law, Void, roomy, one_or_law, made_law, optional_law, repeated_law, never_first, never_second}
+use Rattle.jc_parse_parts.proofs.Coded.{Coded, formed, in_order, optional, repeated, one_or, one_or_laws, made_laws, kind_makes}
+use Rattle.jc_parse_parts.proofs.ExprForms.{ExprLaws}
+use Rattle.jc_parse_parts.proofs.Lowest.{repeated_law}
 use Rattle.jc_parse_parts.proofs.ModifierForms.{modifiers_coded, modifiers_coded_laws}
-use Rattle.jc_parse_parts.proofs.PartForms.{sign_form, sign_at_form, key_form, key_at_form, ident_form, class_coded, class_coded_laws, type_coded, type_coded_laws, type_never, behind_each, behind_each_laws, room_behind}
-use Rattle.jc_parse_unit.specs.UnitReading.{Level, Braces, CaseLabel, case_made, case_run, switch_made, switch_run, CatchParts, catch_made, catch_run, finally_made, finally_run, or_none, clauses_made, clauses_run, some_clauses_made, some_clauses_run, resource_made, resource_run, resources_made, resources_run, TryParts, try_made, try_run}
-use Rattle.jc_parse_unit.proofs.Bundles.{Has, has, a_sign, a_sign_at, a_key, a_key_at, an_ident, then_a, maybe_a, any_of, roomy_zero, roomy_suc, lawful_by}
-
+use Rattle.jc_parse_parts.proofs.PartForms.{sign_form, key_at_form, ident_form, class_coded, class_coded_laws, behind_each, behind_each_laws, room_behind}
+use Rattle.jc_parse_unit.specs.UnitReading.{Level, Braces, CatchParts, catch_made, catch_run, finally_made, finally_run, clauses_made, clauses_run, some_clauses_made, some_clauses_run}
+use Rattle.jc_parse_unit.proofs.Bundles.{Has, has, a_sign, a_key_at, an_ident, then_a, maybe_a, any_of}
 use Rattle.jc_reading.proofs.Ledby.{unled, unled_back}
-use Rattle.jc_parse_parts.proofs.Rows.{rows, rows_tail, rows_tail_laws, Separate}
-use Rattle.jc_parse_unit.proofs.SimpleStatements.{simple_codes, stmt_codes, item_codes, else_codes, behind_codes, body_coded, item_coded, case_item_coded, LevelLaws, body_law, item_law, case_item_law, Layer, good_at, good_made, stmt_fits, stmt_made_law, told_items, all_shaped, items_fit, Parens, expr_never, parens_never, parens_has}
-
-use Rattle.jc_parse_unit.proofs.Switches.{is_catch, is_finally, catch_part, finally_part, clause_good, clause_good_made, told_clauses}
+use Rattle.jc_parse_unit.proofs.SimpleStatements.{item_coded, LevelLaws, item_law, told_items, items_fit}
+use Rattle.jc_parse_unit.proofs.Switches.{is_catch, is_finally, catch_part, finally_part, clause_good, clause_good_made}
 
 -- behind each other between braces
 abbrev pub Braced : (h : ℕ) (l : Level) → Coded (Braces Stmt)
@@ -79,7 +56,7 @@ module _ (x : Exprs) (h : ℕ) (l : Level) where
   catch_bits m c o i a b = grind (arith, common_steps)
 
   fit_catch : (p : CatchParts) → clause_good h (catch_made p) ≡ Catches.fits p
-  fit_catch (at, (u, (modifiers, (first, (more, (name, (v, (w, (items, z)))))))))  =
+  fit_catch (at, (u, (modifiers, (first, (more, (name, (v, (w, (items, z))))))))) =
       clause_good_made h at (clause_of.Catch modifiers first (map behind_it more) name) items
       ∙ ap (λ b. b && (are_modifiers modifiers && list_all in_block (map stmt_shape items)))
       (room_max (max (max (most (map modifier_height modifiers)) (class_height first)) (most (map class_height (map behind_it more)))) (most (map stmt_height items)) h
@@ -101,10 +78,11 @@ module _ (x : Exprs) (h : ℕ) (l : Level) where
       ∙ ap (λ (t : List Told). key_at key_of.Catch at ∷ sign sign_of.LeftParen ∷ modifiers_tokens modifiers (class_tokens first t)) (told_bars more (ident name ∷ sign sign_of.RightParen ∷ (Braced h l).tell braces r))
 
   back_catch : (c : Clause) (head : ClauseHead) → (out-Clause c).head ≡ head → is_catch head ≡ true → (p : CatchParts) × (catch_made p ≡ c)
-  back_catch c (clause_of.Catch modifiers first more name) q g =
-      (((out-Clause c).at, (tt, (modifiers, (first, (unled more, (name, (tt, (tt, ((out-Clause c).items, tt))))))))),
-      ap (λ (list : List ClassTree). roll-Clause (record { at = (out-Clause c).at; head = clause_of.Catch modifiers first list name; items = (out-Clause c).items })) (unled_back more)
-      ∙ ap (λ (k : ClauseHead). roll-Clause (record { at = (out-Clause c).at; head = k; items = (out-Clause c).items })) (sym q) ∙ roll-out-Clause c)
+  back_catch c (clause_of.Catch modifiers first more name) q g = (
+    ((out-Clause c).at, (tt, (modifiers, (first, (unled more, (name, (tt, (tt, ((out-Clause c).items, tt))))))))),
+    ap (λ (list : List ClassTree). roll-Clause (record { at = (out-Clause c).at; head = clause_of.Catch modifiers first list name; items = (out-Clause c).items })) (unled_back more)
+        ∙ ap (λ (k : ClauseHead). roll-Clause (record { at = (out-Clause c).at; head = k; items = (out-Clause c).items })) (sym q) ∙ roll-out-Clause c,
+  )
   back_catch c _ q g = absurd (false≢true g)
 
   abbrev catch_fits : Clause → Bool
@@ -150,7 +128,9 @@ module _ (x : Exprs) (h : ℕ) (l : Level) where
       (kind_makes (ℕ × Braces Stmt) Clause Finals finally_made clause_tokens (λ c. is_finally (out-Clause c).head) (clause_good h)
       (record {
         told = λ p r. clause_tokens-made p.0 clause_of.Finally p.1.1.0 r ∙ ap (λ (t : List Told). key_at key_of.Finally p.0 ∷ t) (told_braced h l p.1 r);
-        fit = fit_finally; is_kind = λ p. refl; back = λ c g. back_finally c (out-Clause c).head refl g;
+        fit = fit_finally;
+        is_kind = λ p. refl;
+        back = λ c g. back_finally c (out-Clause c).head refl g;
       }))
 
   -- catches and then a finally
@@ -164,30 +144,30 @@ module _ (x : Exprs) (h : ℕ) (l : Level) where
   one_catch : (c : Clause) → (nat_le (clause_height c) h && (is_of_catch (clause_shape c).part && (clause_shape c).good)) ≡ catch_fits c
   one_catch c = ap (λ b. nat_le (clause_height c) h && (b && (clause_shape c).good)) (catch_part c) ∙ bits (nat_le (clause_height c) h) (is_catch (out-Clause c).head) (clause_shape c).good
     where
-    bits : (n k g : Bool) → (n && (k && g)) ≡ (k && (n && g))
-    bits n k g = grind (arith, common_steps)
+      bits : (n k g : Bool) → (n && (k && g)) ≡ (k && (n && g))
+      bits n k g = grind (arith, common_steps)
 
   one_finally : (c : Clause) → (nat_le (clause_height c) h && (is_of_finally (clause_shape c).part && (clause_shape c).good)) ≡ finally_fits c
   one_finally c = ap (λ b. nat_le (clause_height c) h && (b && (clause_shape c).good)) (finally_part c) ∙ bits (nat_le (clause_height c) h) (is_finally (out-Clause c).head) (clause_shape c).good
     where
-    bits : (n k g : Bool) → (n && (k && g)) ≡ (k && (n && g))
-    bits n k g = grind (arith, common_steps)
+      bits : (n k g : Bool) → (n && (k && g)) ≡ (k && (n && g))
+      bits n k g = grind (arith, common_steps)
 
   good_cons : (s : ClauseShape) (rest : List ClauseShape) → (is_of_catch s.part && s.good) ≡ true → catches_good rest ≡ true → catches_good (s ∷ rest) ≡ true
   good_cons s [] e g = bits (is_of_catch s.part) (is_of_finally s.part) s.good e
     where
-    bits : (c f g : Bool) → (c && g) ≡ true → ((c || f) && g) ≡ true
-    bits c f g e = grind (arith, common_steps)
+      bits : (c f g : Bool) → (c && g) ≡ true → ((c || f) && g) ≡ true
+      bits c f g e = grind (arith, common_steps)
   good_cons s (t ∷ rest) e g = bits (is_of_catch s.part) s.good (catches_good (t ∷ rest)) e g
     where
-    bits : (c g r : Bool) → (c && g) ≡ true → r ≡ true → (c && g && r) ≡ true
-    bits c g r e q = grind (arith, common_steps)
+      bits : (c g r : Bool) → (c && g) ≡ true → r ≡ true → (c && g && r) ≡ true
+      bits c g r e q = grind (arith, common_steps)
 
   good_only : (s : ClauseShape) → (is_of_finally s.part && s.good) ≡ true → catches_good (s ∷ []) ≡ true
   good_only s e = bits (is_of_catch s.part) (is_of_finally s.part) s.good e
     where
-    bits : (c f g : Bool) → (f && g) ≡ true → ((c || f) && g) ≡ true
-    bits c f g e = grind (arith, common_steps)
+      bits : (c f g : Bool) → (f && g) ≡ true → ((c || f) && g) ≡ true
+      bits c f g e = grind (arith, common_steps)
 
   cons_fits : (c : Clause) (list : List Clause) → catch_fits c ≡ true → catch_list_fits list ≡ true → catch_list_fits (c ∷ list) ≡ true
   cons_fits c list e g =
@@ -240,12 +220,14 @@ module _ (x : Exprs) (h : ℕ) (l : Level) where
       let e : catch_fits c ≡ true = sym (one_catch c) ∙ and_from (nat_le (clause_height c) h) (is_of_catch (clause_shape c).part && (clause_shape c).good) b.0 t.0 in
       let f = and_parts (fits_all catch_fits w.catches) ((optional finally_coded).fits w.last) w.fit in
       record {
-        catches = c ∷ w.catches; last = w.last; same = ap (λ (more : List Clause). c ∷ more) w.same;
+        catches = c ∷ w.catches;
+        last = w.last;
+        same = ap (λ (more : List Clause). c ∷ more) w.same;
         fit = and_from (catch_fits c && fits_all catch_fits w.catches) ((optional finally_coded).fits w.last) (and_from (catch_fits c) (fits_all catch_fits w.catches) e f.0) f.1;
       }
     where
-    three : (c g r : Bool) → (c && g && r) ≡ true → ((c && g) ≡ true) × (r ≡ true)
-    three c g r e = (grind (arith, common_steps), grind (arith, common_steps))
+      three : (c g r : Bool) → (c && g && r) ≡ true → ((c && g) ≡ true) × (r ≡ true)
+      three c g r e = (grind (arith, common_steps), grind (arith, common_steps))
 
   told_list : (catches : List Clause) (o : Option Clause) (r : List Told) → each (map clause_tokens (clauses_made (catches, o))) r ≡ Listed.tell (catches, o) r
   told_list [] None r = refl
@@ -291,20 +273,20 @@ module _ (x : Exprs) (h : ℕ) (l : Level) where
   some_of : (c : Clause) (list : List Clause) → (w : Split (c ∷ list)) → (o : Either (Clause × (List Clause × Option Clause)) Clause) × (some_clauses_made o ≡ c ∷ list) × (SomeListed.fits o ≡ true)
   some_of c list w = by w.catches w.last w.same w.fit
     where
-    by : (catches : List Clause) (o : Option Clause) → clauses_made (catches, o) ≡ c ∷ list → Listed.fits (catches, o) ≡ true → (o : Either (Clause × (List Clause × Option Clause)) Clause) × (some_clauses_made o ≡ c ∷ list) × (SomeListed.fits o ≡ true)
-    by [] None e g = absurd (empty_list e)
-      where
-      empty_list : [] ≡ (c ∷ list) → ⊥
-      empty_list e = false≢true (ap (λ (v : List Clause). has_one v) e)
+      by : (catches : List Clause) (o : Option Clause) → clauses_made (catches, o) ≡ c ∷ list → Listed.fits (catches, o) ≡ true → (o : Either (Clause × (List Clause × Option Clause)) Clause) × (some_clauses_made o ≡ c ∷ list) × (SomeListed.fits o ≡ true)
+      by [] None e g = absurd (empty_list e)
         where
-        has_one : List Clause → Bool
-        has_one [] = false
-        has_one (d ∷ more) = true
-    by [] (Some d) e g = (That d, e, g)
-    by (d ∷ catches) o e g = (This (d, (catches, o)), e, regroup (catch_fits d) (fits_all catch_fits catches) ((optional finally_coded).fits o) g)
-      where
-      regroup : (a b c : Bool) → ((a && b) && c) ≡ true → (a && (b && c)) ≡ true
-      regroup a b c e = grind (arith, common_steps)
+          empty_list : [] ≡ (c ∷ list) → ⊥
+          empty_list e = false≢true (ap (λ (v : List Clause). has_one v) e)
+            where
+              has_one : List Clause → Bool
+              has_one [] = false
+              has_one (d ∷ more) = true
+      by [] (Some d) e g = (That d, e, g)
+      by (d ∷ catches) o e g = (This (d, (catches, o)), e, regroup (catch_fits d) (fits_all catch_fits catches) ((optional finally_coded).fits o) g)
+        where
+          regroup : (a b c : Bool) → ((a && b) && c) ≡ true → (a && (b && c)) ≡ true
+          regroup a b c e = grind (arith, common_steps)
 
   back_some : (list : List Clause) → some_fits list ≡ true → (o : Either (Clause × (List Clause × Option Clause)) Clause) × (some_clauses_made o ≡ list) × (SomeListed.fits o ≡ true)
   back_some [] g = absurd (false≢true (sym (and_right (nat_le 0 h) false refl) ∙ g))

@@ -1,65 +1,48 @@
 -- Resources, and the statement `try`.
-use Rattle.std.proofs.Common.{◌≡◌, ℕ, zero, suc, max, Bool, true, false, cond, List, [], ◌∷◌, ◌++◌, map, length, Option, Some, None, refl, sym, ap, ◌∙◌, subst, ⊎_elim, ◌⊎◌, inl, inr, arith}
-use Rattle.std.proofs.Math.Bool.{and-true}
-use Rattle.std.proofs.Math.Path.{fun_ext}
-use Rattle.std.proofs.lemmas.Bool.{false≢true, and_left, and_right, and_parts, and_from, or_left, or_right, or_cases, cases_Bool}
+use Rattle.std.proofs.Common.{◌≡◌, ℕ, zero, suc, max, Bool, true, false, List, [], ◌∷◌, map, Some, None, refl, sym, ap, ◌∙◌, inl, arith}
+use Rattle.std.proofs.lemmas.Bool.{false≢true, and_left, and_right}
 use Rattle.std.proofs.lemmas.Grind.{common_steps}
-use Rattle.std.specs.Prelude.{◌&&◌, ◌||◌, ◌==◌, nat_le}
+use Rattle.std.specs.Prelude.{◌&&◌, nat_le}
 use Rattle.std.specs.List.{list_all}
 use Rattle.jc_lexer.specs.declared.token.Key.TheVariants as key_of
 use Rattle.jc_lexer.specs.declared.token.Sign.TheVariants as sign_of
-use Rattle.jc_lexer.specs.declared.token.Token.{Token}
 use Rattle.jc_tree.specs.declared.name.Ident.{Ident}
 use Rattle.jc_tree.specs.declared.expression.Expr.{Expr}
-use Rattle.jc_tree.specs.declared.statement.Clause.{Clause, out-Clause, roll-Clause, roll-out-Clause}
-use Rattle.jc_tree.specs.declared.types.ClassTree.{ClassTree}
+use Rattle.jc_tree.specs.declared.statement.Clause.{Clause}
 use Rattle.jc_tree.specs.declared.types.TypeTree.{TypeTree}
-use Rattle.jc_tree.specs.declared.statement.ClauseHead.{ClauseHead}
-use Rattle.jc_tree.specs.declared.statement.ClauseHead.TheVariants as clause_of
 use Rattle.jc_tree.specs.declared.statement.Modifier.{Modifier}
 use Rattle.jc_tree.specs.declared.statement.Resource.{Resource}
 use Rattle.jc_tree.specs.declared.statement.Resources.{Resources}
-use Rattle.jc_tree.specs.declared.statement.Declaration.{Declaration}
-use Rattle.jc_tree.specs.declared.statement.Member.{Member}
 use Rattle.jc_tree.specs.declared.statement.Stmt.{Stmt, Stmt-F, out-Stmt, roll-Stmt, roll-out-Stmt}
 use Rattle.jc_tree.specs.declared.statement.Stmt.TheVariants as stmt_of
-use Rattle.jc_tree.specs.Heights.{most, in_some, expr_height, type_height, class_height, modifier_height, clause_head_height, clause_height, resource_height, resources_of_height, stmt_height, declaration_height}
-use Rattle.jc_tree.proofs.HeightsOfStatements.{clause_height-made, clause_height-parts, stmt_height-Switch, stmt_height-Try, stmt_height-While, stmt_height-Do, stmt_height-Return, stmt_height-Break, stmt_height-Continue, stmt_height-Throw}
-use Rattle.jc_grammar.specs.Told.{Told, Spelled, sign, sign_at, key, key_at, ident, each}
-use Rattle.jc_grammar.specs.Expressions.{expr_tokens}
+use Rattle.jc_tree.specs.Heights.{most, expr_height, type_height, modifier_height, clause_height, resource_height, resources_of_height, stmt_height}
+use Rattle.jc_tree.proofs.HeightsOfStatements.{stmt_height-Try}
+use Rattle.jc_grammar.specs.Told.{Told, sign, key_at, each}
 use Rattle.jc_grammar.specs.Expressions.{if_there}
-use Rattle.jc_grammar.specs.Types.{type_tokens, class_tokens}
-use Rattle.jc_grammar.specs.Parts.{if_some, modifiers_tokens, after_bars, resource_tokens, after_semicolons, resources_tokens}
+use Rattle.jc_grammar.specs.Parts.{resource_tokens, after_semicolons, resources_tokens}
 use Rattle.jc_grammar.specs.Shapes.{is_expr}
-use Rattle.jc_grammar.specs.Statements.{stmt_tokens, clause_tokens, braced, in_parens}
-use Rattle.jc_grammar.specs.Units.{ClauseShape, is_of_switch, is_of_catch, is_of_finally, is_of_if, clause_with, clause_shape, switch_good, catches_good, some_clause, try_good, are_modifiers, is_resource, are_resources, is_conditional, StmtShape, Anywhere, statement, if_there_passes, in_body, in_block, in_switch, behind_else, stmt_shape, is_declaration}
-use Rattle.jc_grammar.proofs.ShapesOfStatements.{clause_shape-made, clause_shape-parts, stmt_shape-Switch, stmt_shape-Try, stmt_shape-While, stmt_shape-Do, stmt_shape-Return, stmt_shape-Break, stmt_shape-Continue, stmt_shape-Throw}
-use Rattle.jc_grammar.proofs.TokensOfStatements.{clause_tokens-made, stmt_tokens-Switch, stmt_tokens-Try, stmt_tokens-While, stmt_tokens-Do, stmt_tokens-Return, stmt_tokens-Break, stmt_tokens-Continue, stmt_tokens-Throw}
-use Rattle.jc_reading.specs.Kinds.{kind_code, sign_code, key_code, word_code, is_in, front_code, one_of}
-use Rattle.jc_reading.specs.Reading.{Read, Found, Stopped, Run, Either, This, That, behind_it}
-use Rattle.jc_reading.proofs.Steps.{IsFound}
-use Rattle.jc_reading.proofs.Forms.{Form, Lawful, Stands}
+use Rattle.jc_grammar.specs.Statements.{stmt_tokens, clause_tokens}
+use Rattle.jc_grammar.specs.Units.{clause_shape, catches_good, some_clause, are_modifiers, is_resource, are_resources, in_block, stmt_shape}
+use Rattle.jc_grammar.proofs.ShapesOfStatements.{stmt_shape-Try}
+use Rattle.jc_grammar.proofs.TokensOfStatements.{stmt_tokens-Try}
+use Rattle.jc_reading.specs.Kinds.{sign_code, key_code}
+use Rattle.jc_reading.specs.Reading.{Either, This, That, behind_it}
+use Rattle.jc_reading.proofs.Forms.{Lawful}
 use Rattle.jc_reading.proofs.Lists.{tell_all, fits_all}
-use Rattle.jc_reading.proofs.Rooms.{room_none, room_above, room_suc, room_max, room_all}
-use Rattle.jc_parse_parts.specs.Reading.{with_room}
+use Rattle.jc_reading.proofs.Rooms.{room_above, room_max}
 use Rattle.jc_parse_parts.specs.PartReading.{Exprs}
 use Rattle.jc_parse_parts.proofs.AnnotationForms.{room_and}
-use Rattle.jc_parse_parts.proofs.Coded.{Coded, formed, in_order, in_order_laws, optional, repeated, one_or, Apart, one_or_laws, Same, same_makes, made, Makes, made_laws, OfKind, kind_makes}
-use Rattle.jc_parse_parts.proofs.ExprForms.{ExprLaws, expr_coded, conditional_coded, expr_tall}
-use Rattle.jc_parse_parts.proofs.HeadForms.{head_starts}
-use Rattle.jc_parse_parts.proofs.Lowest.{Law, Void, roomy, one_or_law, made_law, optional_law, repeated_law, never_first, never_second}
+use Rattle.jc_parse_parts.proofs.Coded.{Coded, formed, in_order, in_order_laws, one_or, same_makes, made_laws}
+use Rattle.jc_parse_parts.proofs.ExprForms.{ExprLaws, expr_coded, expr_tall}
+use Rattle.jc_parse_parts.proofs.Lowest.{Law, roomy, one_or_law, never_first}
 use Rattle.jc_parse_parts.proofs.ModifierForms.{modifiers_coded, modifiers_coded_laws}
-use Rattle.jc_parse_parts.proofs.PartForms.{sign_form, sign_at_form, key_form, key_at_form, ident_form, class_coded, class_coded_laws, type_coded, type_coded_laws, type_never, behind_each, behind_each_laws, room_behind}
-use Rattle.jc_parse_unit.specs.UnitReading.{Level, Braces, CaseLabel, case_made, case_run, switch_made, switch_run, CatchParts, catch_made, catch_run, finally_made, finally_run, or_none, clauses_made, clauses_run, some_clauses_made, some_clauses_run, resource_made, resource_run, resources_made, resources_run, TryParts, try_made, try_run}
-use Rattle.jc_parse_unit.proofs.Bundles.{Has, has, a_sign, a_sign_at, a_key, a_key_at, an_ident, then_a, maybe_a, any_of, roomy_zero, roomy_suc, lawful_by}
-
+use Rattle.jc_parse_parts.proofs.PartForms.{sign_form, key_at_form, ident_form, type_coded, type_coded_laws}
+use Rattle.jc_parse_unit.specs.UnitReading.{Level, Braces, resource_made, resource_run, resources_made, resources_run, TryParts, try_made, try_run}
+use Rattle.jc_parse_unit.proofs.Bundles.{has, a_sign, a_key_at, an_ident, then_a, roomy_zero, roomy_suc, lawful_by}
 use Rattle.jc_reading.proofs.Ledby.{led, behind_fits, unled, unled_back}
 use Rattle.jc_parse_parts.proofs.Rows.{rows, rows_tail, rows_tail_laws, Separate}
-use Rattle.jc_parse_unit.proofs.SimpleStatements.{simple_codes, stmt_codes, item_codes, else_codes, behind_codes, body_coded, item_coded, case_item_coded, LevelLaws, body_law, item_law, case_item_law, Layer, good_at, good_made, stmt_fits, stmt_made_law, told_items, all_shaped, items_fit, Parens, expr_never, parens_never, parens_has}
-
-use Rattle.jc_parse_unit.proofs.Switches.{is_catch, is_finally, catch_part, finally_part, clause_good, clause_good_made, told_clauses}
-
-use Rattle.jc_parse_unit.proofs.TryClauses.{Braced, braced_has, told_braced, clauses_coded, clauses_laws, some_clauses_coded, some_clauses_laws, catch_list_fits, some_fits, catch_list_tell}
+use Rattle.jc_parse_unit.proofs.SimpleStatements.{LevelLaws, Layer, good_at, good_made, stmt_fits, stmt_made_law, items_fit}
+use Rattle.jc_parse_unit.proofs.TryClauses.{Braced, braced_has, told_braced, clauses_coded, clauses_laws, some_clauses_coded, some_clauses_laws}
 
 module _ (x : Exprs) (h : ℕ) (l : Level) where
   abbrev ResourceParts : Coded (List Modifier × (TypeTree × (Ident × (Unit {0} × Expr))))

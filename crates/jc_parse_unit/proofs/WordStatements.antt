@@ -1,71 +1,55 @@
 -- Statements that begin with an expression, a label or a type.
-use Rattle.std.proofs.Common.{length-append, ◌≡◌, ℕ, zero, suc, max, Bool, true, false, cond, List, [], ◌∷◌, ◌++◌, map, length, Option, Some, None, refl, sym, ap, ◌∙◌, subst, ⊎_elim, ◌⊎◌, inl, inr, arith}
+use Rattle.std.proofs.Common.{length-append, ◌≡◌, ℕ, zero, suc, max, Bool, true, false, List, [], ◌∷◌, ◌++◌, map, length, refl, sym, ap, ◌∙◌, subst, ⊎_elim, arith}
 use Rattle.std.proofs.Math.Bool.{and-true}
-use Rattle.std.proofs.Math.Path.{fun_ext}
-use Rattle.std.proofs.lemmas.Bool.{false≢true, and_left, and_right, and_parts, and_from, or_left, or_right, or_cases, cases_Bool}
+use Rattle.std.proofs.lemmas.Bool.{false≢true, and_left, and_right, and_parts, and_from}
 use Rattle.std.proofs.lemmas.Grind.{common_steps}
-use Rattle.std.specs.Prelude.{not, min, ◌+◌, ◌≤◌, ◌<◌, ◌&&◌, ◌||◌, ◌==◌, nat_le}
+use Rattle.std.specs.Prelude.{not, min, ◌≤◌, ◌<◌, ◌&&◌, ◌==◌, nat_le}
 use Rattle.std.specs.List.{list_all}
 use Rattle.jc_lexer.specs.declared.token.Key.TheVariants as key_of
 use Rattle.jc_lexer.specs.declared.token.Sign.TheVariants as sign_of
 use Rattle.jc_lexer.specs.declared.token.Token.{Token}
 use Rattle.jc_tree.specs.declared.name.Ident.{Ident}
 use Rattle.jc_tree.specs.declared.expression.Expr.{Expr}
-use Rattle.jc_tree.specs.declared.statement.Clause.{Clause, out-Clause, roll-Clause, roll-out-Clause}
 use Rattle.jc_tree.specs.declared.types.ClassTree.{ClassTree}
 use Rattle.jc_tree.specs.declared.types.TypeTree.{TypeTree}
-use Rattle.jc_tree.specs.declared.statement.ClauseHead.{ClauseHead}
-use Rattle.jc_tree.specs.declared.statement.ClauseHead.TheVariants as clause_of
 use Rattle.jc_tree.specs.declared.statement.Modifier.{Modifier}
-use Rattle.jc_tree.specs.declared.statement.Resource.{Resource}
-use Rattle.jc_tree.specs.declared.statement.Resources.{Resources}
-use Rattle.jc_tree.specs.declared.statement.Declaration.{Declaration}
-use Rattle.jc_tree.specs.declared.statement.Member.{Member}
 use Rattle.jc_tree.specs.declared.statement.Stmt.{Stmt, Stmt-F, out-Stmt, roll-Stmt, roll-out-Stmt}
 use Rattle.jc_tree.specs.declared.statement.Stmt.TheVariants as stmt_of
-use Rattle.jc_tree.specs.Heights.{most, in_some, expr_height, type_height, class_height, modifier_height, clause_head_height, clause_height, resource_height, resources_of_height, stmt_height, declaration_height}
-use Rattle.jc_tree.proofs.HeightsOfStatements.{stmt_height-Local, stmt_height-Effect, stmt_height-Labeled, stmt_height-While, stmt_height-Do, stmt_height-Return, stmt_height-Break, stmt_height-Continue, stmt_height-Throw}
-use Rattle.jc_grammar.specs.Told.{Told, Spelled, sign, sign_at, key, key_at, ident, each}
+use Rattle.jc_tree.specs.Heights.{most, expr_height, type_height, modifier_height, stmt_height}
+use Rattle.jc_tree.proofs.HeightsOfStatements.{stmt_height-Local, stmt_height-Effect, stmt_height-Labeled}
+use Rattle.jc_grammar.specs.Told.{Told, sign}
 use Rattle.jc_grammar.specs.Expressions.{expr_tokens}
-use Rattle.jc_grammar.specs.Expressions.{if_there}
-use Rattle.jc_grammar.specs.Types.{type_tokens, class_tokens}
-use Rattle.jc_grammar.specs.Parts.{if_some, modifiers_tokens, after_bars, resource_tokens, after_semicolons, resources_tokens}
+use Rattle.jc_grammar.specs.Types.{type_tokens}
+use Rattle.jc_grammar.specs.Parts.{modifiers_tokens}
 use Rattle.jc_grammar.specs.Shapes.{is_expr}
-use Rattle.jc_grammar.specs.Statements.{stmt_tokens, clause_tokens, braced, in_parens}
-use Rattle.jc_grammar.specs.Units.{DeclaresVars, are_locals, is_var, is_statement_expr, ClauseShape, is_of_switch, is_of_catch, is_of_finally, is_of_if, clause_with, clause_shape, switch_good, catches_good, some_clause, try_good, are_modifiers, is_resource, are_resources, is_conditional, StmtShape, Anywhere, statement, if_there_passes, in_body, in_block, in_switch, behind_else, stmt_shape, is_declaration}
-use Rattle.jc_grammar.proofs.ShapesOfStatements.{stmt_shape-Local, stmt_shape-Effect, stmt_shape-Labeled, stmt_shape-While, stmt_shape-Do, stmt_shape-Return, stmt_shape-Break, stmt_shape-Continue, stmt_shape-Throw}
-use Rattle.jc_grammar.proofs.TokensOfStatements.{stmt_tokens-Local, stmt_tokens-Effect, stmt_tokens-Labeled, stmt_tokens-While, stmt_tokens-Do, stmt_tokens-Return, stmt_tokens-Break, stmt_tokens-Continue, stmt_tokens-Throw}
+use Rattle.jc_grammar.specs.Statements.{stmt_tokens}
+use Rattle.jc_grammar.specs.Units.{are_locals, is_var, is_statement_expr, are_modifiers, StmtShape, stmt_shape}
+use Rattle.jc_grammar.proofs.ShapesOfStatements.{stmt_shape-Local, stmt_shape-Effect, stmt_shape-Labeled}
+use Rattle.jc_grammar.proofs.TokensOfStatements.{stmt_tokens-Local, stmt_tokens-Effect, stmt_tokens-Labeled}
 use Rattle.jc_reading.specs.Kinds.{kind_code, sign_code, key_code, word_code, is_in, front_code, one_of}
-use Rattle.jc_reading.specs.Reading.{Read, Found, Stopped, Run, ◌>>=◌, joined, noting, becoming, Takes, rest_of, Either, This, That, behind_it}
-use Rattle.jc_reading.proofs.Steps.{Good, Goes, IsFound, reach, reach_noting, found_becoming, found_noting, takes_front}
-use Rattle.jc_reading.proofs.Forms.{Form, Lawful, Stands}
-use Rattle.jc_reading.proofs.Lists.{tell_all, fits_all}
-use Rattle.jc_reading.proofs.Rooms.{room_none, room_above, room_suc, room_max, room_all}
+use Rattle.jc_reading.specs.Reading.{Read, Found, Stopped, ◌>>=◌, joined, noting, becoming, Takes, rest_of, Either, This, That, behind_it}
+use Rattle.jc_reading.proofs.Steps.{Goes, IsFound, reach, reach_noting, found_becoming, found_noting, takes_front}
+use Rattle.jc_reading.proofs.Forms.{Lawful, Stands}
+use Rattle.jc_reading.proofs.Lists.{fits_all}
+use Rattle.jc_reading.proofs.Rooms.{room_above, room_suc, room_max}
 use Rattle.jc_parse_parts.specs.Reading.{with_room}
 use Rattle.jc_parse_parts.specs.PartReading.{Exprs}
 use Rattle.jc_parse_parts.proofs.AnnotationForms.{room_and}
-use Rattle.jc_parse_parts.proofs.Coded.{Coded, formed, in_order, in_order_laws, optional, repeated, one_or, Apart, one_or_laws, Same, same_makes, made, Makes, made_laws, OfKind, kind_makes}
-use Rattle.jc_parse_parts.proofs.ExprForms.{effect_coded, ExprLaws, expr_coded, conditional_coded, expr_tall}
-use Rattle.jc_parse_parts.proofs.HeadForms.{head_starts}
-use Rattle.jc_parse_parts.proofs.Lowest.{Law, Void, roomy, one_or_law, made_law, optional_law, repeated_law, never_first, never_second}
+use Rattle.jc_parse_parts.proofs.Coded.{Coded, formed, in_order, OfKind, kind_makes}
+use Rattle.jc_parse_parts.proofs.ExprForms.{effect_coded, ExprLaws, expr_coded, expr_tall}
+use Rattle.jc_parse_parts.proofs.Lowest.{Law, Void, roomy, never_first, never_second}
 use Rattle.jc_parse_parts.proofs.ModifierForms.{modifiers_coded, modifiers_coded_laws}
-use Rattle.jc_parse_parts.proofs.PartForms.{sign_form, sign_at_form, key_form, key_at_form, ident_form, class_coded, class_coded_laws, type_coded, type_coded_laws, type_never, behind_each, behind_each_laws, room_behind}
-use Rattle.jc_parse_unit.specs.UnitReading.{labeled_or, labeled_made, effect_made, local_or_effect, local_made, variables_made, Variables, variables_run, label_run, plain_run, word_run, local_run, Level, Braces, CaseLabel, case_made, case_run, switch_made, switch_run, CatchParts, catch_made, catch_run, finally_made, finally_run, or_none, clauses_made, clauses_run, some_clauses_made, some_clauses_run, resource_made, resource_run, resources_made, resources_run, TryParts, try_made, try_run}
-use Rattle.jc_parse_unit.proofs.Bundles.{Has, has, a_sign, a_sign_at, a_key, a_key_at, an_ident, then_a, maybe_a, any_of, roomy_zero, roomy_suc, lawful_by}
-
+use Rattle.jc_parse_parts.proofs.PartForms.{sign_form, ident_form, type_coded, type_coded_laws, type_never}
+use Rattle.jc_parse_unit.specs.UnitReading.{labeled_or, labeled_made, effect_made, local_or_effect, local_made, variables_made, Variables, plain_run, word_run, local_run, Level}
+use Rattle.jc_parse_unit.proofs.Bundles.{has, a_sign, an_ident, then_a, roomy_zero, roomy_suc}
 use Rattle.jc_reading.proofs.Ledby.{unled, unled_back}
-use Rattle.jc_parse_parts.proofs.Rows.{rows, rows_tail, rows_tail_laws, Separate}
-use Rattle.jc_parse_unit.proofs.SimpleStatements.{simple_codes, stmt_codes, item_codes, else_codes, behind_codes, body_coded, item_coded, case_item_coded, LevelLaws, body_law, item_law, case_item_law, Layer, good_at, good_made, stmt_fits, stmt_made_law, told_items, all_shaped, items_fit, Parens, expr_never, parens_never, parens_has}
-
-use Rattle.jc_parse_unit.proofs.Switches.{is_catch, is_finally, catch_part, finally_part, clause_good, clause_good_made, told_clauses}
-
-use Rattle.std.proofs.lemmas.Bool.{cond-true, cond-false, cond_both, eqb-true, eq-eqb, false_from_ne_true}
+use Rattle.jc_parse_unit.proofs.SimpleStatements.{else_codes, behind_codes, body_coded, LevelLaws, Layer, good_at, good_made, stmt_fits, stmt_made_law}
+use Rattle.std.proofs.lemmas.Bool.{cond-true, cond-false, cond_both, eq-eqb, false_from_ne_true}
 use Rattle.jc_lexer.specs.declared.token.Key.{Key}
 use Rattle.jc_lexer.specs.declared.token.Sign.{Sign}
 use Rattle.jc_lexer.specs.declared.token.TokenKind.{TokenKind}
 use Rattle.jc_lexer.specs.declared.token.TokenKind.TheVariants as kind_of
 use Rattle.jc_rules.specs.declared.text.Text.{Text}
-use Rattle.jc_tree.specs.declared.types.BaseTree.{BaseTree}
 use Rattle.jc_tree.specs.declared.types.BaseTree.TheVariants as base_of
 use Rattle.jc_tree.specs.declared.types.ClassTree.{roll-ClassTree}
 use Rattle.jc_tree.specs.declared.types.TypePart.{TypePart, roll-TypePart}
@@ -73,20 +57,18 @@ use Rattle.jc_tree.specs.declared.types.TypeTree.{roll-TypeTree}
 use Rattle.jc_tree.specs.declared.expression.Expr.TheVariants as expr_of
 use Rattle.jc_tree.specs.declared.statement.LocalVars.{LocalVars}
 use Rattle.jc_tree.specs.declared.statement.Var.{Var}
-use Rattle.jc_tree.specs.Heights.{local_height, var_height, base_height, part_height}
+use Rattle.jc_tree.specs.Heights.{local_height, var_height, base_height}
 use Rattle.jc_tree.proofs.HeightsOfTypes.{base_height-Class, class_height-made, part_height-made, type_height-made}
 use Rattle.jc_tree.proofs.HeightsOfExpressions.{expr_height-Name}
-use Rattle.jc_grammar.specs.Told.{after_commas}
-use Rattle.jc_grammar.specs.Types.{base_tokens, part_tokens}
 use Rattle.jc_grammar.specs.Parts.{local_tokens, var_tokens}
-use Rattle.jc_grammar.specs.Shapes.{expr_shape, is_effect}
+use Rattle.jc_grammar.specs.Shapes.{is_effect}
 use Rattle.jc_grammar.proofs.ShapesOfExpressions.{expr_shape-Name}
 use Rattle.jc_grammar.proofs.TokensOfExpressions.{expr_tokens-Name}
 use Rattle.jc_grammar.proofs.TokensOfTypes.{base_tokens-Class, class_tokens-made, part_tokens-made, type_tokens-made}
 use Rattle.jc_reading.proofs.Ledby.{behind_fits}
 use Rattle.jc_reading.proofs.Pairs.{cut}
-use Rattle.jc_reading.proofs.Signs.{ident_laws, none_common, apart_sets, within_sets}
-use Rattle.jc_parse_parts.specs.Reading.{second_is, by_second, past}
+use Rattle.jc_reading.proofs.Signs.{ident_laws, apart_sets}
+use Rattle.jc_parse_parts.specs.Reading.{second_is, past}
 use Rattle.jc_parse_parts.proofs.FormalForms.{vars_coded, vars_laws, var_fits, var_coded}
 use Rattle.jc_parse_parts.proofs.ModifierForms.{modifier_coded, modifier_coded_laws, modifiers_fit, modifier_fits, fit_modifiers}
 use Rattle.jc_parse_parts.proofs.PartForms.{told_commas}
@@ -116,9 +98,10 @@ word_kind (kind_of.Sign s) e = absurd (false≢true (sym (no_sign s) ∙ e))
 
 pub stands_name : (x : Exprs) (k : ℕ) (t : Token) (text : Text) (r : List Token) → t.kind ≡ kind_of.Word text → Stands (formed (expr_coded x (suc k))) (t ∷ r) (expr_of.Name (record { at = t.from; text = text })) r
 stands_name x k t text r e =
-    let i : Ident = record { at = t.from; text = text } in
-    (subst (λ (l : List Told). Takes false l (t ∷ r) r) (sym (expr_tokens-Name i [])) ((e, refl, λ q. absurd (false≢true q), λ q. absurd (false≢true q)), refl),
-    ap (λ n. nat_le n (suc k) && is_expr (expr_of.Name i)) (expr_height-Name i) ∙ ap (λ b. b && is_expr (expr_of.Name i)) (room_suc 0 k ∙ room_above k) ∙ ap (λ s. s.good && nat_le 0 s.level) (expr_shape-Name i))
+    let i : Ident = record { at = t.from; text = text } in (
+      subst (λ (l : List Told). Takes false l (t ∷ r) r) (sym (expr_tokens-Name i [])) ((e, refl, λ q. absurd (false≢true q), λ q. absurd (false≢true q)), refl),
+      ap (λ n. nat_le n (suc k) && is_expr (expr_of.Name i)) (expr_height-Name i) ∙ ap (λ b. b && is_expr (expr_of.Name i)) (room_suc 0 k ∙ room_above k) ∙ ap (λ s. s.good && nat_le 0 s.level) (expr_shape-Name i),
+    )
 
 pub simple_type : ℕ → Text → TypeTree
 simple_type at text = roll-TypeTree (record { base = base_of.Class (roll-ClassTree (record { first = roll-TypePart (record { name = record { at = at; text = text }; args = [] }); more = [] })); dims = 0 })
@@ -128,11 +111,12 @@ unfolding simple_type
 stands_type k t text r e =
     let i : Ident = record { at = t.from; text = text } in
     let part : TypePart = roll-TypePart (record { name = i; args = [] }) in
-    let class : ClassTree = roll-ClassTree (record { first = part; more = [] }) in
-    (subst (λ (l : List Told). Takes false l (t ∷ r) r) (sym (type_tokens-made (base_of.Class class) 0 [] ∙ base_tokens-Class class [] ∙ class_tokens-made part [] [] ∙ part_tokens-made i [] []))
-    ((e, refl, λ q. absurd (false≢true q), λ q. absurd (false≢true q)), refl),
-    ap (λ n. nat_le n (suc k)) (type_height-made (base_of.Class class) 0) ∙ room_suc (base_height (base_of.Class class)) k
-    ∙ ap (λ n. nat_le n k) (base_height-Class class ∙ class_height-made part [] ∙ ap (λ n. max n 0) (part_height-made i [])) ∙ room_above k)
+    let class : ClassTree = roll-ClassTree (record { first = part; more = [] }) in (
+      subst (λ (l : List Told). Takes false l (t ∷ r) r) (sym (type_tokens-made (base_of.Class class) 0 [] ∙ base_tokens-Class class [] ∙ class_tokens-made part [] [] ∙ part_tokens-made i [] []))
+          ((e, refl, λ q. absurd (false≢true q), λ q. absurd (false≢true q)), refl),
+      ap (λ n. nat_le n (suc k)) (type_height-made (base_of.Class class) 0) ∙ room_suc (base_height (base_of.Class class)) k
+          ∙ ap (λ n. nat_le n k) (base_height-Class class ∙ class_height-made part [] ∙ ap (λ n. max n 0) (part_height-made i [])) ∙ room_above k,
+    )
 
 -- reading in order reaches no further back than the first reading
 pub reach_order : {A B : Type 0} (m : Read A) (f : A → List Token → Read B) → reach (m >>= f) ≤ reach m
@@ -182,22 +166,22 @@ module _ (x : Exprs) (lx : ExprLaws x) (k : ℕ) where
   effect_apart : (ts : List Token) (p : Expr × Unit {0}) (r : List Token) → Stands (formed Effect) ts p r → second_is word_code (sign_code sign_of.Colon ∷ []) ts ≡ false
   effect_apart ts p r s = false_from_ne_true (second_is word_code (sign_code sign_of.Colon ∷ []) ts) (λ e. clash ts s e)
     where
-    clash : (ts : List Token) → Stands (formed Effect) ts p r → second_is word_code (sign_code sign_of.Colon ∷ []) ts ≡ true → ⊥
-    clash [] s e = false≢true e
-    clash (t ∷ []) s e = false≢true (sym (and_right (kind_code t.kind == word_code) false refl) ∙ e)
-    clash (t ∷ u ∷ us) s e =
-        let a = and_parts (kind_code t.kind == word_code) (one_of (sign_code sign_of.Colon ∷ []) (u ∷ us)) e in
-        let w = word_kind t.kind a.0 in
-        let c = cut Expr (Unit {0}) (formed (effect_coded x (suc k))) (formed (sign_form sign_of.Semicolon)) (lx.effect k) (a_sign sign_of.Semicolon).laws (λ v q. apart_sets (sign_code sign_of.Semicolon ∷ []) (effect_coded x (suc k)).goes refl (front_code v) q) (t ∷ u ∷ us) p r s in
-        let name = stands_name x k t w.0 (u ∷ us) w.1 in
-        let ends : one_of (expr_coded x (suc k)).goes (u ∷ us) ≡ false = apart_sets (sign_code sign_of.Colon ∷ []) (expr_coded x (suc k)).goes refl (front_code (u ∷ us)) a.1 in
-        let exactly = (lx.expr k).exact (t ∷ u ∷ us) (expr_of.Name (record { at = t.from; text = w.0 })) (u ∷ us) name ends in
-        let most_left : length (u ∷ us) ≤ length c.0 = subst (λ (v : Read Expr). Goes (length c.0) v) exactly.1 ((lx.expr k).longest (t ∷ u ∷ us) p.0 c.0 (effect_expr (t ∷ u ∷ us) p.0 c.0 c.1)) in
-        let some_taken : length c.0 < length (t ∷ u ∷ us) = ⊎_elim (λ o. o.1) (λ o. absurd (false≢true o.1)) ((lx.effect k).opens (t ∷ u ∷ us) p.0 c.0 c.1) in
-        let f = takes_front false (expr_tokens p.0 []) (t ∷ u ∷ us) c.0 c.1.0 in
-        let rest : (u ∷ us) ≡ c.0 = same_rest f.0 c.0 (u ∷ us) t f.1 (omega (arith, most_left, some_taken)) in
-        let semicolon : one_of (sign_code sign_of.Semicolon ∷ []) c.0 ≡ true = ⊎_elim (λ o. o.0) (λ o. absurd (false≢true o.1)) ((a_sign sign_of.Semicolon).laws.opens c.0 p.1 r c.2) in
-        false≢true (sym (apart_sets (sign_code sign_of.Colon ∷ []) (sign_code sign_of.Semicolon ∷ []) refl (front_code (u ∷ us)) a.1) ∙ subst (λ (v : List Token). one_of (sign_code sign_of.Semicolon ∷ []) v ≡ true) (sym rest) semicolon)
+      clash : (ts : List Token) → Stands (formed Effect) ts p r → second_is word_code (sign_code sign_of.Colon ∷ []) ts ≡ true → ⊥
+      clash [] s e = false≢true e
+      clash (t ∷ []) s e = false≢true (sym (and_right (kind_code t.kind == word_code) false refl) ∙ e)
+      clash (t ∷ u ∷ us) s e =
+          let a = and_parts (kind_code t.kind == word_code) (one_of (sign_code sign_of.Colon ∷ []) (u ∷ us)) e in
+          let w = word_kind t.kind a.0 in
+          let c = cut Expr (Unit {0}) (formed (effect_coded x (suc k))) (formed (sign_form sign_of.Semicolon)) (lx.effect k) (a_sign sign_of.Semicolon).laws (λ v q. apart_sets (sign_code sign_of.Semicolon ∷ []) (effect_coded x (suc k)).goes refl (front_code v) q) (t ∷ u ∷ us) p r s in
+          let name = stands_name x k t w.0 (u ∷ us) w.1 in
+          let ends : one_of (expr_coded x (suc k)).goes (u ∷ us) ≡ false = apart_sets (sign_code sign_of.Colon ∷ []) (expr_coded x (suc k)).goes refl (front_code (u ∷ us)) a.1 in
+          let exactly = (lx.expr k).exact (t ∷ u ∷ us) (expr_of.Name (record { at = t.from; text = w.0 })) (u ∷ us) name ends in
+          let most_left : length (u ∷ us) ≤ length c.0 = subst (λ (v : Read Expr). Goes (length c.0) v) exactly.1 ((lx.expr k).longest (t ∷ u ∷ us) p.0 c.0 (effect_expr (t ∷ u ∷ us) p.0 c.0 c.1)) in
+          let some_taken : length c.0 < length (t ∷ u ∷ us) = ⊎_elim (λ o. o.1) (λ o. absurd (false≢true o.1)) ((lx.effect k).opens (t ∷ u ∷ us) p.0 c.0 c.1) in
+          let f = takes_front false (expr_tokens p.0 []) (t ∷ u ∷ us) c.0 c.1.0 in
+          let rest : (u ∷ us) ≡ c.0 = same_rest f.0 c.0 (u ∷ us) t f.1 (omega (arith, most_left, some_taken)) in
+          let semicolon : one_of (sign_code sign_of.Semicolon ∷ []) c.0 ≡ true = ⊎_elim (λ o. o.0) (λ o. absurd (false≢true o.1)) ((a_sign sign_of.Semicolon).laws.opens c.0 p.1 r c.2) in
+          false≢true (sym (apart_sets (sign_code sign_of.Colon ∷ []) (sign_code sign_of.Semicolon ∷ []) refl (front_code (u ∷ us)) a.1) ∙ subst (λ (v : List Token). one_of (sign_code sign_of.Semicolon ∷ []) v ≡ true) (sym rest) semicolon)
 
 -- a label, or an effect
 
@@ -320,11 +304,11 @@ module _ (x : Exprs) (h : ℕ) where
   back_moded : (s : Stmt) (layer : Layer) → out-Stmt s ≡ layer → is_moded_local layer ≡ true → (p : Modifier × (List Modifier × (TypeTree × Variables))) × (local_made p ≡ s)
   back_moded s (Stmt-F.Local vars) e g = by vars.modifiers refl g
     where
-    by : (modifiers : List Modifier) → vars.modifiers ≡ modifiers → has_modifiers modifiers ≡ true → (p : Modifier × (List Modifier × (TypeTree × Variables))) × (local_made p ≡ s)
-    by [] q g = absurd (false≢true g)
-    by (m ∷ modifiers) q g =
-        let w = back_variables vars in
-        ((m, (modifiers, (vars.ty, w.0))), ap (λ (list : List Modifier). stmt_of.Local (variables_made list vars.ty w.0.0)) (sym q) ∙ ap (λ (v : LocalVars). stmt_of.Local v) w.1 ∙ sym (stmt_of.rolls-Local vars) ∙ ap roll-Stmt (sym e) ∙ roll-out-Stmt s)
+      by : (modifiers : List Modifier) → vars.modifiers ≡ modifiers → has_modifiers modifiers ≡ true → (p : Modifier × (List Modifier × (TypeTree × Variables))) × (local_made p ≡ s)
+      by [] q g = absurd (false≢true g)
+      by (m ∷ modifiers) q g =
+          let w = back_variables vars in
+          ((m, (modifiers, (vars.ty, w.0))), ap (λ (list : List Modifier). stmt_of.Local (variables_made list vars.ty w.0.0)) (sym q) ∙ ap (λ (v : LocalVars). stmt_of.Local v) w.1 ∙ sym (stmt_of.rolls-Local vars) ∙ ap roll-Stmt (sym e) ∙ roll-out-Stmt s)
   back_moded s _ e g = absurd (false≢true g)
 
 moded_room : (x : Exprs) (lx : ExprLaws x) (h : ℕ) → Law (Modifier × (List Modifier × (TypeTree × Variables))) (roomy h (LocalParts x h))
@@ -390,20 +374,24 @@ module _ (x : Exprs) (h : ℕ) (l : Level) where
   back_word s (Stmt-F.Effect it) e g = (That (That (it, tt)), sym (stmt_of.rolls-Effect it) ∙ ap roll-Stmt (sym e) ∙ roll-out-Stmt s)
   back_word s (Stmt-F.Local vars) e g = by vars.modifiers refl g
     where
-    by : (modifiers : List Modifier) → vars.modifiers ≡ modifiers → not (has_modifiers modifiers) ≡ true → (o : Either (Ident × (Unit {0} × Stmt)) LocalOrEffect) × (labeled_or local_or_effect o ≡ s)
-    by [] q g =
-        let w = back_variables vars in
-        (That (This (vars.ty, w.0)), ap (λ (list : List Modifier). stmt_of.Local (variables_made list vars.ty w.0.0)) (sym q) ∙ ap (λ (v : LocalVars). stmt_of.Local v) w.1 ∙ sym (stmt_of.rolls-Local vars) ∙ ap roll-Stmt (sym e) ∙ roll-out-Stmt s)
-    by (m ∷ modifiers) q g = absurd (false≢true g)
+      by : (modifiers : List Modifier) → vars.modifiers ≡ modifiers → not (has_modifiers modifiers) ≡ true → (o : Either (Ident × (Unit {0} × Stmt)) LocalOrEffect) × (labeled_or local_or_effect o ≡ s)
+      by [] q g =
+          let w = back_variables vars in
+          (That (This (vars.ty, w.0)), ap (λ (list : List Modifier). stmt_of.Local (variables_made list vars.ty w.0.0)) (sym q) ∙ ap (λ (v : LocalVars). stmt_of.Local v) w.1 ∙ sym (stmt_of.rolls-Local vars) ∙ ap roll-Stmt (sym e) ∙ roll-out-Stmt s)
+      by (m ∷ modifiers) q g = absurd (false≢true g)
   back_word s _ e g = absurd (false≢true g)
 
 module _ (x : Exprs) (lx : ExprLaws x) (k : ℕ) (l : Level) where
   attempts : Attempts TypeTree (Expr × Unit {0}) Variables (word_code ∷ []) (type_coded (suc k)) (Declares x (suc k)) (Effect x lx k)
   attempts = record {
-    solid = refl; solid' = refl; solid'' = refl; next = refl; meets = refl;
+    solid = refl;
+    solid' = refl;
+    solid'' = refl;
+    next = refl;
+    meets = refl;
     other = λ ts p r ty q s t e.
-    let c = cut Expr (Unit {0}) (formed (effect_coded x (suc k))) (formed (sign_form sign_of.Semicolon)) (lx.effect k) (a_sign sign_of.Semicolon).laws (λ v q. apart_sets (sign_code sign_of.Semicolon ∷ []) (effect_coded x (suc k)).goes refl (front_code v) q) ts p r s in
-    lx.effect_or_type k ts p.0 c.0 ty q c.1 t e;
+        let c = cut Expr (Unit {0}) (formed (effect_coded x (suc k))) (formed (sign_form sign_of.Semicolon)) (lx.effect k) (a_sign sign_of.Semicolon).laws (λ v q. apart_sets (sign_code sign_of.Semicolon ∷ []) (effect_coded x (suc k)).goes refl (front_code v) q) ts p r s in
+        lx.effect_or_type k ts p.0 c.0 ty q c.1 t e;
   }
 
   attempt_laws : Lawful LocalOrEffect (formed (Attempt x (suc k) l))
@@ -420,29 +408,29 @@ module _ (x : Exprs) (lx : ExprLaws x) (k : ℕ) (l : Level) where
       let same : (u ∷ us) ≡ m = ap (λ (v : Read TypeTree). rest_or m v) (sym one.1 ∙ two.1) in
       false≢true (sym (apart_sets (word_code ∷ []) (sign_code sign_of.Colon ∷ []) refl (front_code m) n) ∙ subst (λ (v : List Token). one_of (sign_code sign_of.Colon ∷ []) v ≡ true) same a.1)
     where
-    rest_or : List Token → Read TypeTree → List Token
-    rest_or d (Found b q n) = q
-    rest_or d (Stopped n) = d
+      rest_or : List Token → Read TypeTree → List Token
+      rest_or d (Found b q n) = q
+      rest_or d (Stopped n) = d
 
   attempt_apart : (ts : List Token) (o : LocalOrEffect) (r : List Token) → Stands (formed (Attempt x (suc k) l)) ts o r → second_is word_code (sign_code sign_of.Colon ∷ []) ts ≡ false
   attempt_apart ts (That p) r s = effect_apart x lx k ts p r s
   attempt_apart ts (This (ty, vars)) r s = false_from_ne_true (second_is word_code (sign_code sign_of.Colon ∷ []) ts) (λ e. clash ts s e)
     where
-    clash : (ts : List Token) → Stands (formed (in_order (type_coded (suc k)) (Declares x (suc k)))) ts (ty, vars) r → second_is word_code (sign_code sign_of.Colon ∷ []) ts ≡ true → ⊥
-    clash [] s e = false≢true e
-    clash (t ∷ []) s e = false≢true (sym (and_right (kind_code t.kind == word_code) false refl) ∙ e)
-    clash (t ∷ u ∷ us) s e =
-        let c = cut TypeTree Variables (formed (type_coded (suc k))) (formed (Declares x (suc k))) (type_coded_laws k) (declares_laws x (suc k) lx) (λ v q. apart_sets (word_code ∷ []) (type_coded (suc k)).goes refl (front_code v) q) (t ∷ u ∷ us) (ty, vars) r s in
-        let n : one_of (word_code ∷ []) c.0 ≡ true = ⊎_elim (λ o. o.0) (λ o. absurd (false≢true o.1)) ((declares_laws x (suc k) lx).opens c.0 vars r c.2) in
-        type_apart t u us ty c.0 c.1 n e
+      clash : (ts : List Token) → Stands (formed (in_order (type_coded (suc k)) (Declares x (suc k)))) ts (ty, vars) r → second_is word_code (sign_code sign_of.Colon ∷ []) ts ≡ true → ⊥
+      clash [] s e = false≢true e
+      clash (t ∷ []) s e = false≢true (sym (and_right (kind_code t.kind == word_code) false refl) ∙ e)
+      clash (t ∷ u ∷ us) s e =
+          let c = cut TypeTree Variables (formed (type_coded (suc k))) (formed (Declares x (suc k))) (type_coded_laws k) (declares_laws x (suc k) lx) (λ v q. apart_sets (word_code ∷ []) (type_coded (suc k)).goes refl (front_code v) q) (t ∷ u ∷ us) (ty, vars) r s in
+          let n : one_of (word_code ∷ []) c.0 ≡ true = ⊎_elim (λ o. o.0) (λ o. absurd (false≢true o.1)) ((declares_laws x (suc k) lx).opens c.0 vars r c.2) in
+          type_apart t u us ty c.0 c.1 n e
 
 word_room : (x : Exprs) (lx : ExprLaws x) (h : ℕ) (l : Level) → LevelLaws h l → Law (Either (Ident × (Unit {0} × Stmt)) LocalOrEffect) (roomy h (WordForm x h l))
 word_room x lx zero l f = roomy_zero (WordForm x 0 l) none
   where
-  none : (o : Either (Ident × (Unit {0} × Stmt)) LocalOrEffect) → (WordForm x 0 l).fits o ≡ false
-  none (This p) = plains_never x l f.body (This p)
-  none (That (This p)) = never_first TypeTree Variables (type_coded 0) (Declares x 0) type_never p
-  none (That (That p)) = plains_never x l f.body (That p)
+    none : (o : Either (Ident × (Unit {0} × Stmt)) LocalOrEffect) → (WordForm x 0 l).fits o ≡ false
+    none (This p) = plains_never x l f.body (This p)
+    none (That (This p)) = never_first TypeTree Variables (type_coded 0) (Declares x 0) type_never p
+    none (That (That p)) = plains_never x l f.body (That p)
 word_room x lx (suc k) l f =
     roomy_suc k (WordForm x (suc k) l)
     (seconds_laws (Ident × (Unit {0} × Stmt)) LocalOrEffect word_code (sign_code sign_of.Colon ∷ []) (Label (suc k) l) (Attempt x (suc k) l) (label_laws k l f) (attempt_laws x lx k l)
@@ -467,17 +455,17 @@ closed_plain x lx k l f ts s r t e z =
     (kind_makes (Either (Ident × (Unit {0} × Stmt)) (Expr × Unit {0})) Stmt (roomy (suc k) (Plains x (suc k) l)) (labeled_or effect_made) stmt_tokens (λ s. is_plain (out-Stmt s)) (good_at (suc k)) (plain_kind x (suc k) l)) ts s r t
     (λ o q u. by o (ap (λ (v : Stmt). (stmt_shape v).open_end) q ∙ e) u)
   where
-  by : (o : Either (Ident × (Unit {0} × Stmt)) (Expr × Unit {0})) → (stmt_shape (labeled_or effect_made o)).open_end ≡ false → Stands (formed (Plains x (suc k) l)) ts o r → IsFound o r ((Plains x (suc k) l).run ts)
-  by (That p) e u =
-      subst (λ (m : Read (Either (Ident × (Unit {0} × Stmt)) (Expr × Unit {0}))). IsFound (That p) r m) (sym (cond-false (second_is word_code (sign_code sign_of.Colon ∷ []) ts) _ _ (effect_apart x lx k ts p r u)))
-      (past_found ts (found_becoming That p r ((Effect x lx k).run ts) ((effect_laws x lx k).exact ts p r u refl)))
-    where
-    past_found : (ts : List Token) {m : Read (Either (Ident × (Unit {0} × Stmt)) (Expr × Unit {0}))} → IsFound (That p) r m → IsFound (That p) r (past word_code ts m)
-    past_found [] f = f
-    past_found (t ∷ us) {m} f = cond_both (kind_code t.kind == word_code) (noting (length us) m) m (IsFound (That p) r) (λ q. found_noting (length us) (That p) r m f) (λ q. f)
-  by (This p) e u =
-      subst (λ (m : Read (Either (Ident × (Unit {0} × Stmt)) (Expr × Unit {0}))). IsFound (This p) r m) (sym (cond-true (second_is word_code (sign_code sign_of.Colon ∷ []) ts) _ _ (label_there (suc k) l ts p r u)))
-      (found_becoming This p r ((Label (suc k) l).run ts)
-      (closed_order Ident (Unit {0} × Stmt) ident_form (in_order (sign_form sign_of.Colon) (body_coded (suc k) l)) ident_laws (then_a (a_sign sign_of.Colon) (has (body_coded (suc k) l) f.body) refl).laws refl refl ts p r u
-      (λ m v. closed_order (Unit {0}) Stmt (sign_form sign_of.Colon) (body_coded (suc k) l) (a_sign sign_of.Colon).laws f.body refl refl m p.1 r v
-      (λ n w. f.closed n p.1.1 r w (sym (ap (λ (g : StmtShape). g.open_end) (stmt_shape-Labeled p.0 p.1.1)) ∙ e) z))))
+    by : (o : Either (Ident × (Unit {0} × Stmt)) (Expr × Unit {0})) → (stmt_shape (labeled_or effect_made o)).open_end ≡ false → Stands (formed (Plains x (suc k) l)) ts o r → IsFound o r ((Plains x (suc k) l).run ts)
+    by (That p) e u =
+        subst (λ (m : Read (Either (Ident × (Unit {0} × Stmt)) (Expr × Unit {0}))). IsFound (That p) r m) (sym (cond-false (second_is word_code (sign_code sign_of.Colon ∷ []) ts) _ _ (effect_apart x lx k ts p r u)))
+        (past_found ts (found_becoming That p r ((Effect x lx k).run ts) ((effect_laws x lx k).exact ts p r u refl)))
+      where
+        past_found : (ts : List Token) {m : Read (Either (Ident × (Unit {0} × Stmt)) (Expr × Unit {0}))} → IsFound (That p) r m → IsFound (That p) r (past word_code ts m)
+        past_found [] f = f
+        past_found (t ∷ us) {m} f = cond_both (kind_code t.kind == word_code) (noting (length us) m) m (IsFound (That p) r) (λ q. found_noting (length us) (That p) r m f) (λ q. f)
+    by (This p) e u =
+        subst (λ (m : Read (Either (Ident × (Unit {0} × Stmt)) (Expr × Unit {0}))). IsFound (This p) r m) (sym (cond-true (second_is word_code (sign_code sign_of.Colon ∷ []) ts) _ _ (label_there (suc k) l ts p r u)))
+        (found_becoming This p r ((Label (suc k) l).run ts)
+        (closed_order Ident (Unit {0} × Stmt) ident_form (in_order (sign_form sign_of.Colon) (body_coded (suc k) l)) ident_laws (then_a (a_sign sign_of.Colon) (has (body_coded (suc k) l) f.body) refl).laws refl refl ts p r u
+        (λ m v. closed_order (Unit {0}) Stmt (sign_form sign_of.Colon) (body_coded (suc k) l) (a_sign sign_of.Colon).laws f.body refl refl m p.1 r v
+        (λ n w. f.closed n p.1.1 r w (sym (ap (λ (g : StmtShape). g.open_end) (stmt_shape-Labeled p.0 p.1.1)) ∙ e) z))))

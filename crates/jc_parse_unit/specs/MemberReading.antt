@@ -1,17 +1,14 @@
 -- How members, declarations and files are read (JLS 7, 8, 9), and statements at each height.
-use Rattle.std.specs.Prelude.{◌≡◌, ℕ, zero, suc, Bool, true, false, cond, ◌==◌, List, [], ◌∷◌, map, length, Option, Some, None, nat_le}
+use Rattle.std.specs.Prelude.{ℕ, zero, suc, Bool, true, false, cond, List, [], ◌∷◌, map, length, Option, Some, None, nat_le}
 use Rattle.jc_lexer.specs.declared.token.Key.TheVariants as key_of
 use Rattle.jc_lexer.specs.declared.token.Sign.TheVariants as sign_of
-use Rattle.jc_lexer.specs.declared.token.Token.{Token}
 use Rattle.jc_tree.specs.declared.name.Ident.{Ident}
 use Rattle.jc_tree.specs.declared.types.ClassTree.{ClassTree}
 use Rattle.jc_tree.specs.declared.types.TypeTree.{TypeTree}
 use Rattle.jc_tree.specs.declared.expression.Expr.{Expr}
 use Rattle.jc_tree.specs.declared.expression.Init.{Init}
-use Rattle.jc_tree.specs.declared.statement.Declaration.{Declaration}
 use Rattle.jc_tree.specs.declared.statement.Formal.{Formal}
 use Rattle.jc_tree.specs.declared.statement.Import.{Import}
-use Rattle.jc_tree.specs.declared.statement.LocalVars.{LocalVars}
 use Rattle.jc_tree.specs.declared.statement.Member.{Member}
 use Rattle.jc_tree.specs.declared.statement.Member.TheVariants as member_of
 use Rattle.jc_tree.specs.declared.statement.MethodHead.{MethodHead}
@@ -28,10 +25,10 @@ use Rattle.jc_tree.specs.declared.statement.TypeParams.{TypeParams}
 use Rattle.jc_tree.specs.declared.statement.Var.{Var}
 use Rattle.jc_tree.specs.Heights.{most, modifier_height}
 use Rattle.jc_reading.specs.Kinds.{sign_code, key_code, word_code}
-use Rattle.jc_reading.specs.Reading.{Read, Found, Stopped, Run, as_new, in_turn, perhaps, any_number, each_behind, Either, This, That, either, behind_it, commas_run, of_kind, at_kind, an_ident_at}
+use Rattle.jc_reading.specs.Reading.{Stopped, Run, as_new, in_turn, perhaps, any_number, each_behind, Either, This, That, either, behind_it, commas_run, of_kind, at_kind, an_ident_at}
 use Rattle.jc_parse_type.specs.TypeReading.{dims_run, type_run, class_run}
 use Rattle.jc_parse_parts.specs.Reading.{with_room, by_second, by_value, roomy_second, either_one}
-use Rattle.jc_parse_parts.specs.PartReading.{Exprs, HeadRest, head_rest_run, modifier_word_codes, modifiers_run, more_names_run, formal_run, formals_run, keyed_run, params_of_run, var_run}
+use Rattle.jc_parse_parts.specs.PartReading.{Exprs, head_rest_run, modifier_word_codes, modifiers_run, more_names_run, formal_run, formals_run, keyed_run, params_of_run, var_run}
 use Rattle.jc_parse_unit.specs.UnitReading.{Braces, braced_run, PlacedBraces, braced_at_run, semicolon_run, DeclarationRest, declaration_made, Level, Variables, variables_run, moded_made, or_no_init, or_others, if_codes, statement_codes, if_run, simple_run, body_run, other_run, case_item_run, word_run}
 
 -- what ends a method: a body or a semicolon

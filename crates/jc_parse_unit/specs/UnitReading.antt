@@ -1,47 +1,33 @@
 -- How statements, members and files are read (JLS 7, 8, 9, 14).
-use Rattle.std.specs.Prelude.{◌≡◌, ℕ, zero, suc, Bool, true, false, cond, ◌==◌, ◌++◌, List, [], ◌∷◌, map, length, Option, Some, None, nat_le}
+use Rattle.std.specs.Prelude.{ℕ, zero, suc, Bool, ◌++◌, List, [], ◌∷◌, map, length, Option, Some, None}
 use Rattle.jc_lexer.specs.declared.token.Key.TheVariants as key_of
 use Rattle.jc_lexer.specs.declared.token.Sign.TheVariants as sign_of
-use Rattle.jc_lexer.specs.declared.token.Token.{Token}
 use Rattle.jc_tree.specs.declared.name.Ident.{Ident}
 use Rattle.jc_tree.specs.declared.types.ClassTree.{ClassTree}
 use Rattle.jc_tree.specs.declared.types.TypeTree.{TypeTree}
 use Rattle.jc_tree.specs.declared.expression.Expr.{Expr}
 use Rattle.jc_tree.specs.declared.expression.Init.{Init}
 use Rattle.jc_tree.specs.declared.statement.Clause.{Clause, roll-Clause}
-use Rattle.jc_tree.specs.declared.statement.ClauseHead.{ClauseHead}
 use Rattle.jc_tree.specs.declared.statement.ClauseHead.TheVariants as clause_of
 use Rattle.jc_tree.specs.declared.statement.Declaration.{Declaration, roll-Declaration}
 use Rattle.jc_tree.specs.declared.statement.ForHead.{ForHead}
 use Rattle.jc_tree.specs.declared.statement.ForHead.TheVariants as for_of
 use Rattle.jc_tree.specs.declared.statement.ForInit.{ForInit}
 use Rattle.jc_tree.specs.declared.statement.ForInit.TheVariants as init_of
-use Rattle.jc_tree.specs.declared.statement.Formal.{Formal}
-use Rattle.jc_tree.specs.declared.statement.Import.{Import}
 use Rattle.jc_tree.specs.declared.statement.LocalVars.{LocalVars}
 use Rattle.jc_tree.specs.declared.statement.Member.{Member}
-use Rattle.jc_tree.specs.declared.statement.Member.TheVariants as member_of
-use Rattle.jc_tree.specs.declared.statement.MethodHead.{MethodHead}
 use Rattle.jc_tree.specs.declared.statement.Modifier.{Modifier}
-use Rattle.jc_tree.specs.declared.statement.Package.{Package}
 use Rattle.jc_tree.specs.declared.statement.Resource.{Resource}
 use Rattle.jc_tree.specs.declared.statement.Resources.{Resources}
-use Rattle.jc_tree.specs.declared.statement.ResultType.{ResultType}
-use Rattle.jc_tree.specs.declared.statement.ResultType.TheVariants as result_of
-use Rattle.jc_tree.specs.declared.statement.SourceFile.{SourceFile}
 use Rattle.jc_tree.specs.declared.statement.Stmt.{Stmt}
 use Rattle.jc_tree.specs.declared.statement.Stmt.TheVariants as stmt_of
-use Rattle.jc_tree.specs.declared.statement.TopLevel.{TopLevel}
-use Rattle.jc_tree.specs.declared.statement.TopLevel.TheVariants as top_of
-use Rattle.jc_tree.specs.declared.statement.TypeParams.{TypeParams}
 use Rattle.jc_tree.specs.declared.statement.Var.{Var}
-use Rattle.jc_tree.specs.Heights.{most, modifier_height}
-use Rattle.jc_grammar.specs.Units.{StmtShape, clause_shape, stmt_shape}
+use Rattle.jc_grammar.specs.Units.{clause_shape, stmt_shape}
 use Rattle.jc_reading.specs.Kinds.{sign_code, key_code, word_code}
-use Rattle.jc_reading.specs.Reading.{Read, Found, Stopped, Run, found, as_new, in_turn, perhaps, any_number, each_behind, Either, This, That, either, behind_it, commas_run, of_kind, at_kind, an_ident_at}
+use Rattle.jc_reading.specs.Reading.{Run, found, as_new, in_turn, perhaps, any_number, each_behind, Either, This, That, either, behind_it, commas_run, of_kind, at_kind, an_ident_at}
 use Rattle.jc_parse_type.specs.TypeReading.{dims_run, type_run, class_run}
-use Rattle.jc_parse_parts.specs.Reading.{with_room, followed, by_second, trying, by_value, roomy_second, either_one}
-use Rattle.jc_parse_parts.specs.PartReading.{Exprs, HeadRest, head_made, head_rest_run, modifier_word_codes, modifier_run, modifiers_run, more_names_run, formal_run, formals_run, keyed_run, params_of_run, result_run, rows_tail_run, var_run, vars_run}
+use Rattle.jc_parse_parts.specs.Reading.{with_room, followed, by_second, trying, either_one}
+use Rattle.jc_parse_parts.specs.PartReading.{Exprs, HeadRest, head_made, modifier_word_codes, modifier_run, modifiers_run, rows_tail_run, var_run, vars_run}
 
 -- between braces
 abbrev pub Braces : Type 0 → Type 0
