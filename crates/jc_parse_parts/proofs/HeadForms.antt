@@ -33,7 +33,7 @@ use Rattle.jc_parse_parts.proofs.ModifierForms.{modifiers_fit}
 use Rattle.jc_parse_parts.proofs.PartForms.{key_form, key_at_form, ident_form, class_coded, class_coded_laws, keyed, keyed_laws, params_coded, params_laws}
 
 module _ (h : ℕ) where
-  abbrev keyed_at : Key → Coded (List ClassTree)
+  abbrev pub keyed_at : Key → Coded (List ClassTree)
   keyed_at k = record { tell = (keyed k h).tell; fits = (keyed k h).fits; run = keyed_run k (class_run h); starts = (keyed k h).starts; goes = (keyed k h).goes; empties = true }
 
   abbrev Extended : Coded (Unit {0} × ClassTree)

@@ -4,6 +4,7 @@ pub mod Contexts
 pub mod ForStatements
 pub mod IfStatements
 pub mod Jumps
+pub mod MethodForms
 pub mod SimpleStatements
 pub mod Switches
 pub mod TryClauses
