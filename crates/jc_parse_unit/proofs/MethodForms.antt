@@ -13,6 +13,7 @@ use Rattle.jc_tree.specs.declared.statement.Formal.{Formal}
 use Rattle.jc_tree.specs.declared.statement.Stmt.{Stmt}
 use Rattle.jc_tree.specs.declared.statement.TypeParams.{TypeParams}
 use Rattle.jc_tree.specs.declared.statement.Var.{Var}
+use Rattle.jc_tree.specs.Heights.{type_height}
 use Rattle.jc_grammar.specs.Told.{Told}
 use Rattle.jc_reading.specs.Kinds.{kind_code, sign_code, key_code, word_code, is_in, front_code, one_of}
 use Rattle.jc_reading.specs.Reading.{Read, Found, Stopped, Run, becoming, joined, in_turn, Either, This, That, Takes}
@@ -24,17 +25,17 @@ use Rattle.jc_reading.proofs.Signs.{none_common, all_in, apart_sets, within_sets
 use Rattle.jc_parse_type.specs.TypeReading.{class_run}
 use Rattle.jc_parse_parts.specs.Reading.{second_is, by_second, roomy_second}
 use Rattle.jc_parse_parts.specs.PartReading.{Exprs, formal_run, formals_run, keyed_run}
-use Rattle.jc_parse_parts.proofs.Coded.{Coded, formed, coded_laws, in_order, in_order_laws, optional, one_or, Apart, one_or_laws, made, Makes, made_laws}
+use Rattle.jc_parse_parts.proofs.Coded.{Coded, formed, coded_laws, in_order, in_order_laws, optional, repeated, one_or, Apart, one_or_laws, made, Makes, made_laws}
 use Rattle.jc_parse_parts.proofs.ExprForms.{ExprLaws}
 use Rattle.jc_parse_parts.proofs.FormalForms.{formals_coded, formals_laws, Given, given_law, dims_coded_laws, var_coded, var_laws}
 use Rattle.jc_parse_parts.proofs.HeadForms.{keyed_at}
-use Rattle.jc_parse_parts.proofs.Lowest.{Law, Void, optional_law, one_or_law, in_order_law, rerun, rerun_laws, roomy}
+use Rattle.jc_parse_parts.proofs.Lowest.{Law, Void, optional_law, one_or_law, in_order_law, repeated_law, rerun, rerun_laws, roomy}
 use Rattle.jc_parse_parts.proofs.PartForms.{sign_form, key_at_form, ident_form, keyed_laws, dims_coded, type_coded, type_coded_laws, type_law, type_never, behind_each, behind_each_laws, params_of_coded, params_of_laws}
 use Rattle.jc_parse_parts.proofs.Seconds.{seconds, Parts, seconds_laws, takes_first}
 use Rattle.jc_parse_unit.specs.UnitReading.{Level, Braces}
 use Rattle.jc_parse_unit.specs.MemberReading.{MethodTail, ConstructorTail, FieldTail, VoidMethod, Constructor, GenericRest, NamedRest, paren_codes, method_tail_run, constructor_run, constructor_items_run, field_tail_run, void_method_run, generic_run, named_run}
 use Rattle.jc_parse_unit.proofs.Bundles.{Has, has, a_sign, a_key_at, an_ident, then_a, lawful_by}
-use Rattle.jc_parse_unit.proofs.SimpleStatements.{LevelLaws}
+use Rattle.jc_parse_unit.proofs.SimpleStatements.{LevelLaws, item_coded, item_law, first_coded, first_law}
 use Rattle.jc_parse_unit.proofs.TryClauses.{Braced, braced_has}
 use Rattle.jc_parse_unit.proofs.WordStatements.{word_kind, stands_type, simple_type, reach_order}
 
@@ -139,3 +140,74 @@ module _ (x : Exprs) (h : ℕ) (l : Level) (items : Coded (Either (Unit {0}) (St
       let near = takes_first Ident (formed ident_form) ident_laws refl t [] (record { at = t.from; text = w.0 }) [] (((w.1, refl, λ q. absurd (false≢true q), λ q. absurd (false≢true q)), refl), refl) ts in
       let less = reach_order (ident_form.run (t ∷ ts)) (λ a q. becoming (joined a) (AfterName.run q)) in
       omega (arith, near, less)
+
+-- the statements of a constructor
+
+module _ (h : ℕ) (l : Level) where
+  abbrev FirstItems : Coded (Stmt × (List Stmt × Unit {0}))
+  FirstItems = in_order (first_coded h l) (in_order (repeated (item_coded h l)) (sign_form sign_of.RightBrace))
+
+  abbrev pub ConstructorItems : Coded (Either (Unit {0}) (Stmt × (List Stmt × Unit {0})))
+  ConstructorItems = one_or (sign_code sign_of.RightBrace ∷ []) (sign_form sign_of.RightBrace) FirstItems
+
+  pub constructor_items_laws : LevelLaws h l → Lawful (Either (Unit {0}) (Stmt × (List Stmt × Unit {0}))) (formed ConstructorItems)
+  constructor_items_laws f =
+      lawful_by ConstructorItems (This tt) refl
+      (one_or_law (Unit {0}) (Stmt × (List Stmt × Unit {0})) (sign_code sign_of.RightBrace ∷ []) (sign_form sign_of.RightBrace) FirstItems (record { solid = refl; solid' = refl; this = refl; that = refl }) (inl (a_sign sign_of.RightBrace).laws)
+      (in_order_law Stmt (List Stmt × Unit {0}) (first_coded h l) (in_order (repeated (item_coded h l)) (sign_form sign_of.RightBrace)) (first_law h l f)
+      (then_a (has (repeated (item_coded h l)) (repeated_law Stmt (item_coded h l) (item_law h l f) refl refl)) (a_sign sign_of.RightBrace) refl).laws refl))
+
+-- behind the modifiers of a member that is no declaration of a type
+
+module _ (x : Exprs) (h : ℕ) (l : Level) where
+  abbrev Made : Coded Constructor
+  Made = ConstructorForm x h l (ConstructorItems h l)
+
+  abbrev TypedMethod : Coded (TypeTree × (Ident × MethodTail))
+  TypedMethod = Typed MethodTail h (MethodEnd x h l)
+
+  abbrev TypedMember : Coded (TypeTree × (Ident × Either MethodTail FieldTail))
+  TypedMember = Typed (Either MethodTail FieldTail) h (EitherEnd x h l)
+
+  abbrev GenericEnd : Coded (Either VoidMethod (Either Constructor (TypeTree × (Ident × MethodTail))))
+  GenericEnd = one_or (key_code key_of.Void ∷ []) (VoidForm x h l) (roomy_seconds h Made TypedMethod)
+
+  abbrev pub GenericForm : Coded GenericRest
+  GenericForm = in_order (params_of_coded h) GenericEnd
+
+  abbrev pub NamedForm : Coded NamedRest
+  NamedForm = one_or (key_code key_of.Void ∷ []) (VoidForm x h l) (roomy_seconds h Made TypedMember)
+
+  abbrev pub CodeRest : Coded (Either GenericRest NamedRest)
+  CodeRest = one_or (sign_code sign_of.Less ∷ []) GenericForm NamedForm
+
+  made_laws_of : ExprLaws x → LevelLaws h l → Lawful Constructor (formed Made)
+  made_laws_of lx f =
+      (then_a an_ident (then_a (has (formals_coded x h) (formals_laws x h lx)) (then_a (has (keyed_at h key_of.Throws) (throws_laws x h l)) (then_a (a_sign sign_of.LeftBrace) (has (ConstructorItems h l) (constructor_items_laws h l f)) refl) refl) refl) refl).laws
+
+constructor_or : (T : Type 0) (x : Exprs) (lx : ExprLaws x) (h : ℕ) (l : Level) (end : Coded T) → LevelLaws h l → Lawful (Ident × T) (formed (in_order ident_form end)) → all_in (Made x h l).goes ((Made x h l).goes ++ (Typed T h end).goes) ≡ true → Lawful (Either Constructor (TypeTree × (Ident × T))) (formed (roomy_seconds h (Made x h l) (Typed T h end)))
+constructor_or T x lx zero l end f le g =
+    roomy_seconds_zero Constructor (TypeTree × (Ident × T)) (Made x 0 l) (Typed T 0 end) (made_laws_of x 0 l lx f) (λ p. and_left (nat_le (type_height p.0) 0) ((in_order ident_form end).fits p.1) (type_never p.0)) refl refl g
+constructor_or T x lx (suc k) l end f le g =
+    roomy_seconds_suc Constructor (TypeTree × (Ident × T)) k (Made x (suc k) l) (Typed T (suc k) end) (made_laws_of x (suc k) l lx f)
+    (in_order_laws TypeTree (Ident × T) (type_coded (suc k)) (in_order ident_form end) (type_coded_laws k) le refl)
+    (record { solid = refl; solid' = refl; this = constructor_there x (suc k) l (ConstructorItems (suc k) l); that = typed_apart T k end le; passes = constructor_passes x (suc k) l (ConstructorItems (suc k) l) })
+
+module _ (x : Exprs) (lx : ExprLaws x) (h : ℕ) (l : Level) (f : LevelLaws h l) where
+  generic_end_laws : Lawful (Either VoidMethod (Either Constructor (TypeTree × (Ident × MethodTail)))) (formed (GenericEnd x h l))
+  generic_end_laws =
+      one_or_laws VoidMethod (Either Constructor (TypeTree × (Ident × MethodTail))) (key_code key_of.Void ∷ []) (VoidForm x h l) (roomy_seconds h (Made x h l) (TypedMethod x h l)) (void_laws x h l lx f)
+      (constructor_or MethodTail x lx h l (MethodEnd x h l) f (then_a an_ident (has (MethodEnd x h l) (method_end_laws x h l lx f)) refl).laws refl)
+      (record { solid = refl; solid' = refl; this = refl; that = refl })
+
+  pub generic_laws : Lawful GenericRest (formed (GenericForm x h l))
+  generic_laws = (then_a (has (params_of_coded h) (params_of_laws h)) (has (GenericEnd x h l) generic_end_laws) refl).laws
+
+  pub named_laws : Lawful NamedRest (formed (NamedForm x h l))
+  named_laws =
+      one_or_laws VoidMethod (Either Constructor (TypeTree × (Ident × Either MethodTail FieldTail))) (key_code key_of.Void ∷ []) (VoidForm x h l) (roomy_seconds h (Made x h l) (TypedMember x h l)) (void_laws x h l lx f)
+      (constructor_or (Either MethodTail FieldTail) x lx h l (EitherEnd x h l) f (then_a an_ident (has (EitherEnd x h l) (either_end_laws x h l lx f)) refl).laws refl)
+      (record { solid = refl; solid' = refl; this = refl; that = refl })
+
+  pub code_rest_laws : Lawful (Either GenericRest NamedRest) (formed (CodeRest x h l))
+  code_rest_laws = one_or_laws GenericRest NamedRest (sign_code sign_of.Less ∷ []) (GenericForm x h l) (NamedForm x h l) generic_laws named_laws (record { solid = refl; solid' = refl; this = refl; that = refl })

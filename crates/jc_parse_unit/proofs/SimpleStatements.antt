@@ -71,6 +71,9 @@ module _ (h : ℕ) (l : Level) where
   abbrev pub case_item_coded : Coded Stmt
   case_item_coded = record { tell = stmt_tokens; fits = λ s. nat_le (stmt_height s) h && in_switch (stmt_shape s); run = l.case_item; starts = modifier_codes ++ stmt_codes; goes = behind_codes; empties = false }
 
+  abbrev pub first_coded : Coded Stmt
+  first_coded = record { tell = stmt_tokens; fits = λ s. nat_le (stmt_height s) h && (stmt_shape s).good; run = l.first; starts = item_codes; goes = behind_codes; empties = false }
+
   abbrev pub rest_fits : DeclarationRest → Bool
   rest_fits p = nat_le (declaration_height (declaration_made [] p)) h && is_declaration (declaration_made [] p)
 
@@ -80,12 +83,14 @@ module _ (h : ℕ) (l : Level) where
     pub other : Void Stmt other_coded
     pub item : Void Stmt item_coded
     pub case_item : Void Stmt case_item_coded
+    pub first : Void Stmt first_coded
 
   pub record Fulls : Type 0 where
     pub body : Lawful Stmt (formed body_coded)
     pub other : Lawful Stmt (formed other_coded)
     pub item : Lawful Stmt (formed item_coded)
     pub case_item : Lawful Stmt (formed case_item_coded)
+    pub first : Lawful Stmt (formed first_coded)
     -- a body that an `else` behind it wouldn't belong to is found before one, and so is what stands behind an `else`
     pub closed : (ts : List Token) (s : Stmt) (r : List Token) → Stands (formed body_coded) ts s r → (stmt_shape s).open_end ≡ false → one_of else_codes r ≡ true → IsFound s r (l.body ts)
     pub closed_other : (ts : List Token) (s : Stmt) (r : List Token) → Stands (formed other_coded) ts s r → (stmt_shape s).open_end ≡ false → one_of else_codes r ≡ true → IsFound s r (l.other ts)
@@ -101,6 +106,10 @@ item_law (suc k) l f = inl f.item
 pub case_item_law : (h : ℕ) (l : Level) → LevelLaws h l → Law Stmt (case_item_coded h l)
 case_item_law zero l v = inr v.case_item
 case_item_law (suc k) l f = inl f.case_item
+
+pub first_law : (h : ℕ) (l : Level) → LevelLaws h l → Law Stmt (first_coded h l)
+first_law zero l v = inr v.first
+first_law (suc k) l f = inl f.first
 
 pub body_law : (h : ℕ) (l : Level) → LevelLaws h l → Law Stmt (body_coded h l)
 body_law zero l v = inr v.body

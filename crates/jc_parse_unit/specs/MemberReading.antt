@@ -127,12 +127,9 @@ module _ (x : Exprs) (h : ℕ) (l : Level) where
   unfoldable pub super_run : Run Stmt
   super_run = as_new super_made (in_turn (at_kind (key_code key_of.Super)) (in_turn actuals_run semicolon_run))
 
-  -- the first statement of a constructor
-  unfoldable pub first_run : Run Stmt
-  first_run = as_new either_one (by_second (key_code key_of.This) paren_codes this_run (as_new either_one (by_second (key_code key_of.Super) paren_codes super_run l.item)))
-
+  -- the statements of a constructor
   unfoldable pub constructor_items_run : Run (Either (Unit {0}) (Stmt × (List Stmt × Unit {0})))
-  constructor_items_run = either (sign_code sign_of.RightBrace ∷ []) (of_kind (sign_code sign_of.RightBrace)) (with_room h (in_turn first_run (in_turn (any_number l.item) (of_kind (sign_code sign_of.RightBrace)))))
+  constructor_items_run = either (sign_code sign_of.RightBrace ∷ []) (of_kind (sign_code sign_of.RightBrace)) (in_turn l.first (in_turn (any_number l.item) (of_kind (sign_code sign_of.RightBrace))))
 
   unfoldable pub method_tail_run : Run MethodTail
   method_tail_run = in_turn (formals_run (formal_run x h)) (in_turn (keyed_run key_of.Throws (class_run h)) (either (sign_code sign_of.LeftBrace ∷ []) (braced_run l.item) semicolon_run))
@@ -184,15 +181,19 @@ module _ (x : Exprs) (h : ℕ) (l : Level) where
   unfoldable pub item_run : Run Stmt
   item_run = or_others if_codes (if_run x h l) (or_others statement_codes (simple_run x h l) (or_others (key_code key_of.Class ∷ key_code key_of.Interface ∷ sign_code sign_of.At ∷ modifier_word_codes) moded_item_run (word_run x h l)))
 
+  -- first in a constructor
+  unfoldable pub first_run : Run Stmt
+  first_run = as_new either_one (by_second (key_code key_of.This) paren_codes this_run (as_new either_one (by_second (key_code key_of.Super) paren_codes super_run item_run)))
+
   -- all of a height more
   abbrev pub next_level : Level
-  next_level = record { body = body_run x h l; other = other_run x h l; item = item_run; case_item = case_item_run x h l; rest = rest_run }
+  next_level = record { body = body_run x h l; other = other_run x h l; item = item_run; case_item = case_item_run x h l; first = first_run; rest = rest_run }
 
 abbrev pub no_run : {A : Type 0} → Run A
 no_run ts = Stopped (length ts)
 
 abbrev pub no_level : Level
-no_level = record { body = no_run; other = no_run; item = no_run; case_item = no_run; rest = no_run }
+no_level = record { body = no_run; other = no_run; item = no_run; case_item = no_run; first = no_run; rest = no_run }
 
 -- statements and declarations of at most a height
 unfoldable pub levels : Exprs → ℕ → Level

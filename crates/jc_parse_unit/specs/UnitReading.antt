@@ -57,12 +57,14 @@ DeclarationRest = HeadRest × Braces Member
 abbrev pub declaration_made : List Modifier → DeclarationRest → Declaration
 declaration_made modifiers p = roll-Declaration (record { head = head_made modifiers p.0; members = p.1.1.0 })
 
--- how statements and declarations of at most a height are read: as a body, behind an `else`, in a block, behind a label of a switch
+-- how statements and declarations of at most a height are read: as a body, behind an `else`, in a block, behind a label of a switch, first in a
+-- constructor
 pub record Level : Type 0 where
   pub body : Run Stmt
   pub other : Run Stmt
   pub item : Run Stmt
   pub case_item : Run Stmt
+  pub first : Run Stmt
   pub rest : Run DeclarationRest
 
 -- statements of one keyword
