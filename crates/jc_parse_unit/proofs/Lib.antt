@@ -1,6 +1,7 @@
 pub mod Bundles
 pub mod Closed
 pub mod Contexts
+pub mod FileForms
 pub mod ForStatements
 pub mod IfStatements
 pub mod Jumps
