@@ -5,6 +5,7 @@ pub mod FileForms
 pub mod ForStatements
 pub mod IfStatements
 pub mod Jumps
+pub mod MemberValues
 pub mod MethodForms
 pub mod SimpleStatements
 pub mod Switches
