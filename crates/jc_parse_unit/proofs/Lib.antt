@@ -7,6 +7,7 @@ pub mod IfStatements
 pub mod Jumps
 pub mod MemberValues
 pub mod MethodForms
+pub mod RestForms
 pub mod SimpleStatements
 pub mod Switches
 pub mod TryClauses
