@@ -1,25 +1,25 @@
 -- The forms of package and import declarations.
-use Rattle.std.proofs.Common.{◌≡◌, ℕ, zero, suc, Bool, true, false, cond, List, [], ◌∷◌, ◌++◌, map, length, Option, Some, None, refl, sym, ap, ◌∙◌, subst, ⊎_elim, ◌⊎◌, inl, inr, arith}
+use Rattle.std.proofs.Common.{◌≡◌, ℕ, Bool, true, false, List, [], ◌∷◌, Option, Some, None, refl, ⊎_elim}
 use Rattle.std.proofs.lemmas.Bool.{false≢true, and_parts, and_left, and_right, or_cases, or_left, or_right}
-use Rattle.std.specs.Prelude.{◌&&◌, ◌||◌, ◌==◌}
+use Rattle.std.specs.Prelude.{◌==◌}
 use Rattle.jc_lexer.specs.declared.token.Key.TheVariants as key_of
 use Rattle.jc_lexer.specs.declared.token.Sign.TheVariants as sign_of
 use Rattle.jc_lexer.specs.declared.token.Token.{Token}
 use Rattle.jc_tree.specs.declared.name.Ident.{Ident}
 use Rattle.jc_tree.specs.declared.statement.Import.{Import}
 use Rattle.jc_tree.specs.declared.statement.Package.{Package}
-use Rattle.jc_grammar.specs.Told.{Told, sign, key, key_at, ident, names_after}
-use Rattle.jc_grammar.specs.Statements.{package_tokens, import_tokens, static_tokens, on_demand_tokens}
-use Rattle.jc_reading.specs.Kinds.{sign_code, key_code, word_code, is_in, front_code, one_of}
-use Rattle.jc_reading.specs.Reading.{Run, Either, This, That, rest_of}
+use Rattle.jc_grammar.specs.Told.{Told}
+use Rattle.jc_grammar.specs.Statements.{package_tokens, import_tokens}
+use Rattle.jc_reading.specs.Kinds.{sign_code, key_code, word_code, front_code, one_of}
+use Rattle.jc_reading.specs.Reading.{Either, This, That, rest_of}
 use Rattle.jc_reading.proofs.Forms.{Form, Lawful}
 use Rattle.jc_reading.proofs.Pairs.{pair, pair_laws}
 use Rattle.jc_reading.proofs.Choices.{choice, choice_laws}
 use Rattle.jc_reading.proofs.Ledby.{led, led_starts, led_laws}
 use Rattle.jc_reading.proofs.Signs.{a_sign as sign_token, sign_laws, apart_sets}
-use Rattle.jc_parse_parts.proofs.Coded.{Coded, formed, coded, coded_laws, in_order, optional, made_laws, Same, same_makes}
+use Rattle.jc_parse_parts.proofs.Coded.{Coded, formed, coded, coded_laws, in_order, optional, made_laws, same_makes}
 use Rattle.jc_parse_parts.proofs.PartForms.{sign_form, key_form, key_at_form, ident_form, more_names_form, more_names_laws, more_names_coded, more_names_coded_laws, dot_word}
-use Rattle.jc_parse_unit.specs.MemberReading.{package_made, package_run, is_there, is_this, import_made, import_run}
+use Rattle.jc_parse_unit.specs.MemberReading.{package_made, package_run, import_made, import_run}
 use Rattle.jc_parse_unit.proofs.Bundles.{has, a_sign, a_key, a_key_at, an_ident, then_a, maybe_a}
 
 abbrev PackageParts : Coded (ℕ × (Ident × (List Ident × Unit {0})))

@@ -1,5 +1,5 @@
 -- Heights and shapes of methods, constructors and fields by their parts.
-use Rattle.std.proofs.Common.{◌≡◌, ℕ, zero, suc, max, Bool, true, false, List, [], ◌∷◌, map, Option, Some, None, refl, sym, ap, ◌∙◌, arith}
+use Rattle.std.proofs.Common.{◌≡◌, ℕ, max, Bool, true, List, ◌∷◌, map, Option, Some, None, refl, sym, ap, ◌∙◌, arith}
 use Rattle.std.proofs.Math.Bool.{and-true}
 use Rattle.std.proofs.lemmas.Grind.{common_steps}
 use Rattle.std.specs.Prelude.{◌&&◌, nat_le}
@@ -14,7 +14,6 @@ use Rattle.jc_tree.specs.declared.statement.Member.TheVariants as member_of
 use Rattle.jc_tree.specs.declared.statement.MethodHead.{MethodHead}
 use Rattle.jc_tree.specs.declared.statement.Modifier.{Modifier}
 use Rattle.jc_tree.specs.declared.statement.ResultType.{ResultType}
-use Rattle.jc_tree.specs.declared.statement.ResultType.TheVariants as result_of
 use Rattle.jc_tree.specs.declared.statement.Stmt.{Stmt}
 use Rattle.jc_tree.specs.declared.statement.TypeParams.{TypeParams}
 use Rattle.jc_tree.specs.declared.types.TypeTree.{TypeTree}
@@ -27,7 +26,7 @@ use Rattle.jc_grammar.specs.Told.{Told, sign, ident, brackets}
 use Rattle.jc_grammar.specs.Types.{type_tokens}
 use Rattle.jc_grammar.specs.Parts.{if_some, initialised, modifiers_tokens, params_of_tokens, result_tokens, method_tokens}
 use Rattle.jc_grammar.specs.Statements.{member_tokens, stmt_tokens, braced}
-use Rattle.jc_grammar.specs.Units.{is_var, are_locals, are_modifiers, are_formals, is_method_head, has_result, body_good, constructor_good, in_block, is_member, stmt_shape}
+use Rattle.jc_grammar.specs.Units.{is_var, are_modifiers, are_formals, is_method_head, has_result, body_good, constructor_good, in_block, is_member, stmt_shape}
 use Rattle.jc_grammar.proofs.ShapesOfStatements.{is_member-Bare, is_member-Method, is_member-Fields}
 use Rattle.jc_grammar.proofs.TokensOfStatements.{member_tokens-Bare, member_tokens-Method, member_tokens-Fields}
 use Rattle.jc_reading.specs.Reading.{Either, This, That, behind_it}
@@ -42,10 +41,10 @@ use Rattle.jc_parse_parts.proofs.Lowest.{roomy}
 use Rattle.jc_parse_parts.proofs.FormalForms.{formals_fit, var_fits, var_coded, Given}
 use Rattle.jc_parse_parts.proofs.ModifierForms.{modifiers_fit}
 use Rattle.jc_parse_parts.proofs.PartForms.{classes_fit, behind_each, told_commas}
-use Rattle.jc_parse_unit.specs.UnitReading.{Level, Braces, or_no_init}
+use Rattle.jc_parse_unit.specs.UnitReading.{Level, or_no_init}
 use Rattle.jc_parse_unit.specs.MemberReading.{FieldTail, fields_made, MethodTail, ConstructorTail, method_head, method_made, constructor_items, constructor_made}
 use Rattle.jc_parse_unit.proofs.MethodForms.{MethodEnd, FieldEnd, ConstructorItems, ConstructorForm}
-use Rattle.jc_parse_unit.proofs.SimpleStatements.{item_coded, first_coded, items_fit, told_items}
+use Rattle.jc_parse_unit.proofs.SimpleStatements.{item_coded, items_fit, told_items}
 use Rattle.jc_parse_unit.proofs.TryClauses.{told_braced}
 
 module _ (x : Exprs) (h : ℕ) (l : Level) where
@@ -81,8 +80,8 @@ module _ (x : Exprs) (h : ℕ) (l : Level) where
       ap (λ n. nat_le n h && is_member (member_of.Bare head)) (member_height-Bare head) ∙ ap (λ b. nat_le (method_height head) h && b) (is_member-Bare head)
       ∙ bits (nat_le (method_height head) h) (is_method_head head) (has_result head)
     where
-    bits : (n i r : Bool) → (n && (i && r)) ≡ ((n && i) && r)
-    bits n i r = grind (arith, common_steps)
+      bits : (n i r : Bool) → (n && (i && r)) ≡ ((n && i) && r)
+      bits n i r = grind (arith, common_steps)
 
   tail_bits : (m p r f t e : Bool) → ((m && (p && (r && (f && t)))) && e) ≡ (m && (p && (r && (f && (t && e)))))
   tail_bits m p r f t e = grind (arith, common_steps)
@@ -111,8 +110,8 @@ module _ (x : Exprs) (h : ℕ) (l : Level) where
   none_bits : (m p r f t e : Bool) → r ≡ true → ((m && (p && (r && (f && t)))) && e) ≡ (m && (p && (true && (f && (t && (true && e))))))
   none_bits m p r f t e q = ap (λ b. (m && (p && (b && (f && t)))) && e) q ∙ bits m p f t e
     where
-    bits : (m p f t e : Bool) → ((m && (p && (f && t))) && e) ≡ (m && (p && (f && (t && e))))
-    bits m p f t e = grind (arith, common_steps)
+      bits : (m p f t e : Bool) → ((m && (p && (f && t))) && e) ≡ (m && (p && (f && (t && e))))
+      bits m p f t e = grind (arith, common_steps)
 
   pub fit_constructor_made : (modifiers : List Modifier) (params : Option TypeParams) (p : Ident × ConstructorTail)
       → member_fits (constructor_made modifiers params p) ≡ (modifiers_fit x h modifiers && (nat_le (in_some params_of_height params) h && (true && (formals_fit x h p.1.0 && (classes_fit key_of.Throws h p.1.1.0 && (true && (ConstructorItems h l).fits p.1.1.1.1))))))

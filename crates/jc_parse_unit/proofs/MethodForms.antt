@@ -1,7 +1,7 @@
 -- The forms of what stands behind the modifiers of methods, constructors and fields.
-use Rattle.std.proofs.Common.{◌≡◌, ℕ, zero, suc, max, Bool, true, false, cond, List, [], ◌∷◌, ◌++◌, map, length, Option, Some, None, refl, sym, ap, ◌∙◌, subst, ⊎_elim, ◌⊎◌, inl, inr, arith}
+use Rattle.std.proofs.Common.{◌≡◌, ℕ, zero, suc, true, false, List, [], ◌∷◌, ◌++◌, length, refl, sym, ap, ◌∙◌, subst, ⊎_elim, inl, arith}
 use Rattle.std.proofs.lemmas.Bool.{false≢true, and_parts, and_left, and_right, false_from_ne_true, eq-eqb}
-use Rattle.std.specs.Prelude.{◌&&◌, ◌||◌, ◌==◌, ◌≤◌, nat_le}
+use Rattle.std.specs.Prelude.{◌&&◌, ◌==◌, ◌≤◌, nat_le}
 use Rattle.jc_lexer.specs.declared.token.Key.TheVariants as key_of
 use Rattle.jc_lexer.specs.declared.token.Sign.TheVariants as sign_of
 use Rattle.jc_lexer.specs.declared.token.Token.{Token}
@@ -9,32 +9,28 @@ use Rattle.jc_tree.specs.declared.name.Ident.{Ident}
 use Rattle.jc_tree.specs.declared.types.ClassTree.{ClassTree}
 use Rattle.jc_tree.specs.declared.types.TypeTree.{TypeTree}
 use Rattle.jc_tree.specs.declared.expression.Init.{Init}
-use Rattle.jc_tree.specs.declared.statement.Formal.{Formal}
 use Rattle.jc_tree.specs.declared.statement.Stmt.{Stmt}
-use Rattle.jc_tree.specs.declared.statement.TypeParams.{TypeParams}
 use Rattle.jc_tree.specs.declared.statement.Var.{Var}
 use Rattle.jc_tree.specs.Heights.{type_height}
-use Rattle.jc_grammar.specs.Told.{Told}
 use Rattle.jc_reading.specs.Kinds.{kind_code, sign_code, key_code, word_code, is_in, front_code, one_of}
-use Rattle.jc_reading.specs.Reading.{Read, Found, Stopped, Run, becoming, joined, in_turn, Either, This, That, Takes}
+use Rattle.jc_reading.specs.Reading.{Read, Found, Stopped, becoming, joined, Either, This, That}
 use Rattle.jc_reading.proofs.Steps.{reach}
-use Rattle.jc_reading.proofs.Forms.{Form, Lawful, Stands}
+use Rattle.jc_reading.proofs.Forms.{Lawful, Stands}
 use Rattle.jc_reading.proofs.Choices.{tell_either, fits_either}
 use Rattle.jc_reading.proofs.Pairs.{cut}
-use Rattle.jc_reading.proofs.Signs.{none_common, all_in, apart_sets, within_sets, ident_laws}
-use Rattle.jc_parse_type.specs.TypeReading.{class_run}
-use Rattle.jc_parse_parts.specs.Reading.{second_is, by_second, roomy_second}
-use Rattle.jc_parse_parts.specs.PartReading.{Exprs, formal_run, formals_run, keyed_run}
-use Rattle.jc_parse_parts.proofs.Coded.{Coded, formed, coded_laws, in_order, in_order_laws, optional, repeated, one_or, Apart, one_or_laws, made, Makes, made_laws}
+use Rattle.jc_reading.proofs.Signs.{all_in, apart_sets, within_sets, ident_laws}
+use Rattle.jc_parse_parts.specs.Reading.{second_is, roomy_second}
+use Rattle.jc_parse_parts.specs.PartReading.{Exprs}
+use Rattle.jc_parse_parts.proofs.Coded.{Coded, formed, coded_laws, in_order, in_order_laws, optional, repeated, one_or, one_or_laws, made, made_laws}
 use Rattle.jc_parse_parts.proofs.ExprForms.{ExprLaws}
 use Rattle.jc_parse_parts.proofs.FormalForms.{formals_coded, formals_laws, Given, given_law, dims_coded_laws, var_coded, var_laws}
 use Rattle.jc_parse_parts.proofs.HeadForms.{keyed_at}
-use Rattle.jc_parse_parts.proofs.Lowest.{Law, Void, optional_law, one_or_law, in_order_law, repeated_law, rerun, rerun_laws, roomy}
-use Rattle.jc_parse_parts.proofs.PartForms.{sign_form, key_at_form, ident_form, keyed_laws, dims_coded, type_coded, type_coded_laws, type_law, type_never, behind_each, behind_each_laws, params_of_coded, params_of_laws}
+use Rattle.jc_parse_parts.proofs.Lowest.{optional_law, one_or_law, in_order_law, repeated_law, rerun, rerun_laws, roomy}
+use Rattle.jc_parse_parts.proofs.PartForms.{sign_form, key_at_form, ident_form, keyed_laws, dims_coded, type_coded, type_coded_laws, type_never, behind_each, behind_each_laws, params_of_coded, params_of_laws}
 use Rattle.jc_parse_parts.proofs.Seconds.{seconds, Parts, seconds_laws, takes_first}
 use Rattle.jc_parse_unit.specs.UnitReading.{Level, Braces}
-use Rattle.jc_parse_unit.specs.MemberReading.{MethodTail, ConstructorTail, FieldTail, VoidMethod, Constructor, GenericRest, NamedRest, paren_codes, method_tail_run, constructor_run, constructor_items_run, field_tail_run, void_method_run, generic_run, named_run}
-use Rattle.jc_parse_unit.proofs.Bundles.{Has, has, a_sign, a_key_at, an_ident, then_a, lawful_by}
+use Rattle.jc_parse_unit.specs.MemberReading.{MethodTail, ConstructorTail, FieldTail, VoidMethod, Constructor, GenericRest, NamedRest, paren_codes}
+use Rattle.jc_parse_unit.proofs.Bundles.{has, a_sign, a_key_at, an_ident, then_a, lawful_by}
 use Rattle.jc_parse_unit.proofs.SimpleStatements.{LevelLaws, item_coded, item_law, first_coded, first_law}
 use Rattle.jc_parse_unit.proofs.TryClauses.{Braced, braced_has}
 use Rattle.jc_parse_unit.proofs.WordStatements.{word_kind, stands_type, simple_type, reach_order}
@@ -83,22 +79,23 @@ module _ (T : Type 0) (h : ℕ) (end : Coded T) where
 pub typed_apart : (T : Type 0) (k : ℕ) (end : Coded T) → Lawful (Ident × T) (formed (in_order ident_form end)) → (ts : List Token) (p : TypeTree × (Ident × T)) (r : List Token) → Stands (formed (Typed T (suc k) end)) ts p r → second_is word_code paren_codes ts ≡ false
 typed_apart T k end le ts p r s = false_from_ne_true (second_is word_code paren_codes ts) (λ e. clash ts s e)
   where
-  rest_or : List Token → Read TypeTree → List Token
-  rest_or d (Found b q n) = q
-  rest_or d (Stopped n) = d
-  clash : (ts : List Token) → Stands (formed (Typed T (suc k) end)) ts p r → second_is word_code paren_codes ts ≡ true → ⊥
-  clash [] s e = false≢true e
-  clash (t ∷ []) s e = false≢true (sym (and_right (kind_code t.kind == word_code) false refl) ∙ e)
-  clash (t ∷ u ∷ us) s e =
-      let a = and_parts (kind_code t.kind == word_code) (one_of paren_codes (u ∷ us)) e in
-      let w = word_kind t.kind a.0 in
-      let lt = type_coded_laws k in
-      let c = cut TypeTree (Ident × T) (formed (type_coded (suc k))) (formed (in_order ident_form end)) lt le (λ v q. apart_sets (word_code ∷ []) (type_coded (suc k)).goes refl (front_code v) q) (t ∷ u ∷ us) p r s in
-      let n : one_of (word_code ∷ []) c.0 ≡ true = ⊎_elim (λ o. o.0) (λ o. absurd (false≢true o.1)) (le.opens c.0 p.1 r c.2) in
-      let one = lt.exact (t ∷ u ∷ us) (simple_type t.from w.0) (u ∷ us) (stands_type k t w.0 (u ∷ us) w.1) (apart_sets paren_codes (type_coded (suc k)).goes refl (front_code (u ∷ us)) a.1) in
-      let two = lt.exact (t ∷ u ∷ us) p.0 c.0 c.1 (apart_sets (word_code ∷ []) (type_coded (suc k)).goes refl (front_code c.0) n) in
-      let same : (u ∷ us) ≡ c.0 = ap (λ (v : Read TypeTree). rest_or c.0 v) (sym one.1 ∙ two.1) in
-      false≢true (sym (apart_sets (word_code ∷ []) paren_codes refl (front_code c.0) n) ∙ subst (λ (v : List Token). one_of paren_codes v ≡ true) same a.1)
+    rest_or : List Token → Read TypeTree → List Token
+    rest_or d (Found b q n) = q
+    rest_or d (Stopped n) = d
+
+    clash : (ts : List Token) → Stands (formed (Typed T (suc k) end)) ts p r → second_is word_code paren_codes ts ≡ true → ⊥
+    clash [] s e = false≢true e
+    clash (t ∷ []) s e = false≢true (sym (and_right (kind_code t.kind == word_code) false refl) ∙ e)
+    clash (t ∷ u ∷ us) s e =
+        let a = and_parts (kind_code t.kind == word_code) (one_of paren_codes (u ∷ us)) e in
+        let w = word_kind t.kind a.0 in
+        let lt = type_coded_laws k in
+        let c = cut TypeTree (Ident × T) (formed (type_coded (suc k))) (formed (in_order ident_form end)) lt le (λ v q. apart_sets (word_code ∷ []) (type_coded (suc k)).goes refl (front_code v) q) (t ∷ u ∷ us) p r s in
+        let n : one_of (word_code ∷ []) c.0 ≡ true = ⊎_elim (λ o. o.0) (λ o. absurd (false≢true o.1)) (le.opens c.0 p.1 r c.2) in
+        let one = lt.exact (t ∷ u ∷ us) (simple_type t.from w.0) (u ∷ us) (stands_type k t w.0 (u ∷ us) w.1) (apart_sets paren_codes (type_coded (suc k)).goes refl (front_code (u ∷ us)) a.1) in
+        let two = lt.exact (t ∷ u ∷ us) p.0 c.0 c.1 (apart_sets (word_code ∷ []) (type_coded (suc k)).goes refl (front_code c.0) n) in
+        let same : (u ∷ us) ≡ c.0 = ap (λ (v : Read TypeTree). rest_or c.0 v) (sym one.1 ∙ two.1) in
+        false≢true (sym (apart_sets (word_code ∷ []) paren_codes refl (front_code c.0) n) ∙ subst (λ (v : List Token). one_of paren_codes v ≡ true) same a.1)
 
 -- the one where a word and a parenthesis stand, and else, where there is room, the other
 abbrev pub roomy_seconds : {A B : Type 0} → ℕ → Coded A → Coded B → Coded (Either A B)
@@ -112,9 +109,9 @@ roomy_seconds_zero A B ca cb la none e s g =
     (made_laws A (Either A B) ca This (tell_either ca.tell cb.tell) (fits_either ca.fits cb.fits) la (record { told = λ a r q. refl; forth = λ a q. q; back = back }))
     (λ ts q. within_sets ca.starts (ca.starts ++ cb.starts) s (front_code ts) q) (λ ts q. within_sets ca.goes (ca.goes ++ cb.goes) g (front_code ts) q))
   where
-  back : (o : Either A B) → fits_either ca.fits cb.fits o ≡ true → (a : A) × (This a ≡ o) × (ca.fits a ≡ true)
-  back (This a) q = (a, refl, q)
-  back (That b) q = absurd (false≢true (sym (none b) ∙ q))
+    back : (o : Either A B) → fits_either ca.fits cb.fits o ≡ true → (a : A) × (This a ≡ o) × (ca.fits a ≡ true)
+    back (This a) q = (a, refl, q)
+    back (That b) q = absurd (false≢true (sym (none b) ∙ q))
 
 pub roomy_seconds_suc : (A B : Type 0) (k : ℕ) (ca : Coded A) (cb : Coded B) → Lawful A (formed ca) → Lawful B (formed cb) → Parts A B word_code paren_codes ca cb → Lawful (Either A B) (formed (roomy_seconds (suc k) ca cb))
 unfolding roomy_second

@@ -1,27 +1,24 @@
 -- Declarations of types behind their modifiers, where their members are read as they are to be.
-use Rattle.std.proofs.Common.{◌≡◌, ℕ, zero, suc, max, Bool, true, false, List, [], ◌∷◌, map, refl, sym, ap, ◌∙◌, subst, ⊎_elim, arith}
+use Rattle.std.proofs.Common.{◌≡◌, ℕ, suc, max, Bool, true, false, List, [], ◌∷◌, map, refl, sym, ap, ◌∙◌, subst, ⊎_elim, arith}
 use Rattle.std.proofs.lemmas.Bool.{false≢true}
-use Rattle.std.proofs.Math.Bool.{and-true}
 use Rattle.std.proofs.Math.Path.{fun_ext}
 use Rattle.std.proofs.lemmas.Grind.{common_steps}
 use Rattle.std.specs.Prelude.{◌&&◌, ◌||◌, nat_le}
-use Rattle.std.specs.List.{list_all}
 use Rattle.jc_lexer.specs.declared.token.Key.TheVariants as key_of
 use Rattle.jc_lexer.specs.declared.token.Sign.TheVariants as sign_of
 use Rattle.jc_lexer.specs.declared.token.Token.{Token}
-use Rattle.jc_tree.specs.declared.statement.Declaration.{Declaration}
 use Rattle.jc_tree.specs.declared.statement.Member.{Member}
 use Rattle.jc_tree.specs.declared.statement.Modifier.{Modifier}
 use Rattle.jc_tree.specs.Heights.{most, head_height, declaration_height, member_height}
 use Rattle.jc_tree.proofs.HeightsOfStatements.{declaration_height-made}
 use Rattle.jc_grammar.specs.Told.{Told, sign, each}
-use Rattle.jc_grammar.specs.Parts.{head_tokens, modifiers_tokens}
+use Rattle.jc_grammar.specs.Parts.{modifiers_tokens}
 use Rattle.jc_grammar.specs.Shapes.{all_true}
 use Rattle.jc_grammar.specs.Statements.{declaration_tokens, member_tokens, braced}
 use Rattle.jc_grammar.specs.Units.{is_declaration, is_head, is_member}
 use Rattle.jc_grammar.proofs.ShapesOfStatements.{is_declaration-made}
 use Rattle.jc_grammar.proofs.TokensOfStatements.{declaration_tokens-made}
-use Rattle.jc_reading.specs.Kinds.{sign_code, key_code, word_code, front_code, one_of}
+use Rattle.jc_reading.specs.Kinds.{sign_code, key_code, word_code, front_code}
 use Rattle.jc_reading.specs.Reading.{Run}
 use Rattle.jc_reading.proofs.Forms.{Form, Lawful}
 use Rattle.jc_reading.proofs.Lists.{tell_all, fits_all}
@@ -39,7 +36,6 @@ use Rattle.jc_parse_parts.proofs.PartForms.{sign_form}
 use Rattle.jc_parse_unit.specs.UnitReading.{Level, Braces, DeclarationRest, declaration_made}
 use Rattle.jc_parse_unit.specs.MemberReading.{member_run, rest_run}
 use Rattle.jc_parse_unit.proofs.Bundles.{has, a_sign, then_a, any_of}
-
 
 -- where a member may begin
 abbrev pub member_codes : List ℕ
@@ -93,8 +89,8 @@ module _ (x : Exprs) (h : ℕ) (l : Level) where
       ∙ ap (λ b. (modifiers_fit x h modifiers && (head_rest_form h).fits rest) && b) (members_fit members)
       ∙ bits (modifiers_fit x h modifiers) ((head_rest_form h).fits rest) (fits_all member_coded.fits members)
     where
-    bits : (m r a : Bool) → ((m && r) && a) ≡ (m && (r && (true && (a && true))))
-    bits m r a = grind (arith, common_steps)
+      bits : (m r a : Bool) → ((m && r) && a) ≡ (m && (r && (true && (a && true))))
+      bits m r a = grind (arith, common_steps)
 
   no_modifiers : modifiers_fit x h [] ≡ true
   no_modifiers = ap (λ b. b && true) (room_above h)
@@ -118,19 +114,20 @@ module _ (x : Exprs) (h : ℕ) (l : Level) where
   pub rest_laws : Lawful Member (formed member_coded) → Lawful DeclarationRest (rest_form (suc h) (rest_run x h l))
   rest_laws lm =
       let la = subst (λ (t : DeclarationRest → List Told → List Told). Lawful DeclarationRest (Shown t (rest_form (suc h) (rest_run x h l)).fits)) (fun_ext (λ p. fun_ext (λ r. sym (told_declaration [] p r))))
-        (subst (λ (f : DeclarationRest → Bool). Lawful DeclarationRest (Shown Both.tell f)) (fun_ext rest_is) (shown_laws lm)) in
+      (subst (λ (f : DeclarationRest → Bool). Lawful DeclarationRest (Shown Both.tell f)) (fun_ext rest_is) (shown_laws lm)) in
       retested_laws DeclarationRest (Shown rest_tell (rest_form (suc h) (rest_run x h l)).fits) head_starts (λ ts. false) la
       (record { opens = λ ts p r s lt. opens ts (⊎_elim (λ o. o.0) (λ o. absurd (false≢true o.1)) (la.opens ts p r s)); refuses = λ ts e. la.refuses ts (back ts e); goes_too = λ ts e. e })
     where
-    opens : (ts : List Token) → Both.starts ts ≡ true → head_starts ts ≡ true
-    opens ts e = alone (head_starts ts) e
-      where
-      alone : (b : Bool) → (b || false) ≡ true → b ≡ true
-      alone true e = refl
-      alone false e = e
-    back : (ts : List Token) → head_starts ts ≡ false → Both.starts ts ≡ false
-    back ts e = alone (head_starts ts) e
-      where
-      alone : (b : Bool) → b ≡ false → (b || false) ≡ false
-      alone true e = e
-      alone false e = e
+      opens : (ts : List Token) → Both.starts ts ≡ true → head_starts ts ≡ true
+      opens ts e = alone (head_starts ts) e
+        where
+          alone : (b : Bool) → (b || false) ≡ true → b ≡ true
+          alone true e = refl
+          alone false e = e
+
+      back : (ts : List Token) → head_starts ts ≡ false → Both.starts ts ≡ false
+      back ts e = alone (head_starts ts) e
+        where
+          alone : (b : Bool) → b ≡ false → (b || false) ≡ false
+          alone true e = e
+          alone false e = e
