@@ -1,0 +1,17 @@
+pub mod AnnotationForms
+pub mod Bools
+pub mod Coded
+pub mod Depends
+pub mod ExprForms
+pub mod Followed
+pub mod FormalForms
+pub mod HeadForms
+pub mod LedAt
+pub mod ModifierForms
+pub mod Lowest
+pub mod PartForms
+pub mod Prefers
+pub mod Rows
+pub mod Seconds
+pub mod Tries
+pub mod Unbounded
