@@ -1,35 +1,15 @@
 -- Counting the constants that a class uses.
-use Rattle.std.proofs.Common.{◌≡◌, ◌<◌, ◌≤◌, ◌^◌, ℕ, zero, suc, ◌+◌, ◌-◌, ◌*◌, Bool, true, false, cond, List, [], ◌∷◌, ◌++◌, length, take, min, Option, Some, None, refl, sym, ap, subst, ◌∙◌, append_assoc, arith}
+use Rattle.std.proofs.Common.{◌≡◌, ◌<◌, ◌≤◌, ◌^◌, ℕ, zero, suc, ◌+◌, ◌-◌, Bool, true, false, cond, List, [], ◌∷◌, ◌++◌, length, take, min, refl, sym, ap, ◌∙◌, append_assoc, arith}
 use Rattle.std.specs.Prelude.{◌&&◌, ◌||◌, nat_lt}
-use Rattle.std.specs.List.{flat_map, list_all, list_any, AllByRecursion}
-use Rattle.std.proofs.lemmas.Bool.{ltb-true}
+use Rattle.std.specs.List.{list_all}
 use Rattle.std.proofs.lemmas.List.{length-append, append-nil, take_at}
 use Rattle.jc_class_out.specs.declared.model.ClassModel.{ClassModel}
-use Rattle.jc_class_out.specs.declared.model.CodeModel.{CodeModel}
-use Rattle.jc_class_out.specs.declared.model.FieldModel.{FieldModel}
-use Rattle.jc_class_out.specs.declared.model.Frame.{Frame}
-use Rattle.jc_class_out.specs.declared.model.Handler.{Handler}
-use Rattle.jc_class_out.specs.declared.model.InnerModel.{InnerModel}
-use Rattle.jc_class_out.specs.declared.model.Ins.{Ins}
-use Rattle.jc_class_out.specs.declared.model.Item.{Item}
-use Rattle.jc_class_out.specs.declared.model.Item.TheVariants as item
-use Rattle.jc_class_out.specs.declared.model.Loaded.{Loaded}
-use Rattle.jc_class_out.specs.declared.model.Loaded.TheVariants as loaded
-use Rattle.jc_class_out.specs.declared.model.MethodModel.{MethodModel}
-use Rattle.jc_class_out.specs.declared.model.Operand.{Operand}
-use Rattle.jc_class_out.specs.declared.model.Operand.TheVariants as op
-use Rattle.jc_class_out.specs.declared.format.Kind.{Kind}
 use Rattle.jc_class_out.specs.Pool.{Known}
-use Rattle.jc_class_out.specs.Instructions.{kind_of}
-use Rattle.jc_class_out.specs.Code.{marks_of, size_from}
-use Rattle.jc_class_out.specs.Format.{is_bodiless}
-use Rattle.jc_class_out.specs.Spelling.{Told, same_known, has, add, adds, class_uses, class_or_none_uses, name_or_none_uses, loaded_uses, member_uses, operand_uses, ins_uses, first_uses, ins_first_uses, is_load, handler_uses, item_uses, frame_uses, table_uses, code_uses, code_or_none_uses, method_uses, code_first_uses, method_first_uses, field_uses, inner_uses, inners_uses, members_uses, loads_of, uses}
-use Rattle.jc_class_out.specs.Fitting.{known_fits, places, is_u16, is_count, items_fit, frame_fits, frames_fit, all_fit, ins_lands, ins_all_fit, item_fits, handler_fits, frames_within, frames_room, tables_fit, code_fits, code_or_none_fits, method_fits, field_fits, inner_fits, counts_fit, members_fit, is_behind}
+use Rattle.jc_class_out.specs.Spelling.{Told, same_known, has, add, adds, uses}
+use Rattle.jc_class_out.specs.Fitting.{known_fits, places}
 use Rattle.jc_class_out.specs.FinderSees.{FinderSees, CensusSees}
-use Rattle.jc_class_out.proofs.Numbers.{both_true}
 use Rattle.jc_class_out.proofs.Known.{has_pool}
 use Rattle.jc_class_out.proofs.FileAgain.{adds_append}
-use Rattle.jc_class_out.proofs.CodeAgain.{few_ins}
 
 -- ---- checking and plain counting
 

@@ -1,138 +1,28 @@
--- Frames, attributes, fields, methods and a whole class are read again.
-use Rattle.std.proofs.Common.{◌≡◌, ◌<◌, ◌≤◌, ◌^◌, ℕ, zero, suc, ◌+◌, ◌-◌, ◌*◌, ◌/◌, ◌%◌, Bool, true, false, cond, ltb, eqb, List, [], ◌∷◌, ◌++◌, length, Option, Some, None, Result, Ok, Err, refl, sym, ap, subst, ◌∙◌, append_assoc, arith, inl, inr}
-use lib.Dec.{leb}
-use Rattle.std.specs.Prelude.{◌&&◌, ◌||◌, not, nat_lt, codes}
+-- Attributes and code are read again.
+use Rattle.std.proofs.Common.{◌≡◌, ◌<◌, ◌≤◌, ◌^◌, ℕ, ◌+◌, ◌-◌, ◌*◌, Bool, true, ltb, eqb, List, [], ◌∷◌, ◌++◌, length, Option, Some, None, Ok, refl, append_assoc, arith}
+use Rattle.std.specs.Prelude.{◌&&◌, codes}
 use Rattle.std.specs.Int.{w16, w32, to_be_bytes}
-use Rattle.std.specs.List.{flat_map, list_all, AllByRecursion}
+use Rattle.std.specs.List.{flat_map, list_all}
 use Rattle.std.specs.Str.{bytes_eq}
-use Rattle.std.proofs.lemmas.Bool.{ltb-true, leb-true, eqb-true, eq-eqb, ne_eqb, lt-ltb, le-ltb, not-true}
+use Rattle.std.proofs.lemmas.Bool.{ltb-true, eq-eqb}
 use Rattle.std.proofs.lemmas.List.{length-append}
 use Rattle.std.proofs.lemmas.Slice.Eq.{bytes_eq-Decides}
-use Rattle.jc_class_out.specs.declared.format.Flaw.{Flaw}
 use Rattle.jc_class_out.specs.declared.format.Slot.{Slot}
-use Rattle.jc_class_out.specs.declared.model.ClassModel.{ClassModel}
 use Rattle.jc_class_out.specs.declared.model.CodeModel.{CodeModel}
-use Rattle.jc_class_out.specs.declared.model.FieldModel.{FieldModel}
 use Rattle.jc_class_out.specs.declared.model.Frame.{Frame}
 use Rattle.jc_class_out.specs.declared.model.Handler.{Handler}
-use Rattle.jc_class_out.specs.declared.model.InnerModel.{InnerModel}
 use Rattle.jc_class_out.specs.declared.model.Item.{Item}
-use Rattle.jc_class_out.specs.declared.model.Item.TheVariants as item
-use Rattle.jc_class_out.specs.declared.model.MethodModel.{MethodModel}
-use Rattle.jc_class_out.specs.Reading.{◌>>=◌, wants, u8_at, number_at, listed}
-use Rattle.jc_class_out.specs.Descriptors.{is_field_descriptor, is_method_descriptor, entry_locals}
-use Rattle.jc_class_out.specs.Pool.{Known, KnownText, KnownClass, named_at, class_named_at, descriptor_at}
-use Rattle.jc_class_out.specs.Frames.{begins, offset_item_at, item_by, item_at, place_of, place_at, full_at, frame_by, frame_at, frames_at, table_at}
-use Rattle.jc_class_out.specs.Code.{attribute_at, attribute_ends, no_more_at, marks_of, size_from, handler_at, frames_of_at, code_attributes_at, code_at, body_at}
-use Rattle.jc_class_out.specs.Format.{field_at, is_bodiless, code_attribute_at, with_code_at, without_code_at, method_at, inner_at, inners_at, class_attributes_at, members_at}
-use Rattle.jc_class_out.specs.Spelling.{has, index, ins_uses, ins_first_uses, class_uses, class_or_none_uses, name_or_none_uses, handler_uses, item_uses, frame_uses, table_uses, code_uses, code_or_none_uses, method_uses, code_first_uses, method_first_uses, field_uses, inner_uses, inners_uses, members_uses, loads_of, counted, spell_handler, spell_class_or_none, spell_name_or_none, spell_item, delta_of, spell_frame, spell_frames, spell_attribute, spell_table, spell_body, spell_code_attributes, spell_code_model, spell_code_or_none, spell_method, spell_field, spell_inner, spell_inners, spell_interface, spell_members}
-use Rattle.jc_class_out.specs.Fitting.{is_u16, is_count, handler_fits, item_fits, is_behind, items_fit, frame_fits, frames_fit, item_length, items_length, frame_length, frames_within, frames_room, all_fit, ins_lands, ins_all_fit, tables_fit, code_fits, code_or_none_fits, method_fits, field_fits, inner_fits, counts_fit, members_fit}
-use Rattle.jc_class_out.proofs.Numbers.{both_true, u2_again, u4_again, whole_u2, whole_u4, EachAgain, listed_again}
-use Rattle.jc_class_out.proofs.Served.{Serves, index_again, class_again, named_again, HasClass, HasName, class_or_none_again, name_or_none_again}
+use Rattle.jc_class_out.specs.Pool.{Known, KnownText}
+use Rattle.jc_class_out.specs.Code.{attribute_at, attribute_ends, no_more_at, marks_of, size_from, handler_at, frames_of_at, code_attributes_at, code_at}
+use Rattle.jc_class_out.specs.Spelling.{has, ins_uses, ins_first_uses, class_or_none_uses, name_or_none_uses, handler_uses, frames_uses, table_uses, code_uses, counted, spell_handler, spell_class_or_none, spell_attribute, spell_table, spell_body, spell_code_attributes, spell_code_model}
+use Rattle.jc_class_out.specs.Fitting.{is_u16, is_count, handler_fits, frames_fit, frames_within, frames_room, all_fit, ins_lands, ins_all_fit, tables_fit, code_fits}
+use Rattle.jc_class_out.proofs.Numbers.{both_true, u2_again, u4_again, whole_u4, EachAgain, listed_again}
+use Rattle.jc_class_out.proofs.Served.{Serves, named_again, HasClass, HasName}
 use Rattle.jc_class_out.proofs.InsAgain.{Have, Low}
-use Rattle.jc_class_out.proofs.CodeAgain.{have_append, low_append, length_marks, begins_below, BodyAgain, body_again, handler_again}
-
--- ---- items and frames
-
-item_again : (slots : List Slot) (ks : List Known) → Serves ks slots → (marks : List Bool) → length marks < 65536 → (i : Item) (rest : List ℕ) → item_fits marks i ≡ true → Have ks (item_uses i) → item_at slots marks (spell_item ks i ++ rest) ≡ Ok (i, rest)
-unfolding item_at item_by spell_item offset_item_at
-item_again slots ks s marks lt item.Top rest f u = refl
-item_again slots ks s marks lt item.Integer rest f u = refl
-item_again slots ks s marks lt item.Long rest f u = refl
-item_again slots ks s marks lt item.NullItem rest f u = refl
-item_again slots ks s marks lt item.UninitializedThis rest f u = refl
-item_again slots ks s marks lt (item.Object name) rest f u = rw (class_again ks slots s name rest u.1.0) refl
-item_again slots ks s marks lt (item.Uninitialized at) rest f u =
-    let b = begins_below marks at f in
-    rw (whole_u2 at (omega (arith, b, lt)), u2_again at rest (omega (arith, b, lt)), f) refl
-
-each_item : (slots : List Slot) (ks : List Known) → Serves ks slots → (marks : List Bool) → length marks < 65536 → (is : List Item) → list_all (item_fits marks) is ≡ true → Have ks (flat_map item_uses is) → EachAgain (item_at slots marks) (spell_item ks) is
-each_item slots ks s marks lt [] f u = tt
-each_item slots ks s marks lt (i ∷ is) f u =
-    let p = both_true (item_fits marks i) (list_all (item_fits marks) is) f in
-    let v = have_append ks (item_uses i) (flat_map item_uses is) u in
-    (λ rest. item_again slots ks s marks lt i rest p.0 v.0, each_item slots ks s marks lt is p.1 v.1)
-
-items_again : (slots : List Slot) (ks : List Known) → Serves ks slots → (marks : List Bool) → length marks < 65536 → (is : List Item) (rest : List ℕ) → items_fit marks is ≡ true → Have ks (flat_map item_uses is) → listed (item_at slots marks) (counted (spell_item ks) is ++ rest) ≡ Ok (is, rest)
-unfolding items_fit
-items_again slots ks s marks lt is rest f u =
-    let p = both_true (is_count is) (list_all (item_fits marks) is) f in
-    listed_again (item_at slots marks) (spell_item ks) is rest (ltb-true (length is) 65536 p.0) (each_item slots ks s marks lt is p.1 u)
-
-place_again : (before : Option ℕ) (at : ℕ) → is_behind before at ≡ true → place_of before (delta_of before at) ≡ at
-place_again None at h = refl
-place_again (Some b) at h = let lt = ltb-true b at h in omega (arith, lt)
-
-delta_small : (before : Option ℕ) (at : ℕ) → delta_of before at ≤ at
-delta_small None at = omega arith
-delta_small (Some b) at = omega arith
-
-frame_again : (slots : List Slot) (ks : List Known) → Serves ks slots → (marks : List Bool) → length marks < 65536 → (before : Option ℕ) (locals : List Item) (f : Frame) (rest : List ℕ) → frame_fits marks before f ≡ true → Have ks (frame_uses f)
-    → frame_at slots marks before locals (spell_frame ks before f ++ rest) ≡ Ok (f, rest)
-unfolding frame_at frame_by full_at place_at spell_frame frame_fits frame_uses
-frame_again slots ks s marks lt before locals f rest h u =
-    let a = both_true (begins marks f.at) (is_behind before f.at && (items_fit marks f.locals && items_fit marks f.stack)) h in
-    let b = both_true (is_behind before f.at) (items_fit marks f.locals && items_fit marks f.stack) a.1 in
-    let c = both_true (items_fit marks f.locals) (items_fit marks f.stack) b.1 in
-    let v = have_append ks (flat_map item_uses f.locals) (flat_map item_uses f.stack) u in
-    let below = begins_below marks f.at a.0 in
-    let small = delta_small before f.at in
-    let e : delta_of before f.at % 65536 ≡ delta_of before f.at = whole_u2 (delta_of before f.at) (omega (arith, below, small, lt)) in
-    let ls = counted (spell_item ks) f.locals in
-    let st = counted (spell_item ks) f.stack in
-    let regrouped : (ls ++ st) ++ rest ≡ ls ++ (st ++ rest) = append_assoc ls st rest in
-    rw (e, u2_again (delta_of before f.at) ((ls ++ st) ++ rest) (omega (arith, below, small, lt)), place_again before f.at b.0, a.0, regrouped, items_again slots ks s marks lt f.locals (st ++ rest) c.0 v.0, items_again slots ks s marks lt f.stack rest c.1 v.1) refl
-
-frames_again : (slots : List Slot) (ks : List Known) → Serves ks slots → (marks : List Bool) → length marks < 65536 → (before : Option ℕ) (locals : List Item) (fs : List Frame) (rest : List ℕ) → frames_fit marks before fs ≡ true → Have ks (flat_map frame_uses fs)
-    → frames_at slots marks (length fs) before locals (spell_frames ks before fs ++ rest) ≡ Ok (fs, rest)
-unfolding frames_at spell_frames frames_fit
-frames_again slots ks s marks lt before locals [] rest h u = refl
-frames_again slots ks s marks lt before locals (f ∷ fs) rest h u =
-    let p = both_true (frame_fits marks before f) (frames_fit marks (Some (f.at)) fs) h in
-    let v = have_append ks (frame_uses f) (flat_map frame_uses fs) u in
-    let regrouped : (spell_frame ks before f ++ spell_frames ks (Some (f.at)) fs) ++ rest ≡ spell_frame ks before f ++ (spell_frames ks (Some (f.at)) fs ++ rest) = append_assoc (spell_frame ks before f) (spell_frames ks (Some (f.at)) fs) rest in
-    rw (regrouped, frame_again slots ks s marks lt before locals f (spell_frames ks (Some (f.at)) fs ++ rest) p.0 v.0, frames_again slots ks s marks lt (Some (f.at)) f.locals fs rest p.1 v.1) refl
-
-table_again : (slots : List Slot) (ks : List Known) → Serves ks slots → (marks : List Bool) → length marks < 65536 → (entry : List Item) (fs : List Frame) (rest : List ℕ) → is_count fs ≡ true → frames_fit marks None fs ≡ true → Have ks (flat_map frame_uses fs)
-    → table_at slots marks entry (spell_table ks fs ++ rest) ≡ Ok (fs, rest)
-unfolding table_at spell_table
-table_again slots ks s marks lt entry fs rest n h u =
-    let few = ltb-true (length fs) 65536 n in
-    rw (whole_u2 (length fs) few, u2_again (length fs) (spell_frames ks None fs ++ rest) few, frames_again slots ks s marks lt None entry fs rest h u) refl
+use Rattle.jc_class_out.proofs.FramesAgain.{table_again, length_frames}
+use Rattle.jc_class_out.proofs.CodeAgain.{have_append, length_marks, body_again, handler_again}
 
 -- ---- lengths
-
-length_item : (ks : List Known) (i : Item) → length (spell_item ks i) ≡ item_length i
-unfolding spell_item
-length_item ks item.Top = refl
-length_item ks item.Integer = refl
-length_item ks item.Long = refl
-length_item ks item.NullItem = refl
-length_item ks item.UninitializedThis = refl
-length_item ks (item.Object name) = refl
-length_item ks (item.Uninitialized at) = refl
-
-length_items : (ks : List Known) (is : List Item) → length (flat_map (spell_item ks) is) ≡ items_length is
-unfolding items_length
-length_items ks [] = refl
-length_items ks (i ∷ is) = omega (arith, length-append (spell_item ks i) (flat_map (spell_item ks) is), length_item ks i, length_items ks is)
-
-length_counted_items : (ks : List Known) (is : List Item) → length (counted (spell_item ks) is) ≡ 2 + items_length is
-unfolding counted
-length_counted_items ks is = omega (arith, length_items ks is)
-
-length_frame : (ks : List Known) (before : Option ℕ) (f : Frame) → length (spell_frame ks before f) ≡ frame_length f
-unfolding spell_frame
-length_frame ks before f = omega (arith, length-append (counted (spell_item ks) f.locals) (counted (spell_item ks) f.stack), length_counted_items ks f.locals, length_counted_items ks f.stack)
-
-length_frames : (ks : List Known) (before : Option ℕ) (fs : List Frame) (room : ℕ) → frames_within room fs ≡ true → length (spell_frames ks before fs) ≤ room
-unfolding frames_within spell_frames
-length_frames ks before [] room h = omega arith
-length_frames ks before (f ∷ fs) room h =
-    let p = both_true (leb (frame_length f) room) (frames_within (room - frame_length f) fs) h in
-    let le = leb-true (frame_length f) room p.0 in
-    let ih = length_frames ks (Some (f.at)) fs (room - frame_length f) p.1 in
-    omega (arith, le, ih, length_frame ks before f, length-append (spell_frame ks before f) (spell_frames ks (Some (f.at)) fs))
 
 length_class_or_none : (ks : List Known) (o : Option (List ℕ)) → length (spell_class_or_none ks o) ≡ 2
 length_class_or_none ks None = refl
@@ -162,18 +52,18 @@ none_more_again slots rest = refl
 
 -- ---- code
 
-frames_of_again : (slots : List Slot) (ks : List Known) → Serves ks slots → (marks : List Bool) → length marks < 65536 → (entry : List Item) (fs : List Frame) (rest : List ℕ) → is_count fs ≡ true → frames_fit marks None fs ≡ true → length (spell_table ks fs) < 2 ^ 32
-    → has ks (KnownText (codes "StackMapTable")) ≡ true → Have ks (flat_map frame_uses fs) → frames_of_at slots marks entry (spell_attribute ks (codes "StackMapTable") (spell_table ks fs) ++ rest) ≡ Ok (fs, rest)
+frames_of_again : (slots : List Slot) (ks : List Known) → Serves ks slots → (marks : List Bool) → length marks < 65536 → (entry : List Item) (fs : List Frame) (rest : List ℕ) → is_count fs ≡ true → frames_fit marks None entry fs ≡ true → length (spell_table ks entry fs) < 2 ^ 32
+    → has ks (KnownText (codes "StackMapTable")) ≡ true → Have ks (frames_uses entry fs) → frames_of_at slots marks entry (spell_attribute ks (codes "StackMapTable") (spell_table ks entry fs) ++ rest) ≡ Ok (fs, rest)
 unfolding frames_of_at
 frames_of_again slots ks s marks lt entry fs rest n h long name u =
-    rw (attribute_again slots ks s (codes "StackMapTable") (spell_table ks fs) rest name long, table_again slots ks s marks lt entry fs rest n h u, ends_again (spell_table ks fs) rest) refl
+    rw (attribute_again slots ks s (codes "StackMapTable") (spell_table ks entry fs) rest name long, table_again slots ks s marks lt entry fs rest n h u, ends_again (spell_table ks entry fs) rest) refl
 
-code_attributes_again : (slots : List Slot) (ks : List Known) → Serves ks slots → (marks : List Bool) → length marks < 65536 → (entry : List Item) (fs : List Frame) (rest : List ℕ) → is_count fs ≡ true → frames_fit marks None fs ≡ true → length (spell_table ks fs) < 2 ^ 32
-    → Have ks (table_uses fs) → code_attributes_at slots marks entry (spell_code_attributes ks fs ++ rest) ≡ Ok (fs, rest)
+code_attributes_again : (slots : List Slot) (ks : List Known) → Serves ks slots → (marks : List Bool) → length marks < 65536 → (entry : List Item) (fs : List Frame) (rest : List ℕ) → is_count fs ≡ true → frames_fit marks None entry fs ≡ true → length (spell_table ks entry fs) < 2 ^ 32
+    → Have ks (table_uses entry fs) → code_attributes_at slots marks entry (spell_code_attributes ks entry fs ++ rest) ≡ Ok (fs, rest)
 unfolding code_attributes_at
 code_attributes_again slots ks s marks lt entry [] rest n h long u = rw (u2_again 0 rest (omega arith)) refl
 code_attributes_again slots ks s marks lt entry (f ∷ fs) rest n h long u =
-    let attribute = spell_attribute ks (codes "StackMapTable") (spell_table ks (f ∷ fs)) in
+    let attribute = spell_attribute ks (codes "StackMapTable") (spell_table ks entry (f ∷ fs)) in
     rw (u2_again 1 (attribute ++ rest) (omega arith), frames_of_again slots ks s marks lt entry (f ∷ fs) rest n h long u.0 u.1, none_more_again slots rest) refl
 
 pub has_class : (ks : List Known) (o : Option (List ℕ)) → Have ks (class_or_none_uses o) → HasClass ks o
@@ -191,34 +81,34 @@ each_handler slots ks s marks lt (h ∷ hs) f u =
     let v = have_append ks (handler_uses h) (flat_map handler_uses hs) u in
     (λ rest. handler_again slots ks s marks h rest lt p.0 (has_class ks h.class v.0), each_handler slots ks s marks lt hs p.1 v.1)
 
-length_table : (ks : List Known) (fs : List Frame) (room : ℕ) → frames_within room fs ≡ true → length (spell_table ks fs) ≤ 2 + room
+length_table : (ks : List Known) (entry : List Item) (fs : List Frame) (room : ℕ) → frames_within room None entry fs ≡ true → length (spell_table ks entry fs) ≤ 2 + room
 unfolding spell_table
-length_table ks fs room h = omega (arith, length_frames ks None fs room h)
+length_table ks entry fs room h = omega (arith, length_frames ks None entry fs room h)
 
 length_attribute : (ks : List Known) (word content : List ℕ) → length (spell_attribute ks word content) ≡ 6 + length content
 unfolding spell_attribute
 length_attribute ks word content = omega arith
 
-length_code_attributes : (ks : List Known) (fs : List Frame) (room : ℕ) → frames_within room fs ≡ true → length (spell_code_attributes ks fs) ≤ 10 + room
-length_code_attributes ks [] room h = omega arith
-length_code_attributes ks (f ∷ fs) room h = omega (arith, length_table ks (f ∷ fs) room h, length_attribute ks (codes "StackMapTable") (spell_table ks (f ∷ fs)))
+length_code_attributes : (ks : List Known) (entry : List Item) (fs : List Frame) (room : ℕ) → frames_within room None entry fs ≡ true → length (spell_code_attributes ks entry fs) ≤ 10 + room
+length_code_attributes ks entry [] room h = omega arith
+length_code_attributes ks entry (f ∷ fs) room h = omega (arith, length_table ks entry (f ∷ fs) room h, length_attribute ks (codes "StackMapTable") (spell_table ks entry (f ∷ fs)))
 
-pub record CodeModelAgain (slots : List Slot) (ks : List Known) (c : CodeModel) : Type 0 where
-  pub is_read : (entry : List Item) (rest : List ℕ) → code_at slots entry (spell_code_model ks c ++ rest) ≡ Ok (c, rest)
-  pub short : length (spell_code_model ks c) < 2 ^ 32
+pub record CodeModelAgain (slots : List Slot) (ks : List Known) (entry : List Item) (c : CodeModel) : Type 0 where
+  pub is_read : (rest : List ℕ) → code_at slots entry (spell_code_model ks entry c ++ rest) ≡ Ok (c, rest)
+  pub short : length (spell_code_model ks entry c) < 2 ^ 32
 
-pub code_model_again : (slots : List Slot) (ks : List Known) → Serves ks slots → (c : CodeModel) → code_fits c ≡ true → Have ks (code_uses c) → Low ks (flat_map ins_first_uses c.ins) → CodeModelAgain slots ks c
+pub code_model_again : (slots : List Slot) (ks : List Known) → Serves ks slots → (entry : List Item) (c : CodeModel) → code_fits entry c ≡ true → Have ks (code_uses entry c) → Low ks (flat_map ins_first_uses c.ins) → CodeModelAgain slots ks entry c
 unfolding code_at spell_code_model code_fits tables_fit code_uses ins_all_fit counted
-code_model_again slots ks s c h u l =
-    let a = both_true (is_u16 c.stack) (is_u16 c.locals && (ins_all_fit c.ins && tables_fit (marks_of c.ins) c)) h in
-    let b = both_true (is_u16 c.locals) (ins_all_fit c.ins && tables_fit (marks_of c.ins) c) a.1 in
-    let d = both_true (ins_all_fit c.ins) (tables_fit (marks_of c.ins) c) b.1 in
-    let t1 = both_true (is_count c.handlers) (list_all (handler_fits (marks_of c.ins)) c.handlers && (is_count c.frames && (frames_fit (marks_of c.ins) None c.frames && frames_within (frames_room c) c.frames))) d.1 in
-    let t2 = both_true (list_all (handler_fits (marks_of c.ins)) c.handlers) (is_count c.frames && (frames_fit (marks_of c.ins) None c.frames && frames_within (frames_room c) c.frames)) t1.1 in
-    let t3 = both_true (is_count c.frames) (frames_fit (marks_of c.ins) None c.frames && frames_within (frames_room c) c.frames) t2.1 in
-    let t4 = both_true (frames_fit (marks_of c.ins) None c.frames) (frames_within (frames_room c) c.frames) t3.1 in
-    let v = have_append ks (flat_map ins_uses c.ins) (flat_map handler_uses c.handlers ++ table_uses c.frames) u in
-    let x = have_append ks (flat_map handler_uses c.handlers) (table_uses c.frames) v.1 in
+code_model_again slots ks s entry c h u l =
+    let a = both_true (is_u16 c.stack) (is_u16 c.locals && (ins_all_fit c.ins && tables_fit (marks_of c.ins) entry c)) h in
+    let b = both_true (is_u16 c.locals) (ins_all_fit c.ins && tables_fit (marks_of c.ins) entry c) a.1 in
+    let d = both_true (ins_all_fit c.ins) (tables_fit (marks_of c.ins) entry c) b.1 in
+    let t1 = both_true (is_count c.handlers) (list_all (handler_fits (marks_of c.ins)) c.handlers && (is_count c.frames && (frames_fit (marks_of c.ins) None entry c.frames && frames_within (frames_room c) None entry c.frames))) d.1 in
+    let t2 = both_true (list_all (handler_fits (marks_of c.ins)) c.handlers) (is_count c.frames && (frames_fit (marks_of c.ins) None entry c.frames && frames_within (frames_room c) None entry c.frames)) t1.1 in
+    let t3 = both_true (is_count c.frames) (frames_fit (marks_of c.ins) None entry c.frames && frames_within (frames_room c) None entry c.frames) t2.1 in
+    let t4 = both_true (frames_fit (marks_of c.ins) None entry c.frames) (frames_within (frames_room c) None entry c.frames) t3.1 in
+    let v = have_append ks (flat_map ins_uses c.ins) (flat_map handler_uses c.handlers ++ table_uses entry c.frames) u in
+    let x = have_append ks (flat_map handler_uses c.handlers) (table_uses entry c.frames) v.1 in
     let i1 = both_true (ltb 0 (size_from 0 c.ins)) (ltb (size_from 0 c.ins) 65536 && (all_fit 0 c.ins && list_all (ins_lands (marks_of c.ins)) c.ins)) d.0 in
     let i2 = both_true (ltb (size_from 0 c.ins) 65536) (all_fit 0 c.ins && list_all (ins_lands (marks_of c.ins)) c.ins) i1.1 in
     let small = ltb-true (size_from 0 c.ins) 65536 i2.0 in
@@ -227,14 +117,14 @@ code_model_again slots ks s c h u l =
     let code = body_again slots ks s c.ins d.0 v.0 l in
     let body = spell_body ks c.ins in
     let handlers = counted (spell_handler ks) c.handlers in
-    let attributes = spell_code_attributes ks c.frames in
-    let l1 = length_code_attributes ks c.frames (frames_room c) t4.1 in
+    let attributes = spell_code_attributes ks entry c.frames in
+    let l1 = length_code_attributes ks entry c.frames (frames_room c) t4.1 in
     let l2 = length_handlers ks c.handlers in
     let l3 = length-append body (handlers ++ attributes) in
     let l4 = length-append handlers attributes in
-    let long : length (spell_table ks c.frames) < 2 ^ 32 = omega (arith, length_table ks c.frames (frames_room c) t4.1, small, few) in
+    let long : length (spell_table ks entry c.frames) < 2 ^ 32 = omega (arith, length_table ks entry c.frames (frames_room c) t4.1, small, few) in
     record {
-      is_read = λ entry rest.
+      is_read = λ rest.
           let regrouped : (body ++ (handlers ++ attributes)) ++ rest ≡ body ++ (handlers ++ (attributes ++ rest)) = simp append_assoc in
           let hs = listed_again (handler_at slots (marks_of c.ins)) (spell_handler ks) c.handlers (attributes ++ rest) few (each_handler slots ks s (marks_of c.ins) marks-short c.handlers t2.0 x.0) in
           rw (

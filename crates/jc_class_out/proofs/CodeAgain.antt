@@ -1,33 +1,25 @@
 -- Code, its exception table and its frames are read again.
-use Rattle.std.proofs.Common.{◌≡◌, ◌<◌, ◌≤◌, ◌^◌, ℕ, zero, suc, ◌+◌, ◌-◌, ◌*◌, ◌%◌, Bool, true, false, cond, ltb, eqb, List, [], ◌∷◌, ◌++◌, length, get_or, replicate, Option, Some, None, Result, Ok, Err, refl, sym, ap, subst, ◌∙◌, append_assoc, arith, inl, inr}
+use Rattle.std.proofs.Common.{◌≡◌, ◌<◌, ◌≤◌, ◌^◌, ℕ, zero, suc, ◌+◌, ◌-◌, ◌%◌, Bool, true, false, ltb, eqb, List, [], ◌∷◌, ◌++◌, length, replicate, Ok, refl, ap, ◌∙◌, append_assoc, arith, inl, inr}
 use lib.Dec.{leb}
-use Rattle.std.specs.Prelude.{◌&&◌, ◌||◌, not, nat_lt, codes}
-use Rattle.std.specs.Int.{w16, w32, to_be_bytes}
+use Rattle.std.specs.Prelude.{◌&&◌, nat_lt}
+use Rattle.std.specs.Int.{w16, to_be_bytes}
 use Rattle.std.specs.List.{flat_map, list_all, AllByRecursion}
-use Rattle.std.specs.Str.{bytes_eq}
-use Rattle.std.proofs.lemmas.Bool.{ltb-true, leb-true, eqb-true, eq-eqb, ne_eqb, lt-ltb, le-ltb, le-leb, lt-leb, or_cases, cases_lt}
-use Rattle.std.proofs.lemmas.List.{length-append, length-replicate, append-nil, get_or_past}
-use Rattle.std.proofs.lemmas.Slice.Eq.{bytes_eq-Decides}
-use Rattle.jc_class_out.specs.declared.format.Flaw.{Flaw}
+use Rattle.std.proofs.lemmas.Bool.{ltb-true, eqb-true, eq-eqb, ne_eqb, lt-ltb, le-leb, lt-leb, or_cases, cases_lt}
+use Rattle.std.proofs.lemmas.List.{length-append, length-replicate, get_or_past}
 use Rattle.jc_class_out.specs.declared.format.Slot.{Slot}
-use Rattle.jc_class_out.specs.declared.model.CodeModel.{CodeModel}
-use Rattle.jc_class_out.specs.declared.model.Frame.{Frame}
 use Rattle.jc_class_out.specs.declared.model.Handler.{Handler}
 use Rattle.jc_class_out.specs.declared.model.Ins.{Ins}
-use Rattle.jc_class_out.specs.declared.model.Item.{Item}
-use Rattle.jc_class_out.specs.declared.model.Item.TheVariants as item
 use Rattle.jc_class_out.specs.declared.model.Operand.{Operand}
 use Rattle.jc_class_out.specs.declared.model.Operand.TheVariants as op
 use Rattle.jc_class_out.specs.declared.model.SwitchCase.{SwitchCase}
-use Rattle.jc_class_out.specs.Reading.{◌>>=◌, wants, u8_at, number_at, listed}
-use Rattle.jc_class_out.specs.Pool.{Known, KnownText, KnownClass, class_or_none_at, named_at}
-use Rattle.jc_class_out.specs.Instructions.{kind_of, ins_at, ins_size, wide_size, operand_size, padding}
-use Rattle.jc_class_out.specs.Frames.{begins, offset_item_at, item_by, item_at, place_of, place_at, full_at, frame_by, frame_at, frames_at, table_at}
-use Rattle.jc_class_out.specs.Code.{attribute_at, attribute_ends, no_more_at, code_on, marks_from, marks_of, size_from, cases_land, lands, all_land, body_at, ends, handler_at, frames_of_at, code_attributes_at, code_at}
-use Rattle.jc_class_out.specs.Spelling.{has, number, index, ins_uses, ins_first_uses, handler_uses, item_uses, frame_uses, table_uses, code_uses, counted, spell_ins, spell_code, spell_body, spell_handler, spell_class_or_none, spell_item, delta_of, spell_frame, spell_frames, spell_attribute, spell_table, spell_code_attributes, spell_code_model}
-use Rattle.jc_class_out.specs.Fitting.{is_u16, is_count, ins_fits, all_fit, case_lands, operand_lands, ins_lands, handler_fits, item_fits, is_behind, items_fit, frame_fits, frames_fit, item_length, items_length, frame_length, frames_within, frames_room, ins_all_fit, tables_fit, code_fits}
-use Rattle.jc_class_out.proofs.Numbers.{both_true, u2_again, u4_again, whole_u2, whole_u4, EachAgain, listed_again}
-use Rattle.jc_class_out.proofs.Served.{Serves, index_again, class_again, named_again, HasClass, class_or_none_again}
+use Rattle.jc_class_out.specs.Pool.{Known}
+use Rattle.jc_class_out.specs.Instructions.{ins_size, padding}
+use Rattle.jc_class_out.specs.Frames.{begins}
+use Rattle.jc_class_out.specs.Code.{code_on, marks_from, marks_of, size_from, cases_land, lands, all_land, body_at, ends, handler_at}
+use Rattle.jc_class_out.specs.Spelling.{ins_uses, ins_first_uses, spell_ins, spell_code, spell_body, spell_handler, spell_class_or_none}
+use Rattle.jc_class_out.specs.Fitting.{ins_fits, all_fit, case_lands, operand_lands, ins_lands, handler_fits, ins_all_fit}
+use Rattle.jc_class_out.proofs.Numbers.{both_true, u2_again, u4_again, whole_u2, whole_u4}
+use Rattle.jc_class_out.proofs.Served.{Serves, HasClass, class_or_none_again}
 use Rattle.jc_class_out.proofs.InsAgain.{Have, Low, Reaches, InsAgain, ins_again}
 
 -- ---- lists of constants that are there

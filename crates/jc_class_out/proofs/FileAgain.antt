@@ -1,26 +1,24 @@
 -- The file that is written is read again.
-use Rattle.std.proofs.Common.{◌≡◌, ◌<◌, ◌≤◌, ◌^◌, ℕ, zero, suc, ◌+◌, ◌-◌, ℤ, Bool, true, false, cond, ltb, eqb, List, [], ◌∷◌, ◌++◌, length, Option, Some, None, Result, Ok, Err, refl, sym, ap, subst, ◌∙◌, append_assoc, add-one, arith}
+use Rattle.std.proofs.Common.{◌≡◌, ◌<◌, ◌≤◌, ℕ, ◌+◌, ℤ, Bool, true, false, cond, List, [], ◌∷◌, ◌++◌, length, None, Ok, refl, sym, ap, subst, ◌∙◌, append_assoc, arith}
 use lib.Dec.{leb}
-use Rattle.std.specs.Prelude.{◌&&◌, ◌||◌, not, nat_lt}
-use Rattle.std.specs.Int.{w16, w32, to_be_bytes}
-use Rattle.std.specs.List.{flat_map, list_any, list_all, prefix_len, position, AllByRecursion}
+use Rattle.std.specs.Prelude.{◌&&◌, ◌||◌, not}
+use Rattle.std.specs.Int.{w16, to_be_bytes}
+use Rattle.std.specs.List.{list_all, prefix_len, AllByRecursion}
 use Rattle.std.specs.Ordering.{int_eq}
-use Rattle.std.proofs.lemmas.Bool.{leb-true, lt-ltb, ltb-true}
+use Rattle.std.proofs.lemmas.Bool.{leb-true, lt-ltb}
 use Rattle.std.proofs.lemmas.List.{length-append, append-nil}
-use Rattle.jc_class_out.specs.declared.format.Flaw.{Flaw}
 use Rattle.jc_class_out.specs.declared.format.Slot.{Slot}
 use Rattle.jc_class_out.specs.declared.model.ClassModel.{ClassModel}
-use Rattle.jc_class_out.specs.Reading.{◌>>=◌, number_at}
 use Rattle.jc_class_out.specs.Pool.{Known, KnownText, KnownWhole, KnownLong, KnownBehind, KnownClass, KnownLiteral, KnownField, KnownMethod, KnownInterface, KnownPair, pool_at}
 use Rattle.jc_class_out.specs.Format.{major, head_at, members_at, read}
-use Rattle.jc_class_out.specs.Spelling.{same_known, has, add, adds, number, number_if, members_uses, loads_of, uses, spell_pool, spell_head, spell_members, pool_for, file_of}
+use Rattle.jc_class_out.specs.Spelling.{same_known, has, add, adds, number, members_uses, loads_of, uses, spell_pool, spell_head, spell_members, pool_for, file_of}
 use Rattle.jc_class_out.specs.Fitting.{known_fits, places, members_fit, pool_fits, fits_of}
 use Rattle.jc_class_out.proofs.Numbers.{both_true, u2_again, u4_again}
-use Rattle.jc_class_out.proofs.Known.{has_append, has_left, has_right, has_first, has_later, has_add, has_pool, same_true, IsAt, at_place}
-use Rattle.jc_class_out.proofs.Served.{Serves, Parts, is_behind_known}
+use Rattle.jc_class_out.proofs.Known.{has_append, has_right, has_first, has_later, has_add, has_pool, same_true}
+use Rattle.jc_class_out.proofs.Served.{Parts, is_behind_known}
 use Rattle.jc_class_out.proofs.InsAgain.{Have, Low}
-use Rattle.jc_class_out.proofs.PoolAgain.{is_long_known, Spaced, PoolAgain, pool_again}
-use Rattle.jc_class_out.proofs.UsesClosed.{Within, parts_more, PartsIn, closed_uses, pair_next, PairOk, Paired, paired_uses}
+use Rattle.jc_class_out.proofs.PoolAgain.{is_long_known, Spaced, pool_again}
+use Rattle.jc_class_out.proofs.UsesClosed.{Within, parts_more, PartsIn, closed_uses, pair_next, Paired, paired_uses}
 use Rattle.jc_class_out.proofs.MembersAgain.{members_again}
 
 -- ---- what holds of each use holds of each constant in the pool
@@ -33,7 +31,7 @@ all_add : (f : Known → Bool) (ks : List Known) (k : Known) (b : Bool) → list
 all_add f ks k true h g = h
 all_add f ks k false h g = all_append f ks (k ∷ []) h (rw g refl)
 
-all_adds : (f : Known → Bool) (ks us : List Known) → list_all f ks ≡ true → list_all f us ≡ true → list_all f (adds ks us) ≡ true
+pub all_adds : (f : Known → Bool) (ks us : List Known) → list_all f ks ≡ true → list_all f us ≡ true → list_all f (adds ks us) ≡ true
 unfolding adds
 all_adds f ks [] h g = h
 all_adds f ks (u ∷ us) h g = let p = both_true (f u) (list_all f us) g in all_adds f (add ks u) us (all_add f ks u (has ks u) h p.0) p.1
@@ -139,7 +137,7 @@ at_first : (us : List Known) (P : Known → Type 0) (u k : Known) (b : Bool) →
 at_first us P u k true e h ih t = subst P (sym (same_true k u e)) h.0
 at_first us P u k false e h ih t = ih t
 
-parts_by : (us : List Known) (P : Known → Type 0) → AllByRecursion P us → (k : Known) → has us k ≡ true → P k
+pub parts_by : (us : List Known) (P : Known → Type 0) → AllByRecursion P us → (k : Known) → has us k ≡ true → P k
 unfolding has
 parts_by [] P h k t = absurd cc
 parts_by (u ∷ us) P h k t = at_first us P u k (same_known k u) refl h (λ g. parts_by us P h.1 k g) t

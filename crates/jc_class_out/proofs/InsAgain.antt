@@ -1,29 +1,26 @@
 -- An instruction that was spelled is read again, and takes as many bytes as its size says.
-use Rattle.std.proofs.Common.{◌≡◌, ◌<◌, ◌≤◌, ◌^◌, ℕ, zero, suc, ◌+◌, ◌-◌, ◌*◌, ◌%◌, ℤ, pos, negsuc, Bool, true, false, cond, ltb, eqb, List, [], ◌∷◌, ◌++◌, length, replicate, Option, Some, None, Result, Ok, Err, refl, sym, ap, subst, ◌∙◌, append_assoc, arith, inl, inr}
+use Rattle.std.proofs.Common.{◌≡◌, ◌<◌, ◌^◌, ℕ, zero, suc, ◌+◌, ◌*◌, ◌%◌, ℤ, pos, negsuc, Bool, true, false, cond, ltb, eqb, List, [], ◌∷◌, ◌++◌, length, replicate, Option, Some, None, Result, Ok, refl, ap, subst, ◌∙◌, append_assoc, arith, inl, inr}
 use lib.Dec.{leb}
-use Rattle.std.specs.Prelude.{◌&&◌, ◌||◌, not, int_lt, nat_lt}
-use Rattle.std.specs.Int.{w8, w16, w32, to_be_bytes, cast_signed, cast_unsigned}
-use Rattle.std.specs.List.{flat_map, list_all, list_any, AllByRecursion}
-use Rattle.std.proofs.lemmas.Bool.{ltb-true, leb-true, eqb-true, eq-eqb, lt-ltb, le-ltb, or_cases, not-true}
+use Rattle.std.specs.Prelude.{◌&&◌, not}
+use Rattle.std.specs.Int.{w16, w32, to_be_bytes, cast_unsigned}
+use Rattle.std.specs.List.{flat_map, list_all, AllByRecursion}
+use Rattle.std.proofs.lemmas.Bool.{ltb-true, leb-true, eqb-true, eq-eqb, or_cases, not-true}
 use Rattle.std.proofs.lemmas.List.{length-append, length-replicate}
 use Rattle.jc_class_out.specs.declared.format.Flaw.{Flaw}
 use Rattle.jc_class_out.specs.declared.format.Kind.{Kind}
 use Rattle.jc_class_out.specs.declared.format.Kind.TheVariants.{Plain, Byte, Short, ArrayOf, Load, LoadWide, LoadLong, Local, Step, Jump, Switch, Field, Method, Interface, Class, Dims, Unknown}
 use Rattle.jc_class_out.specs.declared.format.Slot.{Slot}
 use Rattle.jc_class_out.specs.declared.model.Ins.{Ins}
-use Rattle.jc_class_out.specs.declared.model.Loaded.{Loaded}
 use Rattle.jc_class_out.specs.declared.model.Loaded.TheVariants as loaded
 use Rattle.jc_class_out.specs.declared.model.Operand.{Operand}
 use Rattle.jc_class_out.specs.declared.model.Operand.TheVariants as op
 use Rattle.jc_class_out.specs.declared.model.SwitchCase.{SwitchCase}
-use Rattle.jc_class_out.specs.Reading.{◌>>=◌, wants, u8_at, number_at}
 use Rattle.jc_class_out.specs.Descriptors.{parameter_units, or_zero}
-use Rattle.jc_class_out.specs.Pool.{Known, KnownText, KnownWhole, KnownLong, KnownBehind, KnownClass, KnownLiteral, KnownField, KnownMethod, KnownInterface, KnownPair, class_named_at, known_of}
+use Rattle.jc_class_out.specs.Pool.{Known, KnownWhole, KnownLong, KnownLiteral, KnownField, KnownMethod, KnownInterface}
 use Rattle.jc_class_out.specs.Instructions.{is_array_code, within, kind_of, target, wide_target, load_op, load_wide_op, load_long_op, field_op, method_op, interface_op, class_op, dims_op, byte_op, short_op, array_op, local_op, step_op, jump_op, padding, zeros_at, is_above, case_at, cases_at, switch_op, operand_at, wide_operand_at, wide_at, narrow_at, ins_at, operand_size, wide_size, ins_size}
-use Rattle.jc_class_out.specs.Spelling.{has, number, index, loaded_known, member_known, operand_uses, member_uses, ins_uses, first_uses, ins_first_uses, is_load, wide_distance, distance, spell_case, spell_switch, spell_number, spell_load, spell_member, spell_operand, spell_wide, spell_ins, interface_tail}
-use Rattle.jc_class_out.specs.Fitting.{is_nothing, is_number, is_array_number, is_array, is_local_below, is_step_below, is_loaded, is_load_of, is_load_long, is_member, is_interface_member, is_class_operand, is_dims, is_jump_from, cases_ascend, is_switch, operand_fits, wide_fits, ins_fits, is_signed, is_u8}
-use Rattle.jc_class_out.proofs.Numbers.{both_true, u2_again, u4_again, whole_u1, whole_u2, whole_u4, low_byte_32, low_u2_32, low_byte_16, signed16, unsigned16, signed32, unsigned32}
-use Rattle.jc_class_out.proofs.Known.{number_small}
+use Rattle.jc_class_out.specs.Spelling.{has, number, operand_uses, member_uses, ins_uses, first_uses, ins_first_uses, is_load, wide_distance, distance, spell_case, spell_switch, spell_number, spell_load, spell_member, spell_operand, spell_wide, spell_ins}
+use Rattle.jc_class_out.specs.Fitting.{is_nothing, is_number, is_array, is_local_below, is_step_below, is_load_of, is_load_long, is_member, is_interface_member, is_class_operand, is_dims, is_jump_from, cases_ascend, is_switch, operand_fits, wide_fits, ins_fits, is_signed, is_u8}
+use Rattle.jc_class_out.proofs.Numbers.{both_true, u2_again, u4_again, whole_u1, low_byte_32, low_u2_32, low_byte_16, signed16, unsigned16, signed32, unsigned32}
 use Rattle.jc_class_out.proofs.Served.{Serves, index_again, known_served, class_again}
 
 -- the list of constants has each of these

@@ -1,11 +1,10 @@
 -- Fields, methods, inner classes and the class behind its pool are read again.
-use Rattle.std.proofs.Common.{◌≡◌, ◌<◌, ◌≤◌, ◌^◌, ℕ, zero, suc, ◌+◌, ◌-◌, ◌*◌, ◌/◌, ◌%◌, Bool, true, false, cond, ltb, eqb, List, [], ◌∷◌, ◌++◌, length, Option, Some, None, Result, Ok, Err, refl, sym, ap, subst, ◌∙◌, append_assoc, arith}
-use Rattle.std.specs.Prelude.{◌&&◌, ◌||◌, not, codes}
-use Rattle.std.specs.Int.{w16, w32, to_be_bytes}
-use Rattle.std.specs.List.{flat_map, list_all, AllByRecursion}
-use Rattle.std.proofs.lemmas.Bool.{ltb-true, not-true}
+use Rattle.std.proofs.Common.{◌≡◌, ◌<◌, ◌^◌, ℕ, ◌*◌, Bool, true, false, cond, List, [], ◌∷◌, ◌++◌, length, Option, Some, None, Ok, refl, append_assoc, arith}
+use Rattle.std.specs.Prelude.{◌&&◌, codes}
+use Rattle.std.specs.Int.{w16, to_be_bytes}
+use Rattle.std.specs.List.{flat_map, list_all}
+use Rattle.std.proofs.lemmas.Bool.{ltb-true}
 use Rattle.std.proofs.lemmas.List.{length-append}
-use Rattle.jc_class_out.specs.declared.format.Flaw.{Flaw}
 use Rattle.jc_class_out.specs.declared.format.Slot.{Slot}
 use Rattle.jc_class_out.specs.declared.model.ClassModel.{ClassModel}
 use Rattle.jc_class_out.specs.declared.model.CodeModel.{CodeModel}
@@ -13,18 +12,16 @@ use Rattle.jc_class_out.specs.declared.model.FieldModel.{FieldModel}
 use Rattle.jc_class_out.specs.declared.model.InnerModel.{InnerModel}
 use Rattle.jc_class_out.specs.declared.model.Item.{Item}
 use Rattle.jc_class_out.specs.declared.model.MethodModel.{MethodModel}
-use Rattle.jc_class_out.specs.Reading.{◌>>=◌, wants, number_at, listed}
-use Rattle.jc_class_out.specs.Descriptors.{is_field_descriptor, is_method_descriptor, entry_locals}
-use Rattle.jc_class_out.specs.Pool.{Known, KnownText, KnownClass, named_at, class_named_at, class_or_none_at, name_or_none_at, descriptor_at}
-use Rattle.jc_class_out.specs.Code.{attribute_at, attribute_ends, no_more_at, code_at}
+use Rattle.jc_class_out.specs.Descriptors.{is_field_descriptor, is_method_descriptor}
+use Rattle.jc_class_out.specs.Pool.{Known, KnownText, KnownClass, class_named_at, descriptor_at}
 use Rattle.jc_class_out.specs.Format.{field_at, is_bodiless, code_attribute_at, with_code_at, without_code_at, method_at, inner_at, inners_at, class_attributes_at, members_at}
-use Rattle.jc_class_out.specs.Spelling.{has, index, ins_first_uses, class_uses, class_or_none_uses, name_or_none_uses, code_uses, code_or_none_uses, method_uses, code_first_uses, method_first_uses, field_uses, inner_uses, inners_uses, members_uses, loads_of, counted, spell_class_or_none, spell_name_or_none, spell_attribute, spell_code_model, spell_code_or_none, spell_method, spell_field, spell_inner, spell_inners, spell_interface, spell_members}
+use Rattle.jc_class_out.specs.Spelling.{has, index, entry_of_method, ins_first_uses, class_uses, class_or_none_uses, name_or_none_uses, code_uses, code_or_none_uses, method_uses, code_first_uses, method_first_uses, field_uses, inner_uses, inners_uses, members_uses, loads_of, counted, spell_class_or_none, spell_name_or_none, spell_attribute, spell_code_model, spell_code_or_none, spell_method, spell_field, spell_inner, spell_inners, spell_interface, spell_members}
 use Rattle.jc_class_out.specs.Fitting.{is_u16, is_count, code_fits, code_or_none_fits, method_fits, field_fits, inner_fits, counts_fit, members_fit}
-use Rattle.jc_class_out.proofs.Numbers.{both_true, u2_again, whole_u2, EachAgain, listed_again}
-use Rattle.jc_class_out.proofs.Served.{Serves, index_again, class_again, named_again, class_or_none_again, name_or_none_again}
+use Rattle.jc_class_out.proofs.Numbers.{both_true, u2_again, EachAgain, listed_again}
+use Rattle.jc_class_out.proofs.Served.{Serves, class_again, named_again, class_or_none_again, name_or_none_again}
 use Rattle.jc_class_out.proofs.InsAgain.{Have, Low}
 use Rattle.jc_class_out.proofs.CodeAgain.{have_append, low_append}
-use Rattle.jc_class_out.proofs.ClassAgain.{has_class, has_name, attribute_again, ends_again, none_more_again, CodeModelAgain, code_model_again}
+use Rattle.jc_class_out.proofs.ClassAgain.{has_class, has_name, attribute_again, ends_again, none_more_again, code_model_again}
 
 descriptor_again : (slots : List Slot) (ks : List Known) → Serves ks slots → (test : List ℕ → Bool) (t rest : List ℕ) → test t ≡ true → has ks (KnownText t) ≡ true → descriptor_at test slots (index ks (KnownText t) ++ rest) ≡ Ok (t, rest)
 unfolding descriptor_at
@@ -53,49 +50,49 @@ each_field slots ks s (f ∷ fs) h u =
 
 -- ---- methods
 
-code_attribute_again : (slots : List Slot) (ks : List Known) → Serves ks slots → (entry : List Item) (c : CodeModel) (rest : List ℕ) → code_fits c ≡ true → has ks (KnownText (codes "Code")) ≡ true → Have ks (code_uses c) → Low ks (flat_map ins_first_uses c.ins)
-    → code_attribute_at slots entry (spell_attribute ks (codes "Code") (spell_code_model ks c) ++ rest) ≡ Ok (c, rest)
+code_attribute_again : (slots : List Slot) (ks : List Known) → Serves ks slots → (entry : List Item) (c : CodeModel) (rest : List ℕ) → code_fits entry c ≡ true → has ks (KnownText (codes "Code")) ≡ true → Have ks (code_uses entry c) → Low ks (flat_map ins_first_uses c.ins)
+    → code_attribute_at slots entry (spell_attribute ks (codes "Code") (spell_code_model ks entry c) ++ rest) ≡ Ok (c, rest)
 unfolding code_attribute_at
 code_attribute_again slots ks s entry c rest f h u l =
-    let code = code_model_again slots ks s c f u l in
-    rw (attribute_again slots ks s (codes "Code") (spell_code_model ks c) rest h code.short, code.is_read entry rest, ends_again (spell_code_model ks c) rest) refl
+    let code = code_model_again slots ks s entry c f u l in
+    rw (attribute_again slots ks s (codes "Code") (spell_code_model ks entry c) rest h code.short, code.is_read rest, ends_again (spell_code_model ks entry c) rest) refl
 
-with_code_again : (slots : List Slot) (ks : List Known) → Serves ks slots → (entry : List Item) (c : CodeModel) (rest : List ℕ) → code_fits c ≡ true → has ks (KnownText (codes "Code")) ≡ true → Have ks (code_uses c) → Low ks (flat_map ins_first_uses c.ins)
-    → with_code_at slots entry (spell_code_or_none ks (Some c) ++ rest) ≡ Ok (Some c, rest)
+with_code_again : (slots : List Slot) (ks : List Known) → Serves ks slots → (entry : List Item) (c : CodeModel) (rest : List ℕ) → code_fits entry c ≡ true → has ks (KnownText (codes "Code")) ≡ true → Have ks (code_uses entry c) → Low ks (flat_map ins_first_uses c.ins)
+    → with_code_at slots entry (spell_code_or_none ks entry (Some c) ++ rest) ≡ Ok (Some c, rest)
 unfolding with_code_at
 with_code_again slots ks s entry c rest f h u l =
-    rw (u2_again 1 (spell_attribute ks (codes "Code") (spell_code_model ks c) ++ rest) (omega arith), code_attribute_again slots ks s entry c rest f h u l, none_more_again slots rest) refl
+    rw (u2_again 1 (spell_attribute ks (codes "Code") (spell_code_model ks entry c) ++ rest) (omega arith), code_attribute_again slots ks s entry c rest f h u l, none_more_again slots rest) refl
 
-without_code_again : (slots : List Slot) (ks : List Known) (rest : List ℕ) → without_code_at slots (spell_code_or_none ks None ++ rest) ≡ Ok (None, rest)
+without_code_again : (slots : List Slot) (ks : List Known) (rest : List ℕ) → without_code_at slots (to_be_bytes w16 0 ++ rest) ≡ Ok (None, rest)
 unfolding without_code_at
 without_code_again slots ks rest = rw (u2_again 0 rest (omega arith), none_more_again slots rest) refl
 
 -- code exactly where the flags say so
-code_again : (slots : List Slot) (ks : List Known) → Serves ks slots → (entry : List Item) (bodiless : Bool) (o : Option CodeModel) (rest : List ℕ) → code_or_none_fits bodiless o ≡ true → Have ks (code_or_none_uses o) → Low ks (code_first_uses o)
-    → cond bodiless (without_code_at slots (spell_code_or_none ks o ++ rest)) (with_code_at slots entry (spell_code_or_none ks o ++ rest)) ≡ Ok (o, rest)
+code_again : (slots : List Slot) (ks : List Known) → Serves ks slots → (entry : List Item) (bodiless : Bool) (o : Option CodeModel) (rest : List ℕ) → code_or_none_fits bodiless entry o ≡ true → Have ks (code_or_none_uses entry o) → Low ks (code_first_uses o)
+    → cond bodiless (without_code_at slots (spell_code_or_none ks entry o ++ rest)) (with_code_at slots entry (spell_code_or_none ks entry o ++ rest)) ≡ Ok (o, rest)
 code_again slots ks s entry true None rest f u l = without_code_again slots ks rest
 code_again slots ks s entry false None rest f u l = absurd cc
 code_again slots ks s entry true (Some c) rest f u l = absurd cc
 code_again slots ks s entry false (Some c) rest f u l = with_code_again slots ks s entry c rest f u.0 u.1 l
 
-method_again : (slots : List Slot) (ks : List Known) → Serves ks slots → (class : List ℕ) (m : MethodModel) (rest : List ℕ) → method_fits m ≡ true → Have ks (method_uses m) → Low ks (method_first_uses m) → method_at slots class (spell_method ks m ++ rest) ≡ Ok (m, rest)
+method_again : (slots : List Slot) (ks : List Known) → Serves ks slots → (class : List ℕ) (m : MethodModel) (rest : List ℕ) → method_fits class m ≡ true → Have ks (method_uses class m) → Low ks (method_first_uses m) → method_at slots class (spell_method ks class m ++ rest) ≡ Ok (m, rest)
 unfolding method_at spell_method method_fits method_uses
 method_again slots ks s class m rest h u l =
-    let p = both_true (is_u16 m.flags) (is_method_descriptor m.descriptor && code_or_none_fits (is_bodiless m.flags) m.code) h in
-    let q = both_true (is_method_descriptor m.descriptor) (code_or_none_fits (is_bodiless m.flags) m.code) p.1 in
-    let code = spell_code_or_none ks m.code in
+    let p = both_true (is_u16 m.flags) (is_method_descriptor m.descriptor && code_or_none_fits (is_bodiless m.flags) (entry_of_method class m) m.code) h in
+    let q = both_true (is_method_descriptor m.descriptor) (code_or_none_fits (is_bodiless m.flags) (entry_of_method class m) m.code) p.1 in
+    let code = spell_code_or_none ks (entry_of_method class m) m.code in
     rw (
       u2_again m.flags (index ks (KnownText m.name) ++ (index ks (KnownText m.descriptor) ++ (code ++ rest))) (ltb-true m.flags 65536 p.0),
       named_again ks slots s m.name (index ks (KnownText m.descriptor) ++ (code ++ rest)) u.0,
       descriptor_again slots ks s is_method_descriptor m.descriptor (code ++ rest) q.0 u.1.0,
-      code_again slots ks s (entry_locals class m.flags m.name m.descriptor) (is_bodiless m.flags) m.code rest q.1 u.1.1 l,
+      code_again slots ks s (entry_of_method class m) (is_bodiless m.flags) m.code rest q.1 u.1.1 l,
     ) refl
 
-each_method : (slots : List Slot) (ks : List Known) → Serves ks slots → (class : List ℕ) (ms : List MethodModel) → list_all method_fits ms ≡ true → Have ks (flat_map method_uses ms) → Low ks (flat_map method_first_uses ms) → EachAgain (method_at slots class) (spell_method ks) ms
+each_method : (slots : List Slot) (ks : List Known) → Serves ks slots → (class : List ℕ) (ms : List MethodModel) → list_all (method_fits class) ms ≡ true → Have ks (flat_map (method_uses class) ms) → Low ks (flat_map method_first_uses ms) → EachAgain (method_at slots class) (spell_method ks class) ms
 each_method slots ks s class [] h u l = tt
 each_method slots ks s class (m ∷ ms) h u l =
-    let p = both_true (method_fits m) (list_all method_fits ms) h in
-    let v = have_append ks (method_uses m) (flat_map method_uses ms) u in
+    let p = both_true (method_fits class m) (list_all (method_fits class) ms) h in
+    let v = have_append ks (method_uses class m) (flat_map (method_uses class) ms) u in
     let w = low_append ks (method_first_uses m) (flat_map method_first_uses ms) l in
     (λ rest. method_again slots ks s class m rest p.0 v.0 w.0, each_method slots ks s class ms p.1 v.1 w.1)
 
@@ -168,22 +165,22 @@ each_interface slots ks s (n ∷ ns) u = (λ rest. class_again ks slots s n rest
 pub members_again : (slots : List Slot) (ks : List Known) → Serves ks slots → (c : ClassModel) (rest : List ℕ) → members_fit c ≡ true → Have ks (members_uses c) → Low ks (loads_of c) → members_at slots (spell_members ks c ++ rest) ≡ Ok (c, rest)
 unfolding members_at spell_members members_fit counts_fit members_uses loads_of
 members_again slots ks s c rest h u l =
-    let a = both_true (is_u16 c.flags) ((is_count c.interfaces && (is_count c.fields && (is_count c.methods && is_count c.inner))) && (list_all field_fits c.fields && (list_all method_fits c.methods && list_all inner_fits c.inner))) h in
-    let b = both_true (is_count c.interfaces && (is_count c.fields && (is_count c.methods && is_count c.inner))) (list_all field_fits c.fields && (list_all method_fits c.methods && list_all inner_fits c.inner)) a.1 in
+    let a = both_true (is_u16 c.flags) ((is_count c.interfaces && (is_count c.fields && (is_count c.methods && is_count c.inner))) && (list_all field_fits c.fields && (list_all (method_fits c.name) c.methods && list_all inner_fits c.inner))) h in
+    let b = both_true (is_count c.interfaces && (is_count c.fields && (is_count c.methods && is_count c.inner))) (list_all field_fits c.fields && (list_all (method_fits c.name) c.methods && list_all inner_fits c.inner)) a.1 in
     let n1 = both_true (is_count c.interfaces) (is_count c.fields && (is_count c.methods && is_count c.inner)) b.0 in
     let n2 = both_true (is_count c.fields) (is_count c.methods && is_count c.inner) n1.1 in
     let n3 = both_true (is_count c.methods) (is_count c.inner) n2.1 in
-    let f1 = both_true (list_all field_fits c.fields) (list_all method_fits c.methods && list_all inner_fits c.inner) b.1 in
-    let f2 = both_true (list_all method_fits c.methods) (list_all inner_fits c.inner) f1.1 in
-    let v0 = have_append ks (class_uses c.name) (class_or_none_uses c.superclass ++ (flat_map class_uses c.interfaces ++ (flat_map field_uses c.fields ++ (flat_map method_uses c.methods ++ inners_uses c.inner)))) u in
-    let v1 = have_append ks (class_or_none_uses c.superclass) (flat_map class_uses c.interfaces ++ (flat_map field_uses c.fields ++ (flat_map method_uses c.methods ++ inners_uses c.inner))) v0.1 in
-    let v2 = have_append ks (flat_map class_uses c.interfaces) (flat_map field_uses c.fields ++ (flat_map method_uses c.methods ++ inners_uses c.inner)) v1.1 in
-    let v3 = have_append ks (flat_map field_uses c.fields) (flat_map method_uses c.methods ++ inners_uses c.inner) v2.1 in
-    let v4 = have_append ks (flat_map method_uses c.methods) (inners_uses c.inner) v3.1 in
+    let f1 = both_true (list_all field_fits c.fields) (list_all (method_fits c.name) c.methods && list_all inner_fits c.inner) b.1 in
+    let f2 = both_true (list_all (method_fits c.name) c.methods) (list_all inner_fits c.inner) f1.1 in
+    let v0 = have_append ks (class_uses c.name) (class_or_none_uses c.superclass ++ (flat_map class_uses c.interfaces ++ (flat_map field_uses c.fields ++ (flat_map (method_uses c.name) c.methods ++ inners_uses c.inner)))) u in
+    let v1 = have_append ks (class_or_none_uses c.superclass) (flat_map class_uses c.interfaces ++ (flat_map field_uses c.fields ++ (flat_map (method_uses c.name) c.methods ++ inners_uses c.inner))) v0.1 in
+    let v2 = have_append ks (flat_map class_uses c.interfaces) (flat_map field_uses c.fields ++ (flat_map (method_uses c.name) c.methods ++ inners_uses c.inner)) v1.1 in
+    let v3 = have_append ks (flat_map field_uses c.fields) (flat_map (method_uses c.name) c.methods ++ inners_uses c.inner) v2.1 in
+    let v4 = have_append ks (flat_map (method_uses c.name) c.methods) (inners_uses c.inner) v3.1 in
     let super = spell_class_or_none ks c.superclass in
     let interfaces = counted (spell_interface ks) c.interfaces in
     let fields = counted (spell_field ks) c.fields in
-    let methods = counted (spell_method ks) c.methods in
+    let methods = counted (spell_method ks c.name) c.methods in
     let inner = spell_inners ks c.inner in
     let regrouped : (super ++ (interfaces ++ (fields ++ (methods ++ inner)))) ++ rest ≡ super ++ (interfaces ++ (fields ++ (methods ++ (inner ++ rest)))) = simp append_assoc in
     rw (
@@ -193,6 +190,6 @@ members_again slots ks s c rest h u l =
       class_or_none_again ks slots s c.superclass (interfaces ++ (fields ++ (methods ++ (inner ++ rest)))) (has_class ks c.superclass v1.0),
       listed_again (class_named_at slots) (spell_interface ks) c.interfaces (fields ++ (methods ++ (inner ++ rest))) (ltb-true (length c.interfaces) 65536 n1.0) (each_interface slots ks s c.interfaces v2.0),
       listed_again (field_at slots) (spell_field ks) c.fields (methods ++ (inner ++ rest)) (ltb-true (length c.fields) 65536 n2.0) (each_field slots ks s c.fields f1.0 v3.0),
-      listed_again (method_at slots c.name) (spell_method ks) c.methods (inner ++ rest) (ltb-true (length c.methods) 65536 n3.0) (each_method slots ks s c.name c.methods f2.0 v4.0 l),
+      listed_again (method_at slots c.name) (spell_method ks c.name) c.methods (inner ++ rest) (ltb-true (length c.methods) 65536 n3.0) (each_method slots ks s c.name c.methods f2.0 v4.0 l),
       class_attributes_again slots ks s c.inner rest (ltb-true (length c.inner) 65536 n3.1) f2.1 v4.1,
     ) refl

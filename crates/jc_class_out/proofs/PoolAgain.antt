@@ -1,22 +1,17 @@
 -- The pool is read again, and serves its constants.
-use Rattle.std.proofs.Common.{◌≡◌, ◌<◌, ◌≤◌, ◌^◌, ℕ, zero, suc, ◌+◌, ◌-◌, ◌%◌, ℤ, Bool, true, false, cond, ltb, eqb, List, [], ◌∷◌, ◌++◌, length, map, Option, Some, None, Result, Ok, Err, refl, sym, ap, subst, ◌∙◌, append_assoc, arith}
-use Rattle.std.specs.Prelude.{◌&&◌, ◌||◌}
-use Rattle.std.specs.Int.{w16, w32, w64, to_be_bytes, cast_unsigned, cast_signed}
+use Rattle.std.proofs.Common.{◌≡◌, ◌<◌, ℕ, ◌+◌, ◌-◌, ◌%◌, Bool, true, false, eqb, List, [], ◌∷◌, ◌++◌, length, map, Option, Some, None, Ok, refl, ap, subst, ◌∙◌, append_assoc, arith}
+use Rattle.std.specs.Int.{w16, w32, w64, to_be_bytes, cast_unsigned}
 use Rattle.std.specs.List.{flat_map, list_all, AllByRecursion}
 use Rattle.std.proofs.lemmas.Bool.{ne_eqb}
-use Rattle.std.proofs.lemmas.List.{length-append, length-map}
 use Rattle.jc_class_out.specs.declared.format.Entry.{Entry}
 use Rattle.jc_class_out.specs.declared.format.Entry.TheVariants as entry
-use Rattle.jc_class_out.specs.declared.format.Flaw.{Flaw}
 use Rattle.jc_class_out.specs.declared.format.Slot.{Slot}
-use Rattle.jc_class_out.specs.Reading.{◌>>=◌, wants, u8_at, number_at}
-use Rattle.jc_class_out.specs.Descriptors.{is_field_descriptor, is_method_descriptor}
-use Rattle.jc_class_out.specs.Pool.{Known, KnownText, KnownWhole, KnownLong, KnownBehind, KnownClass, KnownLiteral, KnownField, KnownMethod, KnownInterface, KnownPair, two_at, entry_by, entry_at, pending_of, slot_at, slots_at, check_member, check_entry, check_slot, checked, pool_at, is_descriptor, pair_is, text_is}
-use Rattle.jc_class_out.specs.Spelling.{has, number, index, spell_entry, spell_member_entry, spell_text, spell_pool}
+use Rattle.jc_class_out.specs.Pool.{Known, KnownText, KnownWhole, KnownLong, KnownBehind, KnownClass, KnownLiteral, KnownField, KnownMethod, KnownInterface, KnownPair, two_at, entry_by, entry_at, pending_of, slot_at, slots_at, check_entry, check_slot, checked, pool_at}
+use Rattle.jc_class_out.specs.Spelling.{has, number, spell_entry, spell_member_entry, spell_text, spell_pool}
 use Rattle.jc_class_out.specs.Fitting.{known_fits}
 use Rattle.jc_class_out.proofs.Numbers.{both_true, u2_again, u4_again, u8_again, whole_u2, signed32, unsigned32, signed64, unsigned64}
 use Rattle.jc_class_out.proofs.Known.{number_small}
-use Rattle.jc_class_out.proofs.Served.{Serves, Parts, entry_for, entries, is_behind_known, index_again, tag_served, text_served, class_served, pair_served}
+use Rattle.jc_class_out.proofs.Served.{Serves, Parts, entry_for, entries, is_behind_known, index_again, tag_served, text_served, pair_served}
 use Rattle.jc_class_out.proofs.TextsAgain.{text_again}
 
 two_again : (a b : ℕ) (rest : List ℕ) → a < 65536 → b < 65536 → two_at ((to_be_bytes w16 a ++ to_be_bytes w16 b) ++ rest) ≡ Ok (a, b, rest)

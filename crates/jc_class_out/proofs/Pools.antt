@@ -1,15 +1,11 @@
 -- The pool of the writer, seen as the list of what its constants mean.
-use Rattle.std.proofs.Common.{◌≡◌, ◌<◌, ◌≤◌, ℕ, zero, suc, ◌+◌, ◌-◌, Bool, true, false, cond, List, [], ◌∷◌, ◌++◌, length, map, Option, Some, None, refl, sym, ap, subst, ◌∙◌, arith}
-use Rattle.std.specs.Prelude.{nat_lt, not, ◌&&◌}
-use Rattle.std.specs.List.{list_any, position, position_or_len, prefix_len}
-use Rattle.std.specs.Str.{bytes_eq}
-use Rattle.std.specs.Cmp.Lexicographic.{pointwise}
+use Rattle.std.proofs.Common.{◌≡◌, ℕ, Bool, true, false, cond, List, [], ◌∷◌, ◌++◌, Option, refl, sym, ap, ◌∙◌}
+use Rattle.std.specs.Prelude.{not}
+use Rattle.std.specs.List.{list_any, position, prefix_len}
 use Rattle.std.proofs.lemmas.List.{length-map, map-append}
-use lib.Dec.{eqb}
 use Rattle.jc_class_out.specs.declared.format.Constant.{Constant}
 use Rattle.jc_class_out.specs.declared.format.Constant.TheVariants as constant
 use Rattle.jc_class_out.specs.contracts.format.ConstantPartialEq.TheImpl.{eq-value}
-use Rattle.jc_class_out.specs.Pool.{Known}
 use Rattle.jc_class_out.specs.Spelling.{known, knowns, same_known, has, add, number, number_if}
 
 pub same_is : (a b : Constant) → eq-value.it a b ≡ same_known (known a) (known b)

@@ -1,19 +1,17 @@
 -- A pool in a file that serves the constants of the writer's list: each is found by its number.
-use Rattle.std.proofs.Common.{◌≡◌, ◌<◌, ◌≤◌, ℕ, zero, suc, ◌+◌, ◌-◌, ℤ, Bool, true, false, cond, List, [], ◌∷◌, ◌++◌, length, map, Option, Some, None, Result, Ok, Err, refl, sym, ap, subst, ◌∙◌, append_assoc, arith}
-use Rattle.std.specs.Prelude.{◌&&◌, ◌||◌, slice_get, option_and_then, option_map}
-use Rattle.std.specs.Int.{w16, to_be_bytes}
+use Rattle.std.proofs.Common.{◌≡◌, ◌<◌, ℕ, Bool, true, false, List, ◌++◌, length, map, Option, Some, None, Ok, refl, sym, ap, ◌∙◌, arith}
+use Rattle.std.specs.Prelude.{slice_get, option_and_then, option_map}
+use Rattle.std.specs.Int.{w16}
 use Rattle.std.proofs.lemmas.Option.{slice_get-map}
 use Rattle.std.proofs.lemmas.Bool.{ne_eqb}
 use Rattle.jc_class_out.specs.declared.format.Entry.{Entry}
 use Rattle.jc_class_out.specs.declared.format.Entry.TheVariants as entry
-use Rattle.jc_class_out.specs.declared.format.Flaw.{Flaw}
 use Rattle.jc_class_out.specs.declared.format.Slot.{Slot}
-use Rattle.jc_class_out.specs.Reading.{◌>>=◌, or_flaw, number_at}
-use Rattle.jc_class_out.specs.Pool.{Known, KnownText, KnownWhole, KnownLong, KnownBehind, KnownClass, KnownLiteral, KnownField, KnownMethod, KnownInterface, KnownPair, entry_of, text_of, class_of, pair_of, both, a_text, a_class, a_pair, member_by, one_by, two_by, known_of_entry, known_of, tag_of, tag_at, named_at, class_named_at, class_or_none_at, name_or_none_at}
+use Rattle.jc_class_out.specs.Reading.{number_at}
+use Rattle.jc_class_out.specs.Pool.{Known, KnownText, KnownWhole, KnownLong, KnownBehind, KnownClass, KnownLiteral, KnownField, KnownMethod, KnownInterface, KnownPair, entry_of, text_of, class_of, pair_of, known_of_entry, known_of, tag_of, tag_at, named_at, class_named_at, class_or_none_at, name_or_none_at}
 use Rattle.jc_class_out.specs.Spelling.{has, number, index, spell_class_or_none, spell_name_or_none}
-use Rattle.jc_class_out.specs.Fitting.{known_fits}
-use Rattle.jc_class_out.proofs.Numbers.{u2_again, both_true}
-use Rattle.jc_class_out.proofs.Known.{IsAt, at_place, number_small}
+use Rattle.jc_class_out.proofs.Numbers.{u2_again}
+use Rattle.jc_class_out.proofs.Known.{at_place, number_small}
 
 -- the entry that stands for a constant
 abbrev pub entry_for : List Known → Known → Entry

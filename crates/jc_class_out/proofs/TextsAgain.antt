@@ -1,15 +1,12 @@
 -- A text that was spelled is read again.
-use Rattle.std.proofs.Common.{◌≡◌, ◌<◌, ◌≤◌, ◌^◌, ℕ, zero, suc, ◌+◌, ◌-◌, ◌*◌, ◌/◌, ◌%◌, Bool, true, false, cond, eqb, ltb, List, [], ◌∷◌, ◌++◌, length, take, drop, Option, Some, None, Result, Ok, Err, refl, sym, ap, subst, ◌∙◌, append_assoc, arith, inl, inr}
+use Rattle.std.proofs.Common.{◌≡◌, ◌<◌, ◌≤◌, ◌^◌, ℕ, zero, suc, ◌+◌, ◌-◌, ◌*◌, ◌/◌, ◌%◌, Bool, true, false, cond, eqb, ltb, List, [], ◌∷◌, ◌++◌, length, Some, Ok, refl, sym, ap, ◌∙◌, append_assoc, arith, inl, inr}
 use lib.Dec.{leb}
-use Rattle.std.specs.Prelude.{◌||◌, ◌&&◌, nat_lt, option_and_then}
-use Rattle.std.specs.List.{flat_map, list_all}
+use Rattle.std.specs.Prelude.{◌||◌}
+use Rattle.std.specs.List.{list_all}
 use Rattle.std.specs.Int.{w16, to_be_bytes}
-use Rattle.std.proofs.lemmas.Bool.{cases_lt, ltb-true, ltb-false, le-ltb, lt-ltb, le-leb, lt-leb, eq-eqb, ne_eqb}
-use Rattle.std.proofs.lemmas.List.{take_at, drop_at, length-append, append-nil}
-use Rattle.jc_class_out.specs.declared.format.Flaw.{Flaw}
-use Rattle.jc_class_out.specs.declared.format.Flaw.TheVariants.{Text as BadText}
-use Rattle.jc_class_out.specs.Reading.{◌>>=◌, or_flaw, number_at}
-use Rattle.jc_class_out.specs.Texts.{unit_bytes, text_bytes, unit_at, two, three, units_on, text_of_bytes}
+use Rattle.std.proofs.lemmas.Bool.{cases_lt, ltb-true, le-ltb, lt-ltb, le-leb, ne_eqb}
+use Rattle.std.proofs.lemmas.List.{take_at, drop_at, length-append}
+use Rattle.jc_class_out.specs.Texts.{unit_bytes, text_bytes, unit_at, units_on, text_of_bytes}
 use Rattle.jc_class_out.specs.Pool.{text_at}
 use Rattle.jc_class_out.specs.Fitting.{text_fits, is_u16}
 use Rattle.jc_class_out.proofs.Numbers.{both_true, u2_again, whole_u2}

@@ -1,14 +1,14 @@
 -- The constants that a class uses: what each names is used too, and the second place of a long stands behind it.
-use Rattle.std.proofs.Common.{◌≡◌, ◌<◌, ◌≤◌, ℕ, zero, suc, ◌+◌, ◌-◌, ℤ, Bool, true, false, cond, List, [], ◌∷◌, ◌++◌, length, Option, Some, None, refl, sym, ap, subst, ◌∙◌, append_assoc, arith}
-use Rattle.std.specs.Prelude.{◌&&◌, ◌||◌, codes}
+use Rattle.std.proofs.Common.{◌≡◌, ℕ, ℤ, Bool, true, false, cond, List, [], ◌∷◌, ◌++◌, Option, Some, None, refl}
+use Rattle.std.specs.Prelude.{codes}
 use Rattle.std.specs.List.{flat_map, AllByRecursion}
+use Rattle.jc_class_out.specs.declared.forms.Form.{Form}
 use Rattle.jc_class_out.specs.declared.format.Kind.{Kind}
 use Rattle.jc_class_out.specs.declared.format.Kind.TheVariants.{Field, Interface}
 use Rattle.jc_class_out.specs.declared.model.ClassModel.{ClassModel}
 use Rattle.jc_class_out.specs.declared.model.CodeModel.{CodeModel}
 use Rattle.jc_class_out.specs.declared.model.FieldModel.{FieldModel}
 use Rattle.jc_class_out.specs.declared.model.Frame.{Frame}
-use Rattle.jc_class_out.specs.declared.model.Handler.{Handler}
 use Rattle.jc_class_out.specs.declared.model.InnerModel.{InnerModel}
 use Rattle.jc_class_out.specs.declared.model.Ins.{Ins}
 use Rattle.jc_class_out.specs.declared.model.Item.{Item}
@@ -20,8 +20,9 @@ use Rattle.jc_class_out.specs.declared.model.Operand.{Operand}
 use Rattle.jc_class_out.specs.declared.model.Operand.TheVariants as op
 use Rattle.jc_class_out.specs.Pool.{Known, KnownText, KnownWhole, KnownLong, KnownBehind, KnownClass, KnownLiteral, KnownField, KnownMethod, KnownInterface, KnownPair}
 use Rattle.jc_class_out.specs.Instructions.{kind_of}
-use Rattle.jc_class_out.specs.Spelling.{has, same_known, class_uses, pair_uses, class_or_none_uses, name_or_none_uses, member_known, loaded_uses, member_uses, operand_uses, ins_uses, first_loaded, first_uses, ins_first_uses, is_load, handler_uses, item_uses, frame_uses, table_uses, code_uses, code_or_none_uses, method_uses, code_first_uses, method_first_uses, field_uses, inner_uses, inners_uses, members_uses, loads_of, uses}
-use Rattle.jc_class_out.proofs.Known.{has_first, has_later, has_left, has_right, same_true}
+use Rattle.jc_class_out.specs.Forms.{form_of, written_locals, written_stack}
+use Rattle.jc_class_out.specs.Spelling.{has, class_uses, class_or_none_uses, name_or_none_uses, member_known, loaded_uses, member_uses, operand_uses, ins_uses, first_uses, ins_first_uses, is_load, handler_uses, item_uses, form_uses, frames_uses, table_uses, entry_of_method, code_uses, code_or_none_uses, method_uses, code_first_uses, method_first_uses, field_uses, inner_uses, inners_uses, members_uses, loads_of, uses}
+use Rattle.jc_class_out.proofs.Known.{has_first, has_later, has_left, has_right}
 use Rattle.jc_class_out.proofs.Served.{Parts, is_behind_known}
 
 -- ---- parts
@@ -121,26 +122,31 @@ closed_item : (i : Item) → Closed (item_uses i)
 closed_item (item.Object t) = closed_class t
 closed_item _ = tt
 
-closed_frame : (f : Frame) → Closed (frame_uses f)
-unfolding frame_uses
-closed_frame f = closed_append (flat_map item_uses f.locals) (flat_map item_uses f.stack) (closed_flat item_uses closed_item f.locals) (closed_flat item_uses closed_item f.stack)
+closed_form : (f : Frame) (form : Form) → Closed (form_uses f form)
+unfolding form_uses
+closed_form f form = closed_append (flat_map item_uses (written_locals f form)) (flat_map item_uses (written_stack f form)) (closed_flat item_uses closed_item (written_locals f form)) (closed_flat item_uses closed_item (written_stack f form))
 
-closed_table : (fs : List Frame) → Closed (table_uses fs)
-closed_table [] = tt
-closed_table (f ∷ fs) = closed_text (codes "StackMapTable") (flat_map frame_uses (f ∷ fs)) (closed_flat frame_uses closed_frame (f ∷ fs))
+closed_frames : (seen : List Item) (fs : List Frame) → Closed (frames_uses seen fs)
+unfolding frames_uses
+closed_frames seen [] = tt
+closed_frames seen (f ∷ fs) = closed_append (form_uses f (form_of seen f)) (frames_uses f.locals fs) (closed_form f (form_of seen f)) (closed_frames f.locals fs)
 
-closed_code : (c : CodeModel) → Closed (code_uses c)
+closed_table : (entry : List Item) (fs : List Frame) → Closed (table_uses entry fs)
+closed_table entry [] = tt
+closed_table entry (f ∷ fs) = closed_text (codes "StackMapTable") (frames_uses entry (f ∷ fs)) (closed_frames entry (f ∷ fs))
+
+closed_code : (entry : List Item) (c : CodeModel) → Closed (code_uses entry c)
 unfolding code_uses
-closed_code c = closed_append (flat_map ins_uses c.ins) (flat_map handler_uses c.handlers ++ table_uses c.frames) (closed_flat ins_uses (λ i. closed_operand (kind_of i.code) i.operand) c.ins)
-    (closed_append (flat_map handler_uses c.handlers) (table_uses c.frames) (closed_flat handler_uses (λ h. closed_class_or_none h.class) c.handlers) (closed_table c.frames))
+closed_code entry c = closed_append (flat_map ins_uses c.ins) (flat_map handler_uses c.handlers ++ table_uses entry c.frames) (closed_flat ins_uses (λ i. closed_operand (kind_of i.code) i.operand) c.ins)
+    (closed_append (flat_map handler_uses c.handlers) (table_uses entry c.frames) (closed_flat handler_uses (λ h. closed_class_or_none h.class) c.handlers) (closed_table entry c.frames))
 
-closed_code_or_none : (o : Option CodeModel) → Closed (code_or_none_uses o)
-closed_code_or_none None = tt
-closed_code_or_none (Some c) = closed_text (codes "Code") (code_uses c) (closed_code c)
+closed_code_or_none : (entry : List Item) (o : Option CodeModel) → Closed (code_or_none_uses entry o)
+closed_code_or_none entry None = tt
+closed_code_or_none entry (Some c) = closed_text (codes "Code") (code_uses entry c) (closed_code entry c)
 
-closed_method : (m : MethodModel) → Closed (method_uses m)
+closed_method : (class : List ℕ) (m : MethodModel) → Closed (method_uses class m)
 unfolding method_uses
-closed_method m = closed_text m.name (KnownText m.descriptor ∷ code_or_none_uses m.code) (closed_text m.descriptor (code_or_none_uses m.code) (closed_code_or_none m.code))
+closed_method class m = closed_text m.name (KnownText m.descriptor ∷ code_or_none_uses (entry_of_method class m) m.code) (closed_text m.descriptor (code_or_none_uses (entry_of_method class m) m.code) (closed_code_or_none (entry_of_method class m) m.code))
 
 closed_field : (f : FieldModel) → Closed (field_uses f)
 unfolding field_uses
@@ -157,11 +163,11 @@ closed_inners (i ∷ is) = closed_text (codes "InnerClasses") (flat_map inner_us
 closed_members : (c : ClassModel) → Closed (members_uses c)
 unfolding members_uses
 closed_members c =
-    closed_append (class_uses c.name) (class_or_none_uses c.superclass ++ (flat_map class_uses c.interfaces ++ (flat_map field_uses c.fields ++ (flat_map method_uses c.methods ++ inners_uses c.inner)))) (closed_class c.name)
-    (closed_append (class_or_none_uses c.superclass) (flat_map class_uses c.interfaces ++ (flat_map field_uses c.fields ++ (flat_map method_uses c.methods ++ inners_uses c.inner))) (closed_class_or_none c.superclass)
-    (closed_append (flat_map class_uses c.interfaces) (flat_map field_uses c.fields ++ (flat_map method_uses c.methods ++ inners_uses c.inner)) (closed_flat class_uses closed_class c.interfaces)
-    (closed_append (flat_map field_uses c.fields) (flat_map method_uses c.methods ++ inners_uses c.inner) (closed_flat field_uses closed_field c.fields)
-    (closed_append (flat_map method_uses c.methods) (inners_uses c.inner) (closed_flat method_uses closed_method c.methods) (closed_inners c.inner)))))
+    closed_append (class_uses c.name) (class_or_none_uses c.superclass ++ (flat_map class_uses c.interfaces ++ (flat_map field_uses c.fields ++ (flat_map (method_uses c.name) c.methods ++ inners_uses c.inner)))) (closed_class c.name)
+    (closed_append (class_or_none_uses c.superclass) (flat_map class_uses c.interfaces ++ (flat_map field_uses c.fields ++ (flat_map (method_uses c.name) c.methods ++ inners_uses c.inner))) (closed_class_or_none c.superclass)
+    (closed_append (flat_map class_uses c.interfaces) (flat_map field_uses c.fields ++ (flat_map (method_uses c.name) c.methods ++ inners_uses c.inner)) (closed_flat class_uses closed_class c.interfaces)
+    (closed_append (flat_map field_uses c.fields) (flat_map (method_uses c.name) c.methods ++ inners_uses c.inner) (closed_flat field_uses closed_field c.fields)
+    (closed_append (flat_map (method_uses c.name) c.methods) (inners_uses c.inner) (closed_flat (method_uses c.name) (closed_method c.name) c.methods) (closed_inners c.inner)))))
 
 -- ---- what ldc loads
 
@@ -177,31 +183,31 @@ load_parts : (i : Ins) → PartsIn (ins_uses i) (ins_first_uses i)
 unfolding ins_first_uses
 load_parts i = load_by (kind_of i.code) i.operand (is_load (kind_of i.code))
 
-code_loads : (o : Option CodeModel) → PartsIn (code_or_none_uses o) (code_first_uses o)
+code_loads : (entry : List Item) (o : Option CodeModel) → PartsIn (code_or_none_uses entry o) (code_first_uses o)
 unfolding code_uses
-code_loads None = tt
-code_loads (Some c) =
-    let rest = flat_map handler_uses c.handlers ++ table_uses c.frames in
+code_loads entry None = tt
+code_loads entry (Some c) =
+    let rest = flat_map handler_uses c.handlers ++ table_uses entry c.frames in
     all_more (flat_map ins_uses c.ins) (KnownText (codes "Code") ∷ (flat_map ins_uses c.ins ++ rest)) (λ k h. has_later (KnownText (codes "Code")) k (flat_map ins_uses c.ins ++ rest) (has_left (flat_map ins_uses c.ins) rest k h))
     (flat_map ins_first_uses c.ins) (parts_flat ins_first_uses ins_uses load_parts c.ins)
 
-method_loads : (m : MethodModel) → PartsIn (method_uses m) (method_first_uses m)
+method_loads : (class : List ℕ) (m : MethodModel) → PartsIn (method_uses class m) (method_first_uses m)
 unfolding method_uses
-method_loads m =
-    let us = code_or_none_uses m.code in
-    all_more us (KnownText m.name ∷ KnownText m.descriptor ∷ us) (λ k h. has_later (KnownText m.name) k (KnownText m.descriptor ∷ us) (has_later (KnownText m.descriptor) k us h)) (code_first_uses m.code) (code_loads m.code)
+method_loads class m =
+    let us = code_or_none_uses (entry_of_method class m) m.code in
+    all_more us (KnownText m.name ∷ KnownText m.descriptor ∷ us) (λ k h. has_later (KnownText m.name) k (KnownText m.descriptor ∷ us) (has_later (KnownText m.descriptor) k us h)) (code_first_uses m.code) (code_loads (entry_of_method class m) m.code)
 
 class_loads : (c : ClassModel) → PartsIn (members_uses c) (loads_of c)
 unfolding members_uses loads_of
 class_loads c =
-    let ms = flat_map method_uses c.methods in
+    let ms = flat_map (method_uses c.name) c.methods in
     let us4 = ms ++ inners_uses c.inner in
     let us3 = flat_map field_uses c.fields ++ us4 in
     let us2 = flat_map class_uses c.interfaces ++ us3 in
     let us1 = class_or_none_uses c.superclass ++ us2 in
     all_more ms (class_uses c.name ++ us1)
     (λ k h. has_right (class_uses c.name) us1 k (has_right (class_or_none_uses c.superclass) us2 k (has_right (flat_map class_uses c.interfaces) us3 k (has_right (flat_map field_uses c.fields) us4 k (has_left ms (inners_uses c.inner) k h)))))
-    (flat_map method_first_uses c.methods) (parts_flat method_first_uses method_uses method_loads c.methods)
+    (flat_map method_first_uses c.methods) (parts_flat method_first_uses (method_uses c.name) (method_loads c.name) c.methods)
 
 pub closed_uses : (c : ClassModel) → Closed (uses c)
 unfolding uses
@@ -276,26 +282,31 @@ paired_item : (i : Item) → Paired None (item_uses i)
 paired_item (item.Object t) = paired_class t
 paired_item _ = tt
 
-paired_frame : (f : Frame) → Paired None (frame_uses f)
-unfolding frame_uses
-paired_frame f = paired_append None (flat_map item_uses f.locals) (flat_map item_uses f.stack) (paired_flat item_uses paired_item f.locals) (paired_flat item_uses paired_item f.stack)
+paired_form : (f : Frame) (form : Form) → Paired None (form_uses f form)
+unfolding form_uses
+paired_form f form = paired_append None (flat_map item_uses (written_locals f form)) (flat_map item_uses (written_stack f form)) (paired_flat item_uses paired_item (written_locals f form)) (paired_flat item_uses paired_item (written_stack f form))
 
-paired_table : (fs : List Frame) → Paired None (table_uses fs)
-paired_table [] = tt
-paired_table (f ∷ fs) = (refl, paired_flat frame_uses paired_frame (f ∷ fs))
+paired_frames : (seen : List Item) (fs : List Frame) → Paired None (frames_uses seen fs)
+unfolding frames_uses
+paired_frames seen [] = tt
+paired_frames seen (f ∷ fs) = paired_append None (form_uses f (form_of seen f)) (frames_uses f.locals fs) (paired_form f (form_of seen f)) (paired_frames f.locals fs)
 
-paired_code : (c : CodeModel) → Paired None (code_uses c)
+paired_table : (entry : List Item) (fs : List Frame) → Paired None (table_uses entry fs)
+paired_table entry [] = tt
+paired_table entry (f ∷ fs) = (refl, paired_frames entry (f ∷ fs))
+
+paired_code : (entry : List Item) (c : CodeModel) → Paired None (code_uses entry c)
 unfolding code_uses
-paired_code c = paired_append None (flat_map ins_uses c.ins) (flat_map handler_uses c.handlers ++ table_uses c.frames) (paired_flat ins_uses (λ i. paired_operand (kind_of i.code) i.operand) c.ins)
-    (paired_append None (flat_map handler_uses c.handlers) (table_uses c.frames) (paired_flat handler_uses (λ h. paired_class_or_none h.class) c.handlers) (paired_table c.frames))
+paired_code entry c = paired_append None (flat_map ins_uses c.ins) (flat_map handler_uses c.handlers ++ table_uses entry c.frames) (paired_flat ins_uses (λ i. paired_operand (kind_of i.code) i.operand) c.ins)
+    (paired_append None (flat_map handler_uses c.handlers) (table_uses entry c.frames) (paired_flat handler_uses (λ h. paired_class_or_none h.class) c.handlers) (paired_table entry c.frames))
 
-paired_code_or_none : (o : Option CodeModel) → Paired None (code_or_none_uses o)
-paired_code_or_none None = tt
-paired_code_or_none (Some c) = (refl, paired_code c)
+paired_code_or_none : (entry : List Item) (o : Option CodeModel) → Paired None (code_or_none_uses entry o)
+paired_code_or_none entry None = tt
+paired_code_or_none entry (Some c) = (refl, paired_code entry c)
 
-paired_method : (m : MethodModel) → Paired None (method_uses m)
+paired_method : (class : List ℕ) (m : MethodModel) → Paired None (method_uses class m)
 unfolding method_uses
-paired_method m = (refl, (refl, paired_code_or_none m.code))
+paired_method class m = (refl, (refl, paired_code_or_none (entry_of_method class m) m.code))
 
 paired_code_loads : (o : Option CodeModel) → Paired None (code_first_uses o)
 paired_code_loads None = tt
@@ -316,11 +327,11 @@ paired_inners (i ∷ is) = (refl, paired_flat inner_uses paired_inner (i ∷ is)
 paired_members : (c : ClassModel) → Paired None (members_uses c)
 unfolding members_uses
 paired_members c =
-    paired_append None (class_uses c.name) (class_or_none_uses c.superclass ++ (flat_map class_uses c.interfaces ++ (flat_map field_uses c.fields ++ (flat_map method_uses c.methods ++ inners_uses c.inner)))) (paired_class c.name)
-    (paired_append None (class_or_none_uses c.superclass) (flat_map class_uses c.interfaces ++ (flat_map field_uses c.fields ++ (flat_map method_uses c.methods ++ inners_uses c.inner))) (paired_class_or_none c.superclass)
-    (paired_append None (flat_map class_uses c.interfaces) (flat_map field_uses c.fields ++ (flat_map method_uses c.methods ++ inners_uses c.inner)) (paired_flat class_uses paired_class c.interfaces)
-    (paired_append None (flat_map field_uses c.fields) (flat_map method_uses c.methods ++ inners_uses c.inner) (paired_flat field_uses paired_field c.fields)
-    (paired_append None (flat_map method_uses c.methods) (inners_uses c.inner) (paired_flat method_uses paired_method c.methods) (paired_inners c.inner)))))
+    paired_append None (class_uses c.name) (class_or_none_uses c.superclass ++ (flat_map class_uses c.interfaces ++ (flat_map field_uses c.fields ++ (flat_map (method_uses c.name) c.methods ++ inners_uses c.inner)))) (paired_class c.name)
+    (paired_append None (class_or_none_uses c.superclass) (flat_map class_uses c.interfaces ++ (flat_map field_uses c.fields ++ (flat_map (method_uses c.name) c.methods ++ inners_uses c.inner))) (paired_class_or_none c.superclass)
+    (paired_append None (flat_map class_uses c.interfaces) (flat_map field_uses c.fields ++ (flat_map (method_uses c.name) c.methods ++ inners_uses c.inner)) (paired_flat class_uses paired_class c.interfaces)
+    (paired_append None (flat_map field_uses c.fields) (flat_map (method_uses c.name) c.methods ++ inners_uses c.inner) (paired_flat field_uses paired_field c.fields)
+    (paired_append None (flat_map (method_uses c.name) c.methods) (inners_uses c.inner) (paired_flat (method_uses c.name) (paired_method c.name) c.methods) (paired_inners c.inner)))))
 
 pub paired_uses : (c : ClassModel) → Paired None (uses c)
 unfolding uses loads_of

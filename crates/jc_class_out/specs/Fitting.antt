@@ -1,7 +1,8 @@
 -- Which classes the writer can spell: each number has room in its field, jumps and handlers go to instructions, operands go
 -- with their opcodes, and the pool has room for each constant that is used.
-use Rattle.std.specs.Prelude.{◌≡◌, ◌<◌, ◌≤◌, ℕ, zero, suc, ◌+◌, ◌-◌, ◌*◌, ◌^◌, ℤ, pos, negsuc, Bool, true, false, not, ◌||◌, ◌&&◌, ◌==◌, nat_lt, nat_le, int_lt, int_le, List, [], ◌∷◌, length, Option, Some, None, if◌then◌else◌}
+use Rattle.std.specs.Prelude.{◌≡◌, ◌<◌, ◌≤◌, ℕ, ◌+◌, ◌-◌, ◌*◌, ◌^◌, ℤ, pos, negsuc, Bool, true, false, not, ◌&&◌, ◌==◌, nat_lt, nat_le, List, [], ◌∷◌, length, Option, Some, None, if◌then◌else◌}
 use Rattle.std.specs.List.{list_all}
+use Rattle.jc_class_out.specs.declared.forms.Form.{Form}
 use Rattle.jc_class_out.specs.declared.format.Kind.{Kind}
 use Rattle.jc_class_out.specs.declared.format.Kind.TheVariants.{Plain, Byte, Short, ArrayOf, Load, LoadWide, LoadLong, Local, Step, Jump, Switch, Field, Method, Interface, Class, Dims, Unknown}
 use Rattle.jc_class_out.specs.declared.model.ClassModel.{ClassModel}
@@ -26,7 +27,8 @@ use Rattle.jc_class_out.specs.Instructions.{is_array_code, kind_of, is_above, ta
 use Rattle.jc_class_out.specs.Frames.{begins}
 use Rattle.jc_class_out.specs.Code.{marks_of, size_from, ends}
 use Rattle.jc_class_out.specs.Format.{is_bodiless}
-use Rattle.jc_class_out.specs.Spelling.{adds, loads_of, uses, distance}
+use Rattle.jc_class_out.specs.Forms.{form_of, written_locals, written_stack, delta_of, head_length}
+use Rattle.jc_class_out.specs.Spelling.{adds, loads_of, uses, distance, entry_of_method}
 
 -- ---- numbers
 
@@ -196,12 +198,16 @@ is_behind (Some before) at = nat_lt before at
 unfoldable pub items_fit : List Bool → List Item → Bool
 items_fit marks items = is_count items && list_all (item_fits marks) items
 
-unfoldable pub frame_fits : List Bool → Option ℕ → Frame → Bool
-frame_fits marks before f = begins marks f.at && (is_behind before f.at && (items_fit marks f.locals && items_fit marks f.stack))
+-- the items that stand in the form; the others are those of the frame before
+unfoldable pub form_fits : List Bool → Frame → Form → Bool
+form_fits marks f form = items_fit marks (written_locals f form) && items_fit marks (written_stack f form)
 
-unfoldable pub frames_fit : List Bool → Option ℕ → List Frame → Bool
-frames_fit marks before [] = true
-frames_fit marks before (f ∷ fs) = frame_fits marks before f && frames_fit marks (Some (f.at)) fs
+unfoldable pub frame_fits : List Bool → Option ℕ → List Item → Frame → Bool
+frame_fits marks before seen f = begins marks f.at && (is_behind before f.at && form_fits marks f (form_of seen f))
+
+unfoldable pub frames_fit : List Bool → Option ℕ → List Item → List Frame → Bool
+frames_fit marks before seen [] = true
+frames_fit marks before seen (f ∷ fs) = frame_fits marks before seen f && frames_fit marks (Some (f.at)) f.locals fs
 
 abbrev pub item_length : Item → ℕ
 item_length (item.Object name) = 3
@@ -212,13 +218,16 @@ unfoldable pub items_length : List Item → ℕ
 items_length [] = 0
 items_length (i ∷ is) = item_length i + items_length is
 
-abbrev pub frame_length : Frame → ℕ
-frame_length f = 7 + (items_length f.locals + items_length f.stack)
+unfoldable pub form_length : ℕ → Frame → Form → ℕ
+form_length delta f form = head_length delta form + (items_length (written_locals f form) + items_length (written_stack f form))
+
+unfoldable pub frame_length : Option ℕ → List Item → Frame → ℕ
+frame_length before seen f = form_length (delta_of before f.at) f (form_of seen f)
 
 -- whether the frames take at most so many bytes
-unfoldable pub frames_within : ℕ → List Frame → Bool
-frames_within room [] = true
-frames_within room (f ∷ fs) = nat_le (frame_length f) room && frames_within (room - frame_length f) fs
+unfoldable pub frames_within : ℕ → Option ℕ → List Item → List Frame → Bool
+frames_within room before seen [] = true
+frames_within room before seen (f ∷ fs) = nat_le (frame_length before seen f) room && frames_within (room - frame_length before seen f) (Some (f.at)) f.locals fs
 
 -- ---- code, methods, classes
 
@@ -229,19 +238,21 @@ frames_room c = 2 ^ 32 - 1 - (20 + size_from 0 c.ins + 8 * length c.handlers)
 unfoldable pub ins_all_fit : List Ins → Bool
 ins_all_fit ins = nat_lt 0 (size_from 0 ins) && (nat_lt (size_from 0 ins) 65536 && (all_fit 0 ins && list_all (ins_lands (marks_of ins)) ins))
 
-unfoldable pub tables_fit : List Bool → CodeModel → Bool
-tables_fit marks c = is_count c.handlers && (list_all (handler_fits marks) c.handlers && (is_count c.frames && (frames_fit marks None c.frames && frames_within (frames_room c) c.frames)))
+unfoldable pub tables_fit : List Bool → List Item → CodeModel → Bool
+tables_fit marks entry c = is_count c.handlers && (list_all (handler_fits marks) c.handlers && (is_count c.frames && (frames_fit marks None entry c.frames && frames_within (frames_room c) None entry c.frames)))
 
-unfoldable pub code_fits : CodeModel → Bool
-code_fits c = is_u16 c.stack && (is_u16 c.locals && (ins_all_fit c.ins && tables_fit (marks_of c.ins) c))
+-- `entry` is the locals at the method's entry
+unfoldable pub code_fits : List Item → CodeModel → Bool
+code_fits entry c = is_u16 c.stack && (is_u16 c.locals && (ins_all_fit c.ins && tables_fit (marks_of c.ins) entry c))
 
 -- there is code exactly where the method isn't abstract or native
-abbrev pub code_or_none_fits : Bool → Option CodeModel → Bool
-code_or_none_fits bodiless None = bodiless
-code_or_none_fits bodiless (Some c) = not bodiless && code_fits c
+abbrev pub code_or_none_fits : Bool → List Item → Option CodeModel → Bool
+code_or_none_fits bodiless entry None = bodiless
+code_or_none_fits bodiless entry (Some c) = not bodiless && code_fits entry c
 
-unfoldable pub method_fits : MethodModel → Bool
-method_fits m = is_u16 m.flags && (is_method_descriptor m.descriptor && code_or_none_fits (is_bodiless m.flags) m.code)
+-- `class` is the name of the class
+unfoldable pub method_fits : List ℕ → MethodModel → Bool
+method_fits class m = is_u16 m.flags && (is_method_descriptor m.descriptor && code_or_none_fits (is_bodiless m.flags) (entry_of_method class m) m.code)
 
 unfoldable pub field_fits : FieldModel → Bool
 field_fits f = is_u16 f.flags && is_field_descriptor f.descriptor
@@ -253,7 +264,7 @@ unfoldable pub counts_fit : ClassModel → Bool
 counts_fit c = is_count c.interfaces && (is_count c.fields && (is_count c.methods && is_count c.inner))
 
 unfoldable pub members_fit : ClassModel → Bool
-members_fit c = is_u16 c.flags && (counts_fit c && (list_all field_fits c.fields && (list_all method_fits c.methods && list_all inner_fits c.inner)))
+members_fit c = is_u16 c.flags && (counts_fit c && (list_all field_fits c.fields && (list_all (method_fits c.name) c.methods && list_all inner_fits c.inner)))
 
 -- ldc has one byte for a number, and the count of the pool two
 unfoldable pub pool_fits : ClassModel → Bool
@@ -274,6 +285,10 @@ pub record ItemsTake (marks : List Bool) (items : List Item) (size : ℕ) : Type
   pub is : size ≡ items_length items
   pub small : size ≤ 3 * 65536
 
-pub record FrameTakes (marks : List Bool) (before : Option ℕ) (f : Frame) (size : ℕ) : Type 0 where
-  pub fit : frame_fits marks before f ≡ true
-  pub is : size ≡ frame_length f
+pub record FormTakes (marks : List Bool) (delta : ℕ) (f : Frame) (form : Form) (size : ℕ) : Type 0 where
+  pub fit : form_fits marks f form ≡ true
+  pub is : size ≡ form_length delta f form
+
+pub record FrameTakes (marks : List Bool) (before : Option ℕ) (seen : List Item) (f : Frame) (size : ℕ) : Type 0 where
+  pub fit : frame_fits marks before seen f ≡ true
+  pub is : size ≡ frame_length before seen f

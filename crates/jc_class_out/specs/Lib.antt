@@ -6,6 +6,7 @@ pub mod Instructions
 pub mod Frames
 pub mod Code
 pub mod Format
+pub mod Forms
 pub mod Spelling
 pub mod Fitting
 pub mod FinderSees

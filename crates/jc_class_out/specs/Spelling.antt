@@ -1,13 +1,15 @@
 -- How the writer spells a class: the constants that it uses, each once and in the order of their first use, those of ldc
--- before all others, since ldc has one byte for their number; then each part with the numbers of its constants. Frames are
--- full. A number that is too great for its field is cut off here; `fits` sees to it that none is.
-use Rattle.std.specs.Prelude.{◌≡◌, ℕ, zero, suc, ◌+◌, ◌-◌, ◌*◌, ◌/◌, ◌%◌, ◌^◌, ℤ, pos, Bool, true, false, not, ◌||◌, ◌&&◌, ◌==◌, nat_lt, List, [], ◌∷◌, ◌++◌, length, map, codes, replicate, Option, Some, None, if◌then◌else◌}
-use Rattle.std.specs.Int.{w8, w16, w32, w64, cast_unsigned, to_be_bytes}
+-- before all others, since ldc has one byte for their number; then each part with the numbers of its constants. Each frame
+-- has its shortest form. A number that is too great for its field is cut off here; `fits` sees to it that none is.
+use Rattle.std.specs.Prelude.{◌≡◌, ℕ, ◌+◌, ◌-◌, ◌%◌, ◌^◌, ℤ, Bool, true, false, ◌&&◌, nat_lt, List, [], ◌∷◌, ◌++◌, length, map, codes, replicate, Option, Some, None, if◌then◌else◌}
+use Rattle.std.specs.Int.{w16, w32, w64, cast_unsigned, to_be_bytes}
 use Rattle.std.specs.List.{list_any, flat_map, position}
 use Rattle.std.specs.Ordering.{int_eq}
 use Rattle.std.specs.Str.{bytes_eq}
 use Rattle.jc_class_out.specs.declared.format.Constant.{Constant}
 use Rattle.jc_class_out.specs.declared.format.Constant.TheVariants as constant
+use Rattle.jc_class_out.specs.declared.forms.Form.{Form}
+use Rattle.jc_class_out.specs.declared.forms.Form.TheVariants as form
 use Rattle.jc_class_out.specs.declared.format.Kind.{Kind}
 use Rattle.jc_class_out.specs.declared.format.Kind.TheVariants.{Short, Load, Field, Interface}
 use Rattle.jc_class_out.specs.declared.model.ClassModel.{ClassModel}
@@ -26,7 +28,8 @@ use Rattle.jc_class_out.specs.declared.model.SwitchCase.{SwitchCase}
 use Rattle.jc_class_out.specs.declared.model.Operand.{Operand}
 use Rattle.jc_class_out.specs.declared.model.Operand.TheVariants as op
 use Rattle.jc_class_out.specs.Texts.{text_bytes}
-use Rattle.jc_class_out.specs.Descriptors.{parameter_units, or_zero}
+use Rattle.jc_class_out.specs.Descriptors.{parameter_units, or_zero, entry_locals}
+use Rattle.jc_class_out.specs.Forms.{form_of, written_locals, written_stack, delta_of}
 use Rattle.jc_class_out.specs.Pool.{Known, KnownText, KnownWhole, KnownLong, KnownBehind, KnownClass, KnownLiteral, KnownField, KnownMethod, KnownInterface, KnownPair}
 use Rattle.jc_class_out.specs.Instructions.{kind_of, padding}
 use Rattle.jc_class_out.specs.Format.{major}
@@ -161,22 +164,32 @@ abbrev pub item_uses : Item → List Known
 item_uses (item.Object name) = class_uses name
 item_uses _ = []
 
-unfoldable pub frame_uses : Frame → List Known
-frame_uses f = flat_map item_uses f.locals ++ flat_map item_uses f.stack
+unfoldable pub form_uses : Frame → Form → List Known
+form_uses f form = flat_map item_uses (written_locals f form) ++ flat_map item_uses (written_stack f form)
 
-abbrev pub table_uses : List Frame → List Known
-table_uses [] = []
-table_uses (f ∷ fs) = KnownText (codes "StackMapTable") ∷ flat_map frame_uses (f ∷ fs)
+-- each seen from the locals before it
+unfoldable pub frames_uses : List Item → List Frame → List Known
+frames_uses seen [] = []
+frames_uses seen (f ∷ fs) = form_uses f (form_of seen f) ++ frames_uses f.locals fs
 
-unfoldable pub code_uses : CodeModel → List Known
-code_uses c = flat_map ins_uses c.ins ++ (flat_map handler_uses c.handlers ++ table_uses c.frames)
+abbrev pub table_uses : List Item → List Frame → List Known
+table_uses entry [] = []
+table_uses entry (f ∷ fs) = KnownText (codes "StackMapTable") ∷ frames_uses entry (f ∷ fs)
 
-abbrev pub code_or_none_uses : Option CodeModel → List Known
-code_or_none_uses None = []
-code_or_none_uses (Some c) = KnownText (codes "Code") ∷ code_uses c
+-- `entry` is the locals at the method's entry
+unfoldable pub code_uses : List Item → CodeModel → List Known
+code_uses entry c = flat_map ins_uses c.ins ++ (flat_map handler_uses c.handlers ++ table_uses entry c.frames)
 
-unfoldable pub method_uses : MethodModel → List Known
-method_uses m = KnownText m.name ∷ KnownText m.descriptor ∷ code_or_none_uses m.code
+abbrev pub code_or_none_uses : List Item → Option CodeModel → List Known
+code_or_none_uses entry None = []
+code_or_none_uses entry (Some c) = KnownText (codes "Code") ∷ code_uses entry c
+
+abbrev pub entry_of_method : List ℕ → MethodModel → List Item
+entry_of_method class m = entry_locals class m.flags m.name m.descriptor
+
+-- `class` is the name of the class
+unfoldable pub method_uses : List ℕ → MethodModel → List Known
+method_uses class m = KnownText m.name ∷ KnownText m.descriptor ∷ code_or_none_uses (entry_of_method class m) m.code
 
 abbrev pub code_first_uses : Option CodeModel → List Known
 code_first_uses None = []
@@ -197,7 +210,7 @@ inners_uses (i ∷ is) = KnownText (codes "InnerClasses") ∷ flat_map inner_use
 
 unfoldable pub members_uses : ClassModel → List Known
 members_uses c = class_uses c.name ++ (class_or_none_uses c.superclass ++ (flat_map class_uses c.interfaces
-    ++ (flat_map field_uses c.fields ++ (flat_map method_uses c.methods ++ inners_uses c.inner))))
+    ++ (flat_map field_uses c.fields ++ (flat_map (method_uses c.name) c.methods ++ inners_uses c.inner))))
 
 unfoldable pub loads_of : ClassModel → List Known
 loads_of c = flat_map method_first_uses c.methods
@@ -287,36 +300,43 @@ spell_item ks item.UninitializedThis = 6 ∷ []
 spell_item ks (item.Object name) = 7 ∷ index ks (KnownClass name)
 spell_item ks (item.Uninitialized at) = 8 ∷ to_be_bytes w16 (at % 65536)
 
-abbrev pub delta_of : Option ℕ → ℕ → ℕ
-delta_of None at = at
-delta_of (Some before) at = at - before - 1
+-- a delta below 64 in the tag, a greater one behind another tag
+unfoldable pub spell_near : ℕ → ℕ → ℕ → List ℕ
+spell_near tag wide delta = if nat_lt delta 64 then (tag + delta) % 256 ∷ [] else wide ∷ to_be_bytes w16 (delta % 65536)
 
-unfoldable pub spell_frame : List Known → Option ℕ → Frame → List ℕ
-spell_frame ks before f = 255 ∷ (to_be_bytes w16 (delta_of before f.at % 65536) ++ (counted (spell_item ks) f.locals ++ counted (spell_item ks) f.stack))
+unfoldable pub spell_form : List Known → ℕ → Frame → Form → List ℕ
+spell_form ks delta f form.Same = spell_near 0 251 delta
+spell_form ks delta f form.SameItem = spell_near 64 247 delta ++ flat_map (spell_item ks) f.stack
+spell_form ks delta f (form.Chop k) = (251 - k) ∷ to_be_bytes w16 (delta % 65536)
+spell_form ks delta f (form.Append k) = (251 + k) % 256 ∷ (to_be_bytes w16 (delta % 65536) ++ flat_map (spell_item ks) (written_locals f (form.Append k)))
+spell_form ks delta f form.Full = 255 ∷ (to_be_bytes w16 (delta % 65536) ++ (counted (spell_item ks) f.locals ++ counted (spell_item ks) f.stack))
 
-unfoldable pub spell_frames : List Known → Option ℕ → List Frame → List ℕ
-spell_frames ks before [] = []
-spell_frames ks before (f ∷ fs) = spell_frame ks before f ++ spell_frames ks (Some (f.at)) fs
+unfoldable pub spell_frame : List Known → Option ℕ → List Item → Frame → List ℕ
+spell_frame ks before seen f = spell_form ks (delta_of before f.at) f (form_of seen f)
+
+unfoldable pub spell_frames : List Known → Option ℕ → List Item → List Frame → List ℕ
+spell_frames ks before seen [] = []
+spell_frames ks before seen (f ∷ fs) = spell_frame ks before seen f ++ spell_frames ks (Some (f.at)) f.locals fs
 
 unfoldable pub spell_attribute : List Known → List ℕ → List ℕ → List ℕ
 spell_attribute ks word content = index ks (KnownText word) ++ (to_be_bytes w32 (length content % 2 ^ 32) ++ content)
 
-unfoldable pub spell_table : List Known → List Frame → List ℕ
-spell_table ks frames = to_be_bytes w16 (length frames % 65536) ++ spell_frames ks None frames
+unfoldable pub spell_table : List Known → List Item → List Frame → List ℕ
+spell_table ks entry frames = to_be_bytes w16 (length frames % 65536) ++ spell_frames ks None entry frames
 
-abbrev pub spell_code_attributes : List Known → List Frame → List ℕ
-spell_code_attributes ks [] = to_be_bytes w16 0
-spell_code_attributes ks (f ∷ fs) = to_be_bytes w16 1 ++ spell_attribute ks (codes "StackMapTable") (spell_table ks (f ∷ fs))
+abbrev pub spell_code_attributes : List Known → List Item → List Frame → List ℕ
+spell_code_attributes ks entry [] = to_be_bytes w16 0
+spell_code_attributes ks entry (f ∷ fs) = to_be_bytes w16 1 ++ spell_attribute ks (codes "StackMapTable") (spell_table ks entry (f ∷ fs))
 
-unfoldable pub spell_code_model : List Known → CodeModel → List ℕ
-spell_code_model ks c = to_be_bytes w16 c.stack ++ (to_be_bytes w16 c.locals ++ (spell_body ks c.ins ++ (counted (spell_handler ks) c.handlers ++ spell_code_attributes ks c.frames)))
+unfoldable pub spell_code_model : List Known → List Item → CodeModel → List ℕ
+spell_code_model ks entry c = to_be_bytes w16 c.stack ++ (to_be_bytes w16 c.locals ++ (spell_body ks c.ins ++ (counted (spell_handler ks) c.handlers ++ spell_code_attributes ks entry c.frames)))
 
-abbrev pub spell_code_or_none : List Known → Option CodeModel → List ℕ
-spell_code_or_none ks None = to_be_bytes w16 0
-spell_code_or_none ks (Some c) = to_be_bytes w16 1 ++ spell_attribute ks (codes "Code") (spell_code_model ks c)
+abbrev pub spell_code_or_none : List Known → List Item → Option CodeModel → List ℕ
+spell_code_or_none ks entry None = to_be_bytes w16 0
+spell_code_or_none ks entry (Some c) = to_be_bytes w16 1 ++ spell_attribute ks (codes "Code") (spell_code_model ks entry c)
 
-unfoldable pub spell_method : List Known → MethodModel → List ℕ
-spell_method ks m = to_be_bytes w16 m.flags ++ (index ks (KnownText m.name) ++ (index ks (KnownText m.descriptor) ++ spell_code_or_none ks m.code))
+unfoldable pub spell_method : List Known → List ℕ → MethodModel → List ℕ
+spell_method ks class m = to_be_bytes w16 m.flags ++ (index ks (KnownText m.name) ++ (index ks (KnownText m.descriptor) ++ spell_code_or_none ks (entry_of_method class m) m.code))
 
 unfoldable pub spell_field : List Known → FieldModel → List ℕ
 spell_field ks f = to_be_bytes w16 f.flags ++ (index ks (KnownText f.name) ++ (index ks (KnownText f.descriptor) ++ to_be_bytes w16 0))
@@ -333,7 +353,7 @@ spell_interface ks name = index ks (KnownClass name)
 
 unfoldable pub spell_members : List Known → ClassModel → List ℕ
 spell_members ks c = to_be_bytes w16 c.flags ++ (index ks (KnownClass c.name) ++ (spell_class_or_none ks c.superclass ++ (counted (spell_interface ks) c.interfaces
-    ++ (counted (spell_field ks) c.fields ++ (counted (spell_method ks) c.methods ++ spell_inners ks c.inner)))))
+    ++ (counted (spell_field ks) c.fields ++ (counted (spell_method ks c.name) c.methods ++ spell_inners ks c.inner)))))
 
 unfoldable pub spell_member_entry : List Known → ℕ → List ℕ → List ℕ → List ℕ → List ℕ
 spell_member_entry ks tag c n d = tag ∷ (index ks (KnownClass c) ++ index ks (KnownPair n d))

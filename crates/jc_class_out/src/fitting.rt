@@ -1,4 +1,4 @@
-ghost use Rattle.std.specs.Prelude.{◌≡◌, ◌≤◌, ◌+◌, ◌*◌, ◌<◌, ◌^◌, ◌&&◌, true, false, nat_lt, MatchOption, None, Some, length, replicate};
+ghost use Rattle.std.specs.Prelude.{◌≡◌, ◌≤◌, ◌+◌, ◌*◌, ◌<◌, ◌^◌, ◌&&◌, true, false, nat_lt, MatchOption, None, Some, length, take, replicate, ◌++◌, ◌∷◌, ◌-◌};
 ghost use Rattle.std.specs.List.{list_all};
 ghost use Rattle.jc_class_out.specs.Descriptors.{parameter_units, or_zero, is_field_descriptor, is_method_descriptor};
 ghost use Rattle.jc_class_out.specs.Pool.{is_descriptor};
@@ -7,9 +7,13 @@ ghost use Rattle.jc_class_out.specs.Instructions.{target, is_above, operand_size
 ghost use Rattle.jc_class_out.specs.Frames.{begins};
 ghost use Rattle.jc_class_out.specs.Code.{marks_of, marks_from, size_from, ends};
 ghost use Rattle.jc_class_out.specs.Format.{is_bodiless};
-ghost use Rattle.jc_class_out.specs.Fitting.{IsSize, ItemsTake, FrameTakes, is_u8, is_u16, is_signed, is_count, text_fits, known_fits, is_nothing, is_number, is_array_number, is_array, is_local_below, is_step_below, is_loaded, is_load_of, is_load_long, is_member, is_interface_member, is_class_operand, is_dims, is_jump_from, cases_ascend, is_switch, operand_fits, wide_fits, ins_fits, all_fit, case_lands, operand_lands, ins_lands, handler_fits, item_fits, is_behind, items_fit, frame_fits, frames_fit, item_length, items_length, frame_length, frames_within, frames_room, ins_all_fit, tables_fit, code_fits, code_or_none_fits, method_fits, field_fits, inner_fits, counts_fit, members_fit};
+ghost use Rattle.jc_class_out.specs.Forms.{start_locals, place_before, locals_before};
+ghost use Rattle.jc_class_out.specs.Fitting.{IsSize, ItemsTake, FormTakes, FrameTakes, is_u8, is_u16, is_signed, is_count, text_fits, known_fits, is_nothing, is_number, is_array_number, is_array, is_local_below, is_step_below, is_loaded, is_load_of, is_load_long, is_member, is_interface_member, is_class_operand, is_dims, is_jump_from, cases_ascend, is_switch, operand_fits, wide_fits, ins_fits, all_fit, case_lands, operand_lands, ins_lands, handler_fits, item_fits, is_behind, items_fit, form_fits, frame_fits, frames_fit, item_length, items_length, form_length, frame_length, frames_within, frames_room, ins_all_fit, tables_fit, code_fits, code_or_none_fits, method_fits, field_fits, inner_fits, counts_fit, members_fit};
 
 use crate::descriptors::{field_descriptor, method_descriptor, units_of_parameters};
+use crate::forms::{
+    Before, Form, Start, delta, head_bytes, locals_in, place, shortest, stack_in, start_of,
+};
 use crate::kinds::{array_code, kind};
 use crate::writing::{gap, way};
 use crate::{
@@ -17,6 +21,9 @@ use crate::{
     MethodModel, Operand, SwitchCase,
 };
 use jc_rules::Items;
+
+/// Code has fewer bytes than this (JVMS 4.7.3).
+const CODE_LIMIT: usize = 65536;
 
 /// Whether the number has room in two bytes, as each `u16` has.
 fn two_bytes(n: u16) -> bool
@@ -336,32 +343,46 @@ fn measured(list: &[Ins]) -> Option<u32>
     Some(at)
 }
 
-/// Whether an instruction begins there.
-#[tactic(auto, unfolding(crate::specs::Fitting::all_fit))]
-fn begins_at(list: &[Ins], to: u32) -> bool
-    requires { all_fit 0 list.now ≡ true }
-    ensures { result ≡ begins (marks_of list.now) to }
+/// Marks the bytes of an instruction: it begins at the first of them.
+fn mark_one(marks: &mut [bool], at: usize, size: usize)
+    requires some { 0 < size }
+    requires within { at + size ≤ length marks.old }
+    ensures { take (at + size) marks.new ≡ take at marks.old ++ (true ∷ replicate (size - 1) false) }
 {
-    let mut left = to;
-    for ins in list {
-        if left == 0 {
-            return true;
-        }
-        let size = bytes_of(to - left, ins);
-        if u64::from(left) < size {
-            return false;
-        }
-        left -= size as u32;
+    marks[at] = true;
+    for place in at + 1..at + size {
+        marks[place] = false;
     }
-    false
 }
 
-fn cases_begin(list: &[Ins], cases: &[SwitchCase]) -> bool
-    requires { all_fit 0 list.now ≡ true }
-    ensures { result ≡ list_all (case_lands (marks_of list.now)) cases.now }
+/// Marks the bytes at which instructions begin, so that a place is looked up at once.
+#[tactic(auto, unfolding(crate::specs::Fitting::all_fit, crate::specs::Code::size_from))]
+fn mark(marks: &mut [bool], size: u32, list: &[Ins])
+    requires size { IsSize list.now size }
+    requires room { CODE_LIMIT ≤ length marks.old }
+    ensures { take size marks.new ≡ marks_of list.now }
+{
+    let mut at: u32 = 0;
+    for ins in list {
+        let size = bytes_of(at, ins);
+        mark_one(marks, at as usize, size as usize);
+        at += size as u32;
+    }
+}
+
+/// Whether an instruction begins there.
+fn begins_at(marks: &[bool], to: u32) -> bool
+    ensures { result ≡ begins marks.now to }
+{
+    let to = to as usize;
+    to < marks.len() && marks[to]
+}
+
+fn cases_begin(marks: &[bool], cases: &[SwitchCase]) -> bool
+    ensures { result ≡ list_all (case_lands marks.now) cases.now }
 {
     for case in cases {
-        if !begins_at(list, case.at) {
+        if !begins_at(marks, case.at) {
             return false;
         }
     }
@@ -369,25 +390,23 @@ fn cases_begin(list: &[Ins], cases: &[SwitchCase]) -> bool
 }
 
 /// Whether the operand names places at which instructions begin.
-fn goes_to(list: &[Ins], operand: &Operand) -> bool
-    requires { all_fit 0 list.now ≡ true }
-    ensures { result ≡ operand_lands (marks_of list.now) operand.now }
+fn goes_to(marks: &[bool], operand: &Operand) -> bool
+    ensures { result ≡ operand_lands marks.now operand.now }
 {
     match operand {
-        Operand::Jump(to) => begins_at(list, *to),
+        Operand::Jump(to) => begins_at(marks, *to),
         Operand::Switch { otherwise, cases } => {
-            begins_at(list, *otherwise) && cases_begin(list, cases.slice())
+            begins_at(marks, *otherwise) && cases_begin(marks, cases.slice())
         }
         _ => true,
     }
 }
 
-fn all_go(list: &[Ins]) -> bool
-    requires { all_fit 0 list.now ≡ true }
-    ensures { result ≡ list_all (ins_lands (marks_of list.now)) list.now }
+fn all_go(marks: &[bool], list: &[Ins]) -> bool
+    ensures { result ≡ list_all (ins_lands marks.now) list.now }
 {
     for ins in list {
-        if !goes_to(list, &ins.operand) {
+        if !goes_to(marks, &ins.operand) {
             return false;
         }
     }
@@ -395,53 +414,47 @@ fn all_go(list: &[Ins]) -> bool
 }
 
 /// Whether an instruction begins there, or the code ends.
-#[tactic(auto, using(crate::proofs::CodeAgain::length_marks))]
-fn ends_at(list: &[Ins], size: u32, to: u32) -> bool
-    requires { IsSize list.now size }
-    ensures { result ≡ ends (marks_of list.now) to }
+fn ends_at(marks: &[bool], to: u32) -> bool
+    ensures { result ≡ ends marks.now to }
 {
-    begins_at(list, to) || to == size
+    begins_at(marks, to) || to as usize == marks.len()
 }
 
 #[tactic(auto, unfolding(crate::specs::Fitting::handler_fits))]
-fn handler(list: &[Ins], size: u32, row: &Handler) -> bool
-    requires { IsSize list.now size }
-    ensures { result ≡ handler_fits (marks_of list.now) row.now }
+fn handler(marks: &[bool], row: &Handler) -> bool
+    ensures { result ≡ handler_fits marks.now row.now }
 {
-    begins_at(list, row.from)
-        && ends_at(list, size, row.to)
+    begins_at(marks, row.from)
+        && ends_at(marks, row.to)
         && row.from < row.to
-        && begins_at(list, row.at)
+        && begins_at(marks, row.at)
 }
 
-fn handlers(list: &[Ins], size: u32, rows: &[Handler]) -> bool
-    requires { IsSize list.now size }
-    ensures { result ≡ list_all (handler_fits (marks_of list.now)) rows.now }
+fn handlers(marks: &[bool], rows: &[Handler]) -> bool
+    ensures { result ≡ list_all (handler_fits marks.now) rows.now }
 {
     for row in rows {
-        if !handler(list, size, row) {
+        if !handler(marks, row) {
             return false;
         }
     }
     true
 }
 
-fn item(list: &[Ins], item: &Item) -> bool
-    requires { all_fit 0 list.now ≡ true }
-    ensures { result ≡ item_fits (marks_of list.now) item.now }
+fn item(marks: &[bool], item: &Item) -> bool
+    ensures { result ≡ item_fits marks.now item.now }
 {
     match item {
-        Item::Uninitialized(at) => begins_at(list, *at),
+        Item::Uninitialized(at) => begins_at(marks, *at),
         _ => true,
     }
 }
 
-fn each_item(list: &[Ins], items: &[Item]) -> bool
-    requires { all_fit 0 list.now ≡ true }
-    ensures { result ≡ list_all (item_fits (marks_of list.now)) items.now }
+fn each_item(marks: &[bool], items: &[Item]) -> bool
+    ensures { result ≡ list_all (item_fits marks.now) items.now }
 {
     for one in items {
-        if !item(list, one) {
+        if !item(marks, one) {
             return false;
         }
     }
@@ -483,41 +496,47 @@ fn items_bytes(items: &[Item]) -> u64
 
 /// How many bytes the items take, where they fit.
 #[tactic(auto, unfolding(crate::specs::Fitting::items_fit))]
-fn items(list: &[Ins], items: &[Item]) -> Option<u64>
-    requires { all_fit 0 list.now ≡ true }
-    ensures { MatchOption result (items_fit (marks_of list.now) items.now ≡ false) (λ n. ItemsTake (marks_of list.now) items.now n) }
+fn items(marks: &[bool], items: &[Item]) -> Option<u64>
+    ensures { MatchOption result (items_fit marks.now items.now ≡ false) (λ n. ItemsTake marks.now items.now n) }
 {
-    if items.len() < 65536 && each_item(list, items) {
+    if items.len() < 65536 && each_item(marks, items) {
         Some(items_bytes(items))
     } else {
         None
     }
 }
 
-/// How many bytes the frame takes, where it fits.
-#[tactic(auto, unfolding(crate::specs::Fitting::frame_fits))]
-fn frame(list: &[Ins], before: Option<u32>, frame: &Frame) -> Option<u64>
-    requires { all_fit 0 list.now ≡ true }
-    ensures { MatchOption result (frame_fits (marks_of list.now) before frame.now ≡ false) (λ n. FrameTakes (marks_of list.now) before frame.now n) }
+/// How many bytes the frame takes in that form, where its items fit.
+#[tactic(auto, unfolding(crate::specs::Fitting::form_fits, crate::specs::Fitting::form_length))]
+fn form_bytes(marks: &[bool], by: u32, frame: &Frame, form: Form) -> Option<u64>
+    ensures { MatchOption result (form_fits marks.now frame.now form ≡ false) (λ n. FormTakes marks.now by frame.now form n) }
 {
-    if !begins_at(list, frame.at) || !behind(before, frame.at) {
+    let locals = items(marks, locals_in(frame, form))?;
+    let stack = items(marks, stack_in(frame, form))?;
+    Some(head_bytes(by, form) + (locals + stack))
+}
+
+/// How many bytes the frame takes, where it fits.
+#[tactic(auto, unfolding(crate::specs::Fitting::frame_fits, crate::specs::Fitting::frame_length))]
+fn frame(marks: &[bool], before: Before<'_>, frame: &Frame) -> Option<u64>
+    ensures { MatchOption result (frame_fits marks.now (place_before before.entry) (locals_before before.entry) frame.now ≡ false) (λ n. FrameTakes marks.now (place_before before.entry) (locals_before before.entry) frame.now n) }
+{
+    let at = place(before);
+    if !begins_at(marks, frame.at) || !behind(at, frame.at) {
         return None;
     }
-    let locals = items(list, frame.locals.slice())?;
-    let stack = items(list, frame.stack.slice())?;
-    Some(7 + (locals + stack))
+    form_bytes(marks, delta(at, frame.at), frame, shortest(before, frame))
 }
 
 /// Whether the frames fit, and take at most so many bytes.
 #[tactic(auto, unfolding(crate::specs::Fitting::frames_fit, crate::specs::Fitting::frames_within))]
-fn frames(list: &[Ins], room: u64, table: &[Frame]) -> bool
-    requires { all_fit 0 list.now ≡ true }
-    ensures { result ≡ (frames_fit (marks_of list.now) None table.now && frames_within room table.now) }
+fn frames(marks: &[bool], room: u64, start: Start<'_>, table: &[Frame]) -> bool
+    ensures { result ≡ (frames_fit marks.now None (start_locals start.entry) table.now && frames_within room None (start_locals start.entry) table.now) }
 {
     let mut left = room;
-    let mut before = None;
+    let mut before = Before::Entry(start);
     for one in table {
-        match frame(list, before, one) {
+        match frame(marks, before, one) {
             None => return false,
             Some(bytes) => {
                 if bytes > left {
@@ -526,45 +545,63 @@ fn frames(list: &[Ins], room: u64, table: &[Frame]) -> bool
                 left -= bytes;
             }
         }
-        before = Some(one.at);
+        before = Before::Behind(one);
     }
     true
 }
 
 /// Whether the exception table and the frames fit in a Code attribute.
 #[tactic(auto, unfolding(crate::specs::Fitting::tables_fit))]
-fn tables(size: u32, code: &CodeModel) -> bool
+fn tables(marks: &[bool], size: u32, start: Start<'_>, code: &CodeModel) -> bool
     requires { IsSize code.now.ins size }
-    ensures { result ≡ tables_fit (marks_of code.now.ins) code.now }
+    ensures { result ≡ tables_fit marks.now (start_locals start.entry) code.now }
 {
-    let list = code.ins.slice();
     let rows = code.handlers.slice();
     if rows.len() >= 65536 || code.frames.slice().len() >= 65536 {
         return false;
     }
     let room = 0xffff_ffff - (20 + u64::from(size) + 8 * (rows.len() as u64));
-    handlers(list, size, rows) && frames(list, room, code.frames.slice())
+    handlers(marks, rows) && frames(marks, room, start, code.frames.slice())
 }
 
+/// Whether code of that size, of which the marks are these, goes where instructions begin, and its tables fit.
+fn marked(marks: &[bool], size: u32, start: Start<'_>, code: &CodeModel) -> bool
+    requires { IsSize code.now.ins size }
+    ensures { result ≡ (nat_lt 0 size && (list_all (ins_lands marks.now) code.now.ins && tables_fit marks.now (start_locals start.entry) code.now)) }
+{
+    0 < size && all_go(marks, code.ins.slice()) && tables(marks, size, start, code)
+}
+
+/// `marks` is room for those of the code.
 #[tactic(auto, unfolding(crate::specs::Fitting::code_fits, crate::specs::Fitting::ins_all_fit))]
-fn code(code: &CodeModel) -> bool
-    ensures { result ≡ code_fits code.now }
+fn code(marks: &mut [bool], start: Start<'_>, code: &CodeModel) -> bool
+    requires { CODE_LIMIT ≤ length marks.old }
+    ensures { result ≡ code_fits (start_locals start.entry) code.now }
 {
     if !two_bytes(code.stack) || !two_bytes(code.locals) {
         return false;
     }
     match measured(code.ins.slice()) {
         None => false,
-        Some(size) => 0 < size && all_go(code.ins.slice()) && tables(size, code),
+        Some(size) => {
+            mark(marks, size, code.ins.slice());
+            marked(&marks[..size as usize], size, start, code)
+        }
     }
 }
 
-fn code_or_none(bodiless: bool, code_or_none: &Option<CodeModel>) -> bool
-    ensures { result ≡ code_or_none_fits bodiless code_or_none.now }
+fn code_or_none(
+    marks: &mut [bool],
+    bodiless: bool,
+    start: Start<'_>,
+    code_or_none: &Option<CodeModel>,
+) -> bool
+    requires { CODE_LIMIT ≤ length marks.old }
+    ensures { result ≡ code_or_none_fits bodiless (start_locals start.entry) code_or_none.now }
 {
     match code_or_none {
         None => bodiless,
-        Some(model) => !bodiless && code(model),
+        Some(model) => !bodiless && code(marks, start, model),
     }
 }
 
@@ -576,19 +613,26 @@ pub fn without_body(flags: u16) -> bool
 }
 
 #[tactic(auto, unfolding(crate::specs::Fitting::method_fits))]
-fn method(method: &MethodModel) -> bool
-    ensures { result ≡ method_fits method.now }
+fn method(marks: &mut [bool], class: &Items<u16>, method: &MethodModel) -> bool
+    requires { CODE_LIMIT ≤ length marks.old }
+    ensures { result ≡ method_fits class.now method.now }
 {
     two_bytes(method.flags)
         && method_descriptor(method.descriptor.slice())
-        && code_or_none(without_body(method.flags), &method.code)
+        && code_or_none(
+            marks,
+            without_body(method.flags),
+            start_of(class, method),
+            &method.code,
+        )
 }
 
-fn methods(list: &[MethodModel]) -> bool
-    ensures { result ≡ list_all method_fits list.now }
+fn methods(marks: &mut [bool], class: &Items<u16>, list: &[MethodModel]) -> bool
+    requires { CODE_LIMIT ≤ length marks.old }
+    ensures { result ≡ list_all (method_fits class.now) list.now }
 {
     for one in list {
-        if !method(one) {
+        if !method(marks, class, one) {
             return false;
         }
     }
@@ -634,14 +678,22 @@ fn counts(class: &ClassModel) -> bool
         && class.inner.slice().len() < 65536
 }
 
-/// Whether the class fits, its pool left out.
 #[tactic(auto, unfolding(crate::specs::Fitting::members_fit))]
-pub fn members(class: &ClassModel) -> bool
+fn each_member(marks: &mut [bool], class: &ClassModel) -> bool
+    requires { CODE_LIMIT ≤ length marks.old }
     ensures { result ≡ members_fit class.now }
 {
     two_bytes(class.flags)
         && counts(class)
         && fields(class.fields.slice())
-        && methods(class.methods.slice())
+        && methods(marks, &class.name, class.methods.slice())
         && rows(class.inner.slice())
+}
+
+/// Whether the class fits, its pool left out.
+pub fn members(class: &ClassModel) -> bool
+    ensures { result ≡ members_fit class.now }
+{
+    let mut marks = [false; CODE_LIMIT];
+    each_member(&mut marks, class)
 }

@@ -4,15 +4,20 @@
 mod descriptors;
 mod fitting;
 mod format;
+mod forms;
 mod kinds;
 mod model;
 mod pool;
 mod room;
+#[cfg(test)]
+mod tests;
 mod texts;
 mod uses;
 mod writer;
 mod writing;
 
+pub use descriptors::{behind_type, field_descriptor, method_descriptor, units_of_parameters};
+pub use fitting::{above, jump_target, without_body};
 pub use format::{Constant, Entry, Flaw, Kind, Slot};
 pub use kinds::{array_code, kind};
 pub use model::{
@@ -21,3 +26,4 @@ pub use model::{
 };
 pub use room::fits;
 pub use writer::class_bytes;
+pub use writing::gap;

@@ -1,8 +1,9 @@
-ghost use Rattle.std.specs.Prelude.{◌≡◌, ◌+◌, ◌-◌, ◌^◌, ◌<◌, ◌&&◌, ◌||◌, min, true, cond, length, take, nat_lt, nat_le};
+ghost use Rattle.std.specs.Prelude.{◌≡◌, ◌+◌, ◌-◌, ◌^◌, ◌<◌, ◌&&◌, ◌||◌, min, true, cond, length, take, nat_lt, nat_le, ◌↔◌, IsTrue};
 ghost use Rattle.std.specs.List.{list_all};
 ghost use Rattle.jc_class_out.specs.Texts.{unit_bytes, text_bytes};
 ghost use Rattle.jc_class_out.specs.Pool.{is_descriptor};
 ghost use Rattle.jc_class_out.specs.Spelling.{known, same_known, has, loads_of, uses};
+ghost use Rattle.jc_class_out.specs.Format.{HasClassFile};
 ghost use Rattle.jc_class_out.specs.Fitting.{is_signed, text_fits, known_fits, places, members_fit, pool_fits, fits_of};
 
 use crate::descriptors::{field_descriptor, method_descriptor};
@@ -261,14 +262,21 @@ fn few_uses(class: &ClassModel) -> bool
     count_of_uses(class) <= 65534 || distinct_uses(class) <= 65534
 }
 
-/// Whether `class_bytes` can write the class: each number has room in its field, operands go with their opcodes, jumps,
-/// handlers and frames name instructions, descriptors are well formed, and the pool has room for the constants, each once.
-///
-/// It takes no memory. It is linear in the class where the plain number of uses of constants is below 65,535, and that of
-/// constants of ldc below 256; above that it compares uses with each other.
+/// Whether each number has room in its field, operands go with their opcodes, jumps, handlers and frames name instructions,
+/// descriptors are well formed, and the pool has room for the constants, each once.
 #[tactic(auto, unfolding(crate::specs::Fitting::fits_of, crate::specs::Fitting::pool_fits))]
-pub fn fits(class: &ClassModel) -> bool
+fn each_fits(class: &ClassModel) -> bool
     ensures { result ≡ fits_of class.now }
 {
     members(class) && constants_fit(class) && few_loads(class) && few_uses(class)
+}
+
+/// Whether the class has a class file: exactly where some bytes are its file, and then `class_bytes` writes one.
+///
+/// It takes no memory. It goes over the class once where the plain number of uses of constants is below 65,535, and that of
+/// constants of ldc below 256; above that it compares uses with each other.
+pub fn fits(class: &ClassModel) -> bool
+    ensures { IsTrue result ↔ HasClassFile class.now }
+{
+    each_fits(class)
 }

@@ -2,8 +2,10 @@
 ghost use Rattle.std.specs.Prelude.{◌≡◌, ◌∷◌, [], OnOk};
 ghost use Rattle.std.specs.List.{flat_map};
 ghost use Rattle.jc_class_out.specs.Pool.{Known, KnownText};
-ghost use Rattle.jc_class_out.specs.Spelling.{known, Told, class_uses, pair_uses, class_or_none_uses, name_or_none_uses, loaded_uses, member_uses, operand_uses, ins_uses, first_uses, ins_first_uses, handler_uses, item_uses, frame_uses, table_uses, code_uses, code_or_none_uses, method_uses, code_first_uses, method_first_uses, field_uses, inner_uses, inners_uses, members_uses, loads_of, uses};
+ghost use Rattle.jc_class_out.specs.Forms.{start_locals, locals_before, form_of};
+ghost use Rattle.jc_class_out.specs.Spelling.{known, Told, class_uses, pair_uses, class_or_none_uses, name_or_none_uses, loaded_uses, member_uses, operand_uses, ins_uses, first_uses, ins_first_uses, handler_uses, item_uses, form_uses, frames_uses, table_uses, code_uses, code_or_none_uses, method_uses, code_first_uses, method_first_uses, field_uses, inner_uses, inners_uses, members_uses, loads_of, uses};
 
+use crate::forms::{Before, Form, Start, locals_in, shortest, stack_in, start_of};
 use crate::kinds::kind;
 use crate::pool::{CODE, INNER_CLASSES, STACK_MAP_TABLE};
 use crate::writing::member_constant;
@@ -196,83 +198,118 @@ fn walk_items<'a, V: Visitor<'a>>(visitor: &mut V, items: &'a [Item]) -> Result<
     Ok(())
 }
 
-#[tactic(auto, unfolding(crate::specs::Spelling::frame_uses), using(crate::proofs::Tellings::told_append))]
-fn walk_frame<'a, V: Visitor<'a>>(visitor: &mut V, frame: &'a Frame) -> Result<(), V::Stop>
-    ensures { OnOk result (Told V.sees visitor.old (frame_uses frame.now) visitor.new) }
+#[tactic(auto, unfolding(crate::specs::Spelling::form_uses), using(crate::proofs::Tellings::told_append))]
+fn walk_form<'a, V: Visitor<'a>>(
+    visitor: &mut V,
+    frame: &'a Frame,
+    form: Form,
+) -> Result<(), V::Stop>
+    ensures { OnOk result (Told V.sees visitor.old (form_uses frame.now form) visitor.new) }
 {
-    walk_items(visitor, frame.locals.slice())?;
-    walk_items(visitor, frame.stack.slice())?;
+    walk_items(visitor, locals_in(frame, form))?;
+    walk_items(visitor, stack_in(frame, form))?;
     Ok(())
 }
 
-#[tactic(auto, using(crate::proofs::Tellings::told_more))]
-fn walk_frames<'a, V: Visitor<'a>>(visitor: &mut V, frames: &'a [Frame]) -> Result<(), V::Stop>
-    ensures { OnOk result (Told V.sees visitor.old (flat_map frame_uses frames.now) visitor.new) }
+fn walk_frame<'a, V: Visitor<'a>>(
+    visitor: &mut V,
+    before: Before<'a>,
+    frame: &'a Frame,
+) -> Result<(), V::Stop>
+    ensures { OnOk result (Told V.sees visitor.old (form_uses frame.now (form_of (locals_before before.entry) frame.now)) visitor.new) }
 {
+    walk_form(visitor, frame, shortest(before, frame))?;
+    Ok(())
+}
+
+#[tactic(auto, unfolding(crate::specs::Spelling::frames_uses), using(crate::proofs::Tellings::told_frame, crate::proofs::Tellings::seen_next))]
+fn walk_frames<'a, V: Visitor<'a>>(
+    visitor: &mut V,
+    start: Start<'a>,
+    frames: &'a [Frame],
+) -> Result<(), V::Stop>
+    ensures { OnOk result (Told V.sees visitor.old (frames_uses (start_locals start.entry) frames.now) visitor.new) }
+{
+    let mut before = Before::Entry(start);
     for frame in frames {
-        walk_frame(visitor, frame)?;
+        walk_frame(visitor, before, frame)?;
+        before = Before::Behind(frame);
     }
     Ok(())
 }
 
-fn walk_table<'a, V: Visitor<'a>>(visitor: &mut V, frames: &'a [Frame]) -> Result<(), V::Stop>
-    ensures { OnOk result (Told V.sees visitor.old (table_uses frames.now) visitor.new) }
+fn walk_table<'a, V: Visitor<'a>>(
+    visitor: &mut V,
+    start: Start<'a>,
+    frames: &'a [Frame],
+) -> Result<(), V::Stop>
+    ensures { OnOk result (Told V.sees visitor.old (table_uses (start_locals start.entry) frames.now) visitor.new) }
 {
     match frames {
         [] => Ok(()),
         [_, ..] => {
             visitor.visit(Constant::Text(&STACK_MAP_TABLE))?;
-            walk_frames(visitor, frames)?;
+            walk_frames(visitor, start, frames)?;
             Ok(())
         }
     }
 }
 
 #[tactic(auto, unfolding(crate::specs::Spelling::code_uses), using(crate::proofs::Tellings::told_append))]
-fn walk_code_model<'a, V: Visitor<'a>>(visitor: &mut V, code: &'a CodeModel) -> Result<(), V::Stop>
-    ensures { OnOk result (Told V.sees visitor.old (code_uses code.now) visitor.new) }
+fn walk_code_model<'a, V: Visitor<'a>>(
+    visitor: &mut V,
+    start: Start<'a>,
+    code: &'a CodeModel,
+) -> Result<(), V::Stop>
+    ensures { OnOk result (Told V.sees visitor.old (code_uses (start_locals start.entry) code.now) visitor.new) }
 {
     walk_code(visitor, code.ins.slice())?;
     walk_handlers(visitor, code.handlers.slice())?;
-    walk_table(visitor, code.frames.slice())?;
+    walk_table(visitor, start, code.frames.slice())?;
     Ok(())
 }
 
 fn walk_code_or_none<'a, V: Visitor<'a>>(
     visitor: &mut V,
+    start: Start<'a>,
     code: &'a Option<CodeModel>,
 ) -> Result<(), V::Stop>
-    ensures { OnOk result (Told V.sees visitor.old (code_or_none_uses code.now) visitor.new) }
+    ensures { OnOk result (Told V.sees visitor.old (code_or_none_uses (start_locals start.entry) code.now) visitor.new) }
 {
     match code {
         None => Ok(()),
         Some(code) => {
             visitor.visit(Constant::Text(&CODE))?;
-            walk_code_model(visitor, code)?;
+            walk_code_model(visitor, start, code)?;
             Ok(())
         }
     }
 }
 
 #[tactic(auto, unfolding(crate::specs::Spelling::method_uses))]
-fn walk_method<'a, V: Visitor<'a>>(visitor: &mut V, method: &'a MethodModel) -> Result<(), V::Stop>
-    ensures { OnOk result (Told V.sees visitor.old (method_uses method.now) visitor.new) }
+fn walk_method<'a, V: Visitor<'a>>(
+    visitor: &mut V,
+    class: &'a Items<u16>,
+    method: &'a MethodModel,
+) -> Result<(), V::Stop>
+    ensures { OnOk result (Told V.sees visitor.old (method_uses class.now method.now) visitor.new) }
 {
     visitor.visit(Constant::Text(method.name.slice()))?;
     visitor.visit(Constant::Text(method.descriptor.slice()))?;
-    walk_code_or_none(visitor, &method.code)?;
+    walk_code_or_none(visitor, start_of(class, method), &method.code)?;
     Ok(())
 }
 
 #[tactic(auto, using(crate::proofs::Tellings::told_more))]
 fn walk_methods<'a, V: Visitor<'a>>(
     visitor: &mut V,
+    class: &'a Items<u16>,
     methods: &'a [MethodModel],
 ) -> Result<(), V::Stop>
-    ensures { OnOk result (Told V.sees visitor.old (flat_map method_uses methods.now) visitor.new) }
+    ensures { OnOk result (Told V.sees visitor.old (flat_map (method_uses class.now) methods.now) visitor.new) }
 {
     for method in methods {
-        walk_method(visitor, method)?;
+        walk_method(visitor, class, method)?;
     }
     Ok(())
 }
@@ -374,7 +411,7 @@ fn walk_members<'a, V: Visitor<'a>>(visitor: &mut V, class: &'a ClassModel) -> R
     walk_class_or_none(visitor, &class.superclass)?;
     walk_interfaces(visitor, class.interfaces.slice())?;
     walk_fields(visitor, class.fields.slice())?;
-    walk_methods(visitor, class.methods.slice())?;
+    walk_methods(visitor, &class.name, class.methods.slice())?;
     walk_inners(visitor, class.inner.slice())?;
     Ok(())
 }

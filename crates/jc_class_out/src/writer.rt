@@ -1,7 +1,6 @@
-ghost use Rattle.std.specs.Prelude.{◌≡◌, ◌<◌, ◌++◌, true, IfOk, OnOk};
+ghost use Rattle.std.specs.Prelude.{◌≡◌, ◌<◌, ◌++◌, IfOk, OnOk};
 ghost use Rattle.std.specs.List.{All};
-ghost use Rattle.jc_class_out.specs.Fitting.{fits_of};
-ghost use Rattle.jc_class_out.specs.Format.{IsClassFile};
+ghost use Rattle.jc_class_out.specs.Format.{IsClassFile, HasClassFile};
 ghost use Rattle.jc_class_out.specs.Spelling.{known, knowns, add, adds, uses, pool_for, file_of};
 
 use crate::pool::{Pool, intern, put_head};
@@ -49,9 +48,10 @@ fn put_file(alloc: Global, out: &mut Vec<u8>, class: &ClassModel) -> Result<(), 
     Ok(())
 }
 
-/// The bytes of the class file, with each constant once in the pool and all frames full.
+/// The bytes of a class that has a class file, as `fits` tests: each constant stands once in the pool, and each frame has its
+/// shortest form.
 pub fn class_bytes(alloc: Global, class: &ClassModel) -> Result<Items<u8>, WantOfMemory>
-    requires { fits_of class.now ≡ true }
+    requires { HasClassFile class.now }
     ensures { IfOk result (λ bytes. IsClassFile bytes class.now) }
 {
     let mut out = Vec::new(alloc);

@@ -1,12 +1,14 @@
 ghost use Rattle.std.specs.Prelude.{◌≡◌, ◌++◌, ◌∷◌, [], ◌%◌, ◌^◌, ◌+◌, OnOk, length, replicate, None};
 ghost use Rattle.std.specs.List.{flat_map};
 ghost use Rattle.std.specs.Int.{w16, w32, w64, to_be_bytes, cast_unsigned};
-ghost use Rattle.jc_class_out.specs.Spelling.{knowns, known, number, index, wide_distance, distance, spell_case, spell_switch, interface_tail, spell_number, spell_load, spell_member, spell_operand, spell_wide, spell_ins, spell_code, spell_body, spell_handler, spell_class_or_none, spell_name_or_none, spell_item, counted, spell_frame, spell_frames, spell_attribute, spell_table, spell_code_attributes, spell_code_model, spell_code_or_none, spell_method, spell_field, spell_inner, spell_inners, spell_interface, spell_members, delta_of};
+ghost use Rattle.jc_class_out.specs.Spelling.{knowns, known, number, index, wide_distance, distance, spell_case, spell_switch, interface_tail, spell_number, spell_load, spell_member, spell_operand, spell_wide, spell_ins, spell_code, spell_body, spell_handler, spell_class_or_none, spell_name_or_none, spell_item, counted, spell_near, spell_form, spell_frame, spell_frames, spell_attribute, spell_table, spell_code_attributes, spell_code_model, spell_code_or_none, spell_method, spell_field, spell_inner, spell_inners, spell_interface, spell_members};
 ghost use Rattle.jc_class_out.specs.Spelling.{loaded_known, member_known};
 ghost use Rattle.jc_class_out.specs.Pool.{KnownText, KnownClass};
 ghost use Rattle.jc_class_out.specs.Instructions.{padding};
+ghost use Rattle.jc_class_out.specs.Forms.{start_locals, place_before, locals_before};
 
 use crate::descriptors::units_of_parameters;
+use crate::forms::{Before, Form, Start, delta, locals_in, place, shortest, start_of};
 use crate::kinds::kind;
 use crate::pool::{CODE, INNER_CLASSES, Pool, STACK_MAP_TABLE, number};
 use crate::{
@@ -452,13 +454,89 @@ fn put_items<'a>(out: &mut Vec<u8>, pool: &Pool<'a>, items: &'a [Item]) -> Resul
     Ok(())
 }
 
-/// How far a frame is from the one before it.
-fn delta(before: Option<u32>, at: u32) -> u32
-    ensures { result ≡ delta_of before at }
+fn put_each_item<'a>(
+    out: &mut Vec<u8>,
+    pool: &Pool<'a>,
+    items: &'a [Item],
+) -> Result<(), WantOfMemory>
+    ensures { OnOk result (out.new.items ≡ out.old.items ++ flat_map (spell_item (knowns pool.now.keys)) items.now) }
 {
-    match before {
-        None => at,
-        Some(before) => at.saturating_sub(before).saturating_sub(1),
+    for item in items {
+        put_item(out, pool, item)?;
+    }
+    Ok(())
+}
+
+/// A delta in the tag, where it is below 64, and else behind another tag.
+#[tactic(auto, unfolding(crate::specs::Spelling::spell_near))]
+fn put_near(out: &mut Vec<u8>, tag: u8, wide: u8, delta: u32) -> Result<(), WantOfMemory>
+    ensures { OnOk result (out.new.items ≡ out.old.items ++ spell_near tag wide delta) }
+{
+    if delta < 64 {
+        put_u8(out, low_byte(u32::from(tag) + delta))?;
+    } else {
+        put_u8(out, wide)?;
+        put_u16(out, low_u16(delta))?;
+    }
+    Ok(())
+}
+
+#[tactic(auto, unfolding(crate::specs::Spelling::spell_form))]
+fn put_full<'a>(
+    out: &mut Vec<u8>,
+    pool: &Pool<'a>,
+    delta: u32,
+    frame: &'a Frame,
+) -> Result<(), WantOfMemory>
+    ensures { OnOk result (out.new.items ≡ out.old.items ++ spell_form (knowns pool.now.keys) delta frame.now Form.Full) }
+{
+    put_u8(out, 255)?;
+    put_u16(out, low_u16(delta))?;
+    put_items(out, pool, frame.locals.slice())?;
+    put_items(out, pool, frame.stack.slice())?;
+    Ok(())
+}
+
+#[tactic(auto, unfolding(crate::specs::Spelling::spell_form))]
+fn put_append<'a>(
+    out: &mut Vec<u8>,
+    pool: &Pool<'a>,
+    delta: u32,
+    frame: &'a Frame,
+    more: u8,
+) -> Result<(), WantOfMemory>
+    ensures { OnOk result (out.new.items ≡ out.old.items ++ spell_form (knowns pool.now.keys) delta frame.now (Form.Append more)) }
+{
+    put_u8(out, low_byte(251 + u32::from(more)))?;
+    put_u16(out, low_u16(delta))?;
+    put_each_item(out, pool, locals_in(frame, Form::Append(more)))?;
+    Ok(())
+}
+
+#[tactic(auto, unfolding(crate::specs::Spelling::spell_form))]
+fn put_form<'a>(
+    out: &mut Vec<u8>,
+    pool: &Pool<'a>,
+    delta: u32,
+    frame: &'a Frame,
+    form: Form,
+) -> Result<(), WantOfMemory>
+    ensures { OnOk result (out.new.items ≡ out.old.items ++ spell_form (knowns pool.now.keys) delta frame.now form) }
+{
+    match form {
+        Form::Same => put_near(out, 0, 251, delta),
+        Form::SameItem => {
+            put_near(out, 64, 247, delta)?;
+            put_each_item(out, pool, frame.stack.slice())?;
+            Ok(())
+        }
+        Form::Chop(less) => {
+            put_u8(out, 251u8.saturating_sub(less))?;
+            put_u16(out, low_u16(delta))?;
+            Ok(())
+        }
+        Form::Append(more) => put_append(out, pool, delta, frame, more),
+        Form::Full => put_full(out, pool, delta, frame),
     }
 }
 
@@ -466,15 +544,13 @@ fn delta(before: Option<u32>, at: u32) -> u32
 fn put_frame<'a>(
     out: &mut Vec<u8>,
     pool: &Pool<'a>,
-    before: Option<u32>,
+    before: Before<'a>,
     frame: &'a Frame,
 ) -> Result<(), WantOfMemory>
-    ensures { OnOk result (out.new.items ≡ out.old.items ++ spell_frame (knowns pool.now.keys) before frame.now) }
+    ensures { OnOk result (out.new.items ≡ out.old.items ++ spell_frame (knowns pool.now.keys) (place_before before.entry) (locals_before before.entry) frame.now) }
 {
-    put_u8(out, 255)?;
-    put_u16(out, low_u16(delta(before, frame.at)))?;
-    put_items(out, pool, frame.locals.slice())?;
-    put_items(out, pool, frame.stack.slice())?;
+    let by = delta(place(before), frame.at);
+    put_form(out, pool, by, frame, shortest(before, frame))?;
     Ok(())
 }
 
@@ -482,14 +558,15 @@ fn put_frame<'a>(
 fn put_frames<'a>(
     out: &mut Vec<u8>,
     pool: &Pool<'a>,
+    start: Start<'a>,
     frames: &'a [Frame],
 ) -> Result<(), WantOfMemory>
-    ensures { OnOk result (out.new.items ≡ out.old.items ++ spell_frames (knowns pool.now.keys) None frames.now) }
+    ensures { OnOk result (out.new.items ≡ out.old.items ++ spell_frames (knowns pool.now.keys) None (start_locals start.entry) frames.now) }
 {
-    let mut before = None;
+    let mut before = Before::Entry(start);
     for frame in frames {
         put_frame(out, pool, before, frame)?;
-        before = Some(frame.at);
+        before = Before::Behind(frame);
     }
     Ok(())
 }
@@ -498,12 +575,13 @@ fn put_frames<'a>(
 fn put_table<'a>(
     out: &mut Vec<u8>,
     pool: &Pool<'a>,
+    start: Start<'a>,
     frames: &'a [Frame],
 ) -> Result<(), WantOfMemory>
-    ensures { OnOk result (out.new.items ≡ out.old.items ++ spell_table (knowns pool.now.keys) frames.now) }
+    ensures { OnOk result (out.new.items ≡ out.old.items ++ spell_table (knowns pool.now.keys) (start_locals start.entry) frames.now) }
 {
     put_count(out, frames.len())?;
-    put_frames(out, pool, frames)?;
+    put_frames(out, pool, start, frames)?;
     Ok(())
 }
 
@@ -527,15 +605,16 @@ fn put_code_attributes<'a>(
     alloc: Global,
     out: &mut Vec<u8>,
     pool: &Pool<'a>,
+    start: Start<'a>,
     frames: &'a [Frame],
 ) -> Result<(), WantOfMemory>
-    ensures { OnOk result (out.new.items ≡ out.old.items ++ spell_code_attributes (knowns pool.now.keys) frames.now) }
+    ensures { OnOk result (out.new.items ≡ out.old.items ++ spell_code_attributes (knowns pool.now.keys) (start_locals start.entry) frames.now) }
 {
     match frames {
         [] => put_u16(out, 0),
         [_, ..] => {
             let mut content = Vec::new(alloc);
-            put_table(&mut content, pool, frames)?;
+            put_table(&mut content, pool, start, frames)?;
             put_u16(out, 1)?;
             put_attribute(out, pool, &STACK_MAP_TABLE, &content)?;
             Ok(())
@@ -548,15 +627,16 @@ fn put_code_model<'a>(
     alloc: Global,
     out: &mut Vec<u8>,
     pool: &Pool<'a>,
+    start: Start<'a>,
     code: &'a CodeModel,
 ) -> Result<(), WantOfMemory>
-    ensures { OnOk result (out.new.items ≡ out.old.items ++ spell_code_model (knowns pool.now.keys) code.now) }
+    ensures { OnOk result (out.new.items ≡ out.old.items ++ spell_code_model (knowns pool.now.keys) (start_locals start.entry) code.now) }
 {
     put_u16(out, code.stack)?;
     put_u16(out, code.locals)?;
     put_body(alloc, out, pool, code.ins.slice())?;
     put_handlers(out, pool, code.handlers.slice())?;
-    put_code_attributes(alloc, out, pool, code.frames.slice())?;
+    put_code_attributes(alloc, out, pool, start, code.frames.slice())?;
     Ok(())
 }
 
@@ -564,15 +644,16 @@ fn put_code_or_none<'a>(
     alloc: Global,
     out: &mut Vec<u8>,
     pool: &Pool<'a>,
+    start: Start<'a>,
     code: &'a Option<CodeModel>,
 ) -> Result<(), WantOfMemory>
-    ensures { OnOk result (out.new.items ≡ out.old.items ++ spell_code_or_none (knowns pool.now.keys) code.now) }
+    ensures { OnOk result (out.new.items ≡ out.old.items ++ spell_code_or_none (knowns pool.now.keys) (start_locals start.entry) code.now) }
 {
     match code {
         None => put_u16(out, 0),
         Some(code) => {
             let mut content = Vec::new(alloc);
-            put_code_model(alloc, &mut content, pool, code)?;
+            put_code_model(alloc, &mut content, pool, start, code)?;
             put_u16(out, 1)?;
             put_attribute(out, pool, &CODE, &content)?;
             Ok(())
@@ -585,14 +666,15 @@ fn put_method<'a>(
     alloc: Global,
     out: &mut Vec<u8>,
     pool: &Pool<'a>,
+    class: &'a Items<u16>,
     method: &'a MethodModel,
 ) -> Result<(), WantOfMemory>
-    ensures { OnOk result (out.new.items ≡ out.old.items ++ spell_method (knowns pool.now.keys) method.now) }
+    ensures { OnOk result (out.new.items ≡ out.old.items ++ spell_method (knowns pool.now.keys) class.now method.now) }
 {
     put_u16(out, method.flags)?;
     put_name(out, pool, &method.name)?;
     put_name(out, pool, &method.descriptor)?;
-    put_code_or_none(alloc, out, pool, &method.code)?;
+    put_code_or_none(alloc, out, pool, start_of(class, method), &method.code)?;
     Ok(())
 }
 
@@ -601,13 +683,14 @@ fn put_methods<'a>(
     alloc: Global,
     out: &mut Vec<u8>,
     pool: &Pool<'a>,
+    class: &'a Items<u16>,
     methods: &'a [MethodModel],
 ) -> Result<(), WantOfMemory>
-    ensures { OnOk result (out.new.items ≡ out.old.items ++ counted (spell_method (knowns pool.now.keys)) methods.now) }
+    ensures { OnOk result (out.new.items ≡ out.old.items ++ counted (spell_method (knowns pool.now.keys) class.now) methods.now) }
 {
     put_count(out, methods.len())?;
     for method in methods {
-        put_method(alloc, out, pool, method)?;
+        put_method(alloc, out, pool, class, method)?;
     }
     Ok(())
 }
@@ -734,7 +817,7 @@ pub fn put_members<'a>(
     put_class_or_none(out, pool, &class.superclass)?;
     put_interfaces(out, pool, class.interfaces.slice())?;
     put_fields(out, pool, class.fields.slice())?;
-    put_methods(alloc, out, pool, class.methods.slice())?;
+    put_methods(alloc, out, pool, &class.name, class.methods.slice())?;
     put_inners(alloc, out, pool, class.inner.slice())?;
     Ok(())
 }

@@ -26,7 +26,7 @@ use Rattle.jc_tree.specs.declared.types.BaseTree.{BaseTree}
 use Rattle.jc_tree.specs.declared.types.ClassTree.{ClassTree}
 use Rattle.jc_tree.specs.declared.types.TypeArg.{TypeArg}
 use Rattle.jc_tree.specs.declared.types.TypeTree.{TypeTree}
-use Rattle.jc_grammar.specs.Shapes.{CreationShape, OperandShape, Shape, all_stand, all_true, any_level, array_step, binary_level, chain_shape, changes, conditional_level, creation_shape, creation_shape_step, ends_bare, expr_shape, expr_shape_step, init_step, instanceof_level, is_array, is_brace, is_init, is_primitive, is_skip, is_skip_part, operand_shape, operand_shape_step, plain_level, plainly, post_level, prefix_level, prime_level, skip_part_step, skip_step, stands, unary_level}
+use Rattle.jc_grammar.specs.Shapes.{is_bare, is_less, takes_args, CreationShape, OperandShape, Shape, all_stand, all_true, any_level, array_step, binary_level, chain_shape, changes, conditional_level, creation_shape, creation_shape_step, ends_bare, expr_shape, expr_shape_step, init_step, instanceof_level, is_array, is_brace, is_init, is_primitive, is_skip, is_skip_part, operand_shape, operand_shape_step, plain_level, plainly, post_level, prefix_level, prime_level, skip_part_step, skip_step, stands, unary_level}
 
 pub is_skip_part-out : (node : SkipPart) → is_skip_part node ≡ skip_part_step (map-SkipPart SkipPart Skip Bool Bool is_skip_part is_skip (out-SkipPart node))
 unfolding is_skip_part is_skip
@@ -102,7 +102,7 @@ expr_shape-Call of_it type_args name actuals = expr_shape-at (anExpr.Call of_it 
 pub expr_shape-Index : (of_it : Expr) (index : Expr) → expr_shape (anExpr.Index of_it index) ≡ plainly prime_level (stands prime_level (expr_shape of_it) && not (expr_shape of_it).sized && stands any_level (expr_shape index)) false
 expr_shape-Index of_it index = expr_shape-at (anExpr.Index of_it index) _ (anExpr.outs-Index of_it index)
 
-pub expr_shape-InnerNew : (of_it : Expr) (creation : Creation) → expr_shape (anExpr.InnerNew of_it creation) ≡ plainly prime_level (stands prime_level (expr_shape of_it) && (creation_shape creation).good) (creation_shape creation).object
+pub expr_shape-InnerNew : (of_it : Expr) (creation : Creation) → expr_shape (anExpr.InnerNew of_it creation) ≡ record { level = prime_level; good = stands prime_level (expr_shape of_it) && (creation_shape creation).good; prefix = false; sized = (creation_shape creation).sized; effect = (creation_shape creation).object }
 expr_shape-InnerNew of_it creation = expr_shape-at (anExpr.InnerNew of_it creation) _ (anExpr.outs-InnerNew of_it creation)
 
 pub expr_shape-Literal : (at : ℕ) (value : Literal) → expr_shape (anExpr.Literal at value) ≡ plainly prime_level true false
@@ -129,7 +129,7 @@ expr_shape-Invoke name actuals = expr_shape-at (anExpr.Invoke name actuals) _ (a
 pub expr_shape-New : (at : ℕ) (creation : Creation) → expr_shape (anExpr.New at creation) ≡ record { level = prime_level; good = (creation_shape creation).good; prefix = false; sized = (creation_shape creation).sized; effect = (creation_shape creation).object }
 expr_shape-New at creation = expr_shape-at (anExpr.New at creation) _ (anExpr.outs-New at creation)
 
-pub expr_shape-ClassLiteral : (ty : TypeTree) → expr_shape (anExpr.ClassLiteral ty) ≡ plainly prime_level true false
+pub expr_shape-ClassLiteral : (ty : TypeTree) → expr_shape (anExpr.ClassLiteral ty) ≡ plainly prime_level (is_bare ty) false
 expr_shape-ClassLiteral ty = expr_shape-at (anExpr.ClassLiteral ty) _ (anExpr.outs-ClassLiteral ty)
 
 pub expr_shape-VoidLiteral : (at : ℕ) → expr_shape (anExpr.VoidLiteral at) ≡ plainly prime_level true false
@@ -158,10 +158,10 @@ operand_shape-out node = fold_out-Operand CreationShape Shape Bool OperandShape 
 operand_shape-at : (node : Operand) (l : Operand-F Creation Expr Init Operand ArrayInit) → out-Operand node ≡ l → operand_shape node ≡ operand_shape_step (map-Operand Creation Expr Init Operand ArrayInit CreationShape Shape Bool OperandShape Bool creation_shape expr_shape is_init operand_shape is_array l)
 operand_shape-at node l e = operand_shape-out node ∙ ap (λ (l : Operand-F Creation Expr Init Operand ArrayInit). operand_shape_step (map-Operand Creation Expr Init Operand ArrayInit CreationShape Shape Bool OperandShape Bool creation_shape expr_shape is_init operand_shape is_array l)) e
 
-pub operand_shape-Binary : (op : BinaryOp) (right : Expr) → operand_shape (anOperand.Binary op right) ≡ record { level = binary_level op; good = stands (binary_level op + 1) (expr_shape right) }
+pub operand_shape-Binary : (op : BinaryOp) (right : Expr) → operand_shape (anOperand.Binary op right) ≡ record { level = binary_level op; good = stands (binary_level op + 1) (expr_shape right); bare = false; less = is_less op }
 operand_shape-Binary op right = operand_shape-at (anOperand.Binary op right) _ (anOperand.outs-Binary op right)
 
-pub operand_shape-InstanceOf : (ty : TypeTree) → operand_shape (anOperand.InstanceOf ty) ≡ record { level = instanceof_level; good = true }
+pub operand_shape-InstanceOf : (ty : TypeTree) → operand_shape (anOperand.InstanceOf ty) ≡ record { level = instanceof_level; good = true; bare = takes_args ty; less = false }
 operand_shape-InstanceOf ty = operand_shape-at (anOperand.InstanceOf ty) _ (anOperand.outs-InstanceOf ty)
 
 pub is_array-out : (node : ArrayInit) → is_array node ≡ array_step (map-ArrayInit Creation Expr Init Operand ArrayInit CreationShape Shape Bool OperandShape Bool creation_shape expr_shape is_init operand_shape is_array (out-ArrayInit node))

@@ -1,4 +1,6 @@
+pub mod Before
 pub mod Expressions
+pub mod Firsts
 pub mod Laws
 pub mod Parts
 pub mod Shapes
@@ -7,3 +9,4 @@ pub mod Statements
 pub mod Told
 pub mod Types
 pub mod Units
+pub mod Worked

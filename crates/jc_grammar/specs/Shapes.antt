@@ -88,9 +88,13 @@ stands level shape = shape.good && nat_le level shape.level
 abbrev pub all_stand : ℕ → List Shape → Bool
 all_stand level shapes = list_all (stands level) shapes
 
+-- an operand: the level of its operator, whether its parts stand where they may, whether it is a type behind `instanceof` that arguments
+-- could still follow, and whether its operator is `<`
 pub record OperandShape : Type 0 where
   pub level : ℕ
   pub good : Bool
+  pub bare : Bool
+  pub less : Bool
 
 pub record CreationShape : Type 0 where
   pub good : Bool
@@ -101,10 +105,15 @@ pub record CreationShape : Type 0 where
 abbrev pub of_level : ℕ → OperandShape → Bool
 of_level level operand = operand.good && (operand.level == level)
 
+-- behind `instanceof` stands the longest type, so a `<` that could begin its arguments is no operator
+abbrev pub longest_types : OperandShape → List OperandShape → Bool
+longest_types operand [] = true
+longest_types operand (next ∷ rest) = not (operand.bare && next.less) && longest_types next rest
+
 abbrev pub chain_shape : Shape → List OperandShape → Shape
 chain_shape first [] = plainly any_level false false
 chain_shape first (operand ∷ rest) =
-    plainly operand.level (stands (operand.level + 1) first && list_all (of_level operand.level) (operand ∷ rest)) false
+    plainly operand.level (stands (operand.level + 1) first && list_all (of_level operand.level) (operand ∷ rest) && longest_types operand rest) false
 
 -- `+ - ++ --` make a Unary, `! ~` a Plain
 abbrev pub prefix_level : PrefixSign → ℕ
@@ -136,6 +145,29 @@ last_of first (part ∷ more) = last_of part more
 -- the last part of a class type has no arguments
 abbrev pub ends_bare : ClassTree → Bool
 ends_bare class = is_none (out-TypePart (last_of (out-ClassTree class).first (out-ClassTree class).more)).args
+
+abbrev pub base_takes_args : BaseTree-F BaseTree TypeArg ClassTree TypePart TypeTree → Bool
+base_takes_args (BaseTree-F.Primitive at word) = false
+base_takes_args (BaseTree-F.Class class) = ends_bare class
+
+-- arguments could follow a type
+abbrev pub takes_args : TypeTree → Bool
+takes_args ty = base_takes_args (out-BaseTree (out-TypeTree ty).base) && ((out-TypeTree ty).dims == 0)
+
+abbrev pub part_is_bare : TypePart → Bool
+part_is_bare part = is_none (out-TypePart part).args
+
+abbrev pub base_is_bare : BaseTree-F BaseTree TypeArg ClassTree TypePart TypeTree → Bool
+base_is_bare (BaseTree-F.Primitive at word) = true
+base_is_bare (BaseTree-F.Class class) = part_is_bare (out-ClassTree class).first && list_all part_is_bare (out-ClassTree class).more
+
+-- a type without arguments
+abbrev pub is_bare : TypeTree → Bool
+is_bare ty = base_is_bare (out-BaseTree (out-TypeTree ty).base)
+
+abbrev pub is_less : BinaryOp → Bool
+is_less binary_of.Less = true
+is_less _ = false
 
 abbrev pub is_brace_sign : Sign → Bool
 is_brace_sign sign_of.LeftBrace = true
@@ -172,8 +204,8 @@ creation_shape_step (Creation-F.Sized element first more dims) =
 creation_shape_step (Creation-F.Initialised element dims init) = record { good = init; sized = false; object = false }
 
 abbrev pub operand_shape_step : Operand-F CreationShape Shape Bool OperandShape Bool → OperandShape
-operand_shape_step (Operand-F.Binary op right) = record { level = binary_level op; good = stands (binary_level op + 1) right }
-operand_shape_step (Operand-F.InstanceOf ty) = record { level = instanceof_level; good = true }
+operand_shape_step (Operand-F.Binary op right) = record { level = binary_level op; good = stands (binary_level op + 1) right; bare = false; less = is_less op }
+operand_shape_step (Operand-F.InstanceOf ty) = record { level = instanceof_level; good = true; bare = takes_args ty; less = false }
 
 abbrev pub init_step : Init-F CreationShape Shape Bool OperandShape Bool → Bool
 init_step (Init-F.Value expr) = stands any_level expr
@@ -195,7 +227,8 @@ expr_shape_step (Expr-F.Postfix of_it op) = plainly post_level (stands post_leve
 expr_shape_step (Expr-F.Field of_it name) = plainly prime_level (stands prime_level of_it) false
 expr_shape_step (Expr-F.Call of_it type_args name actuals) = plainly prime_level (stands prime_level of_it && all_stand any_level actuals) true
 expr_shape_step (Expr-F.Index of_it index) = plainly prime_level (stands prime_level of_it && not of_it.sized && stands any_level index) false
-expr_shape_step (Expr-F.InnerNew of_it creation) = plainly prime_level (stands prime_level of_it && creation.good) creation.object
+expr_shape_step (Expr-F.InnerNew of_it creation) =
+    record { level = prime_level; good = stands prime_level of_it && creation.good; prefix = false; sized = creation.sized; effect = creation.object }
 expr_shape_step (Expr-F.Literal at value) = plainly prime_level true false
 expr_shape_step (Expr-F.This at) = plainly prime_level true false
 expr_shape_step (Expr-F.SuperField at name) = plainly prime_level true false
@@ -205,7 +238,7 @@ expr_shape_step (Expr-F.Name name) = plainly prime_level true false
 expr_shape_step (Expr-F.Invoke name actuals) = plainly prime_level (all_stand any_level actuals) true
 expr_shape_step (Expr-F.New at creation) =
     record { level = prime_level; good = creation.good; prefix = false; sized = creation.sized; effect = creation.object }
-expr_shape_step (Expr-F.ClassLiteral ty) = plainly prime_level true false
+expr_shape_step (Expr-F.ClassLiteral ty) = plainly prime_level (is_bare ty) false
 expr_shape_step (Expr-F.VoidLiteral at) = plainly prime_level true false
 expr_shape_step (Expr-F.OuterThis first more) = plainly prime_level true false
 

@@ -5,6 +5,9 @@
 ghost use Rattle.std.specs.Prelude.{◌≡◌};
 ghost use Rattle.jc_grammar.specs.Shapes.{binary_level};
 ghost use Rattle.jc_grammar.specs.Types.{primitive_key};
+ghost use Rattle.jc_grammar.specs.Worked.{WorkedTrees};
+ghost use Rattle.jc_grammar.specs.Before.{TokensComeFirst};
+ghost use Rattle.jc_grammar.specs.Firsts.{FirstsAreTold};
 ghost use Rattle.jc_grammar.specs.Laws.{TypesAreTold, ExpressionsAreTold, StatementsAreTold};
 ghost use Rattle.jc_grammar.specs.Spelling.{SpellsType, BeginsType, NoTypeBegins, SpellsExpr, BeginsExpr, NoExprBegins, SpellsFile, BeginsFile, NoFileBegins};
 
@@ -58,4 +61,19 @@ pub fn expressions_are_told()
 /// keywords between them.
 pub fn statements_are_told()
     ensures { StatementsAreTold }
+{}
+
+/// A law: the trees of small sources have the tokens, the heights and the places that they are to have.
+pub fn trees_are_worked()
+    ensures { WorkedTrees }
+{}
+
+/// A law: the first token of a tree stands at the offset that `jc_tree` answers for it.
+pub fn firsts_are_told()
+    ensures { FirstsAreTold }
+{}
+
+/// A law: the tokens of a tree come before those that follow, whatever these are.
+pub fn tokens_come_first()
+    ensures { TokensComeFirst }
 {}

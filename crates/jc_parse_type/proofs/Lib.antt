@@ -1,1 +1,3 @@
+pub mod CodeSteps
 pub mod TypeForms
+pub mod TypePlaces

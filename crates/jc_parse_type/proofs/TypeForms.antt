@@ -1,6 +1,6 @@
 -- The forms of types, and that they are read as they are to be.
-use Rattle.std.proofs.Common.{◌≡◌, ℕ, zero, suc, max, Bool, true, false, cond, List, [], ◌∷◌, ◌++◌, map, length, Option, Some, None, refl, sym, ap, ◌∙◌, subst, ⊎_elim, ◌⊎◌, inl, inr, arith}
-use Rattle.std.proofs.lemmas.Bool.{false≢true, or_parts, or_left, or_right, or_cases, or_from, and_from, and_left, and_parts}
+use Rattle.std.proofs.Common.{◌≡◌, ℕ, zero, suc, Bool, true, false, List, [], ◌∷◌, map, length, Option, Some, None, refl, sym, ap, ◌∙◌, subst, ⊎_elim}
+use Rattle.std.proofs.lemmas.Bool.{false≢true, or_cases, or_from, and_left, and_parts}
 use Rattle.std.specs.Prelude.{◌&&◌, ◌||◌, ◌==◌, nat_le}
 use Rattle.jc_lexer.specs.declared.token.Key.{Key}
 use Rattle.jc_lexer.specs.declared.token.Key.TheVariants as key_of
@@ -14,29 +14,29 @@ use Rattle.jc_tree.specs.declared.types.BaseTree.TheVariants as base_of
 use Rattle.jc_tree.specs.declared.types.TypeArg.{TypeArg, TypeArg-F, out-TypeArg, roll-TypeArg, roll-out-TypeArg}
 use Rattle.jc_tree.specs.declared.types.TypeArg.TheVariants as arg_of
 use Rattle.jc_tree.specs.declared.types.ClassTree.{ClassTree, roll-ClassTree, out-ClassTree, roll-out-ClassTree}
-use Rattle.jc_tree.specs.declared.types.TypePart.{TypePart, roll-TypePart, out-TypePart, roll-out-TypePart}
-use Rattle.jc_tree.specs.declared.types.TypeTree.{TypeTree, roll-TypeTree, out-TypeTree, roll-out-TypeTree}
+use Rattle.jc_tree.specs.declared.types.TypePart.{TypePart, out-TypePart, roll-out-TypePart}
+use Rattle.jc_tree.specs.declared.types.TypeTree.{TypeTree, out-TypeTree, roll-out-TypeTree}
 use Rattle.jc_tree.specs.declared.types.PrimitiveWord.{PrimitiveWord}
 use Rattle.jc_tree.specs.declared.types.PrimitiveWord.TheVariants as word_of
 use Rattle.jc_tree.specs.Heights.{most, base_height, arg_height, class_height, part_height, type_height}
 use Rattle.jc_tree.proofs.HeightsOfTypes.{type_height-parts, base_height-Primitive, base_height-Class, arg_height-Exact, arg_height-Any, arg_height-Extends, arg_height-Super, class_height-made, part_height-made, type_height-made}
-use Rattle.jc_grammar.specs.Told.{Told, sign, sign_at, key, key_at, ident, after_dots, after_commas, commas, brackets}
+use Rattle.jc_grammar.specs.Told.{Told, sign, key_at, after_dots, brackets}
 use Rattle.jc_grammar.specs.Types.{primitive_key, base_tokens, arg_tokens, class_tokens, part_tokens, type_tokens, angled}
 use Rattle.jc_grammar.proofs.TokensOfTypes.{base_tokens-Primitive, base_tokens-Class, arg_tokens-Exact, arg_tokens-Any, arg_tokens-Extends, arg_tokens-Super, class_tokens-made, part_tokens-made, type_tokens-made}
 use Rattle.jc_reading.specs.Kinds.{kind_code, sign_code, key_code, word_code, is_in, front_code, one_of}
-use Rattle.jc_reading.specs.Reading.{Read, Found, Stopped, Run, Either, This, That, rest_of, behind_it, first_and_more, commas_run, each_behind}
-use Rattle.jc_reading.proofs.Forms.{Form, Lawful, Stands}
-use Rattle.jc_reading.proofs.Pairs.{pair, Meet, pair_laws}
+use Rattle.jc_reading.specs.Reading.{Either, This, That, rest_of, behind_it}
+use Rattle.jc_reading.proofs.Forms.{Form, Lawful}
+use Rattle.jc_reading.proofs.Pairs.{pair, pair_laws}
 use Rattle.jc_reading.proofs.Options.{option, option_laws}
-use Rattle.jc_reading.proofs.Lists.{many, Follows, many_laws, tell_all, fits_all}
-use Rattle.jc_reading.proofs.Choices.{choice, Decides, choice_laws}
-use Rattle.jc_reading.proofs.Alikes.{alike, Alike, alike_laws}
-use Rattle.jc_reading.proofs.Kindly.{token, Picks, token_laws}
-use Rattle.jc_reading.proofs.Ledby.{or_false, false_or, led, led_starts, led_laws, led_many, led_many_laws, commas_form, comma_starts, commas_laws, commas_solid, fits_some_of, unled, unled_back, unled_fits, behind_fits}
+use Rattle.jc_reading.proofs.Lists.{many, many_laws, tell_all, fits_all}
+use Rattle.jc_reading.proofs.Choices.{choice, choice_laws}
+use Rattle.jc_reading.proofs.Alikes.{alike_laws}
+use Rattle.jc_reading.proofs.Kindly.{token, token_laws}
+use Rattle.jc_reading.proofs.Ledby.{or_false, led, led_starts, led_laws, led_many, led_many_laws, commas_form, comma_starts, commas_laws, unled, unled_back, behind_fits}
 use Rattle.jc_reading.proofs.Codes.{some_is, none_is}
-use Rattle.jc_reading.proofs.Signs.{a_sign, a_sign_at, a_key, a_key_at, an_ident, sign_laws, sign_at_laws, key_laws, key_at_laws, ident_laws, none_common, apart_sets, all_in, within_sets, in_more}
+use Rattle.jc_reading.proofs.Signs.{a_sign, a_sign_at, a_key, an_ident, sign_laws, sign_at_laws, key_laws, ident_laws, apart_sets, within_sets, in_more}
 use Rattle.jc_reading.proofs.Rooms.{room_none, room_above, room_suc, room_max, room_all}
-use Rattle.jc_parse_type.specs.TypeReading.{dims_run, word_of_key, word_of_kind, at_its_place, picks_word, primitive_codes, word_run, Bound, wildcard, arg_made, arg_run, or_none, args_run, part_made, part_run, class_made, class_run_of, base_made, base_run_of, type_made, type_run_of, class_over, type_run, class_run, base_run}
+use Rattle.jc_parse_type.specs.TypeReading.{dims_run, word_of_key, word_of_kind, at_its_place, picks_word, primitive_codes, Bound, arg_made, arg_run, or_none, args_run, part_made, part_run, class_made, class_run_of, base_made, base_run_of, type_made, type_run_of, type_run, class_run, base_run}
 
 -- a test of nothing
 nothing : List Token → Bool
@@ -44,10 +44,10 @@ nothing ts = false
 
 -- {"[" "]"}
 
-abbrev Bracket : Form (Unit {0} × Unit {0})
+abbrev pub Bracket : Form (Unit {0} × Unit {0})
 Bracket = pair (Unit {0}) (Unit {0}) (a_sign sign_of.LeftBracket) (a_sign sign_of.RightBracket)
 
-bracket_laws : Lawful (Unit {0} × Unit {0}) Bracket
+pub bracket_laws : Lawful (Unit {0} × Unit {0}) Bracket
 bracket_laws = pair_laws (Unit {0}) (Unit {0}) (a_sign sign_of.LeftBracket) (a_sign sign_of.RightBracket) (sign_laws sign_of.LeftBracket) (sign_laws sign_of.RightBracket) (λ ts e. refl)
 
 abbrev pub bracket_codes : List ℕ
@@ -140,7 +140,9 @@ word_laws = token_laws (ℕ × PrimitiveWord) primitive_codes picks_word (λ p. 
       picks = λ t p i. ap (λ k. at_its_place t.from (word_of_kind k)) i.0 ∙ ap (at_its_place t.from) (to_key p.1) ∙ ap (λ n. Some (n, p.1)) i.1;
       coded = λ t p e. let w = from_place t.from (word_of_kind t.kind) p e in subst (λ k. is_in primitive_codes (kind_code k) ≡ true) (sym (from_kind t.kind p.1 w.1)) (word_coded p.1);
       apart = λ p. refl;
-      sample = record { kind = kind_of.Key key_of.Int; from = 0; to = 0; touches = false }; value = (0, word_of.Int); sampled = refl;
+      sample = record { kind = kind_of.Key key_of.Int; from = 0; to = 0; touches = false };
+      value = (0, word_of.Int);
+      sampled = refl;
     })
 
 -- where types are read: what begins one, and what may go on in one
@@ -222,7 +224,8 @@ module _ (h : ℕ) (lt : Lawful TypeTree (type_form (suc h))) where
       (pair_laws (Unit {0}) TypeTree (a_key key_of.Extends) Types (key_laws key_of.Extends) lt (λ ts e. refl))
       (pair_laws (Unit {0}) TypeTree (a_key key_of.Super) Types (key_laws key_of.Super) lt (λ ts e. refl))
       (record {
-        solid = refl; solid' = refl;
+        solid = refl;
+        solid' = refl;
         this = λ ts e. or_false (one_of (key_code key_of.Extends ∷ []) ts) e;
         that = λ ts e. apart_sets (key_code key_of.Super ∷ []) (key_code key_of.Extends ∷ []) refl (front_code ts) (or_false (one_of (key_code key_of.Super ∷ []) ts) e);
       })
@@ -238,7 +241,8 @@ module _ (h : ℕ) (lt : Lawful TypeTree (type_form (suc h))) where
       (pair_laws ℕ Bound (a_sign_at sign_of.Question) (option (Either (Unit {0} × TypeTree) (Unit {0} × TypeTree)) Limit) (sign_at_laws sign_of.Question) (option_laws (Either (Unit {0} × TypeTree) (Unit {0} × TypeTree)) Limit limit_laws refl) (λ ts e. refl))
       lt
       (record {
-        solid = refl; solid' = refl;
+        solid = refl;
+        solid' = refl;
         this = λ ts e. or_false (one_of (sign_code sign_of.Question ∷ []) ts) e;
         that = λ ts e. apart_sets type_codes (sign_code sign_of.Question ∷ []) refl (front_code ts) e;
       })
@@ -299,10 +303,10 @@ module _ (h : ℕ) (la : Lawful TypeArg (arg_form h)) where
       let c = (and_parts (one_of (sign_code sign_of.Comma ∷ []) ts) (one_of arg_codes (rest_of ts)) e).0 in
       stops_at ts (apart_sets (sign_code sign_of.Comma ∷ []) bracket_codes refl (front_code ts) c) (apart_sets (sign_code sign_of.Comma ∷ []) (sign_code sign_of.Less ∷ []) refl (front_code ts) c) (apart_sets (sign_code sign_of.Comma ∷ []) (sign_code sign_of.Dot ∷ []) refl (front_code ts) c) (apart_sets (sign_code sign_of.Comma ∷ []) limit_codes refl (front_code ts) c)
 
-  abbrev Row : Form (List TypeArg)
+  abbrev pub Row : Form (List TypeArg)
   Row = commas_form TypeArg Args
 
-  row_laws : Lawful (List TypeArg) Row
+  pub row_laws : Lawful (List TypeArg) Row
   row_laws = commas_laws TypeArg Args la refl next_arg
 
   abbrev Inner : Form (List TypeArg × Unit {0})
@@ -356,7 +360,9 @@ module _ (h : ℕ) (la : Lawful TypeArg (arg_form h)) where
   args_laws = alike_laws (Option (Unit {0} × (List TypeArg × Unit {0}))) (List TypeArg) (option (Unit {0} × (List TypeArg × Unit {0})) Angled) or_none (λ args r. angled (map arg_tokens args) r) fit_args less_starts less_starts
       (option_laws (Unit {0} × (List TypeArg × Unit {0})) Angled angled_laws refl)
       (record {
-        told = told_args; forth = forth_args; back = back_args;
+        told = told_args;
+        forth = forth_args;
+        back = back_args;
         starts_too = λ ts e. less_or (one_of (sign_code sign_of.Less ∷ []) ts) (one_of arg_codes (rest_of ts)) e;
         goes_too = λ ts e. less_or (one_of (sign_code sign_of.Less ∷ []) ts) (one_of arg_codes (rest_of ts)) (or_false _ e);
       })
@@ -377,7 +383,7 @@ module _ (h : ℕ) (la : Lawful TypeArg (arg_form h)) where
         told = λ p r g. part_tokens-made p.0 p.1 r;
         forth = λ p g. room_part p ∙ g;
         back = λ part g. let p : Ident × List TypeArg = ((out-TypePart part).name, (out-TypePart part).args) in
-          let e : part_made p ≡ part = roll-out-TypePart part in (p, e, sym (room_part p) ∙ ap (λ q. nat_le (part_height q) h) e ∙ g);
+            let e : part_made p ≡ part = roll-out-TypePart part in (p, e, sym (room_part p) ∙ ap (λ q. nat_le (part_height q) h) e ∙ g);
         starts_too = λ ts e. or_false (one_of (word_code ∷ []) ts) e;
         goes_too = λ ts e. or_false (less_starts ts) e;
       })
@@ -417,8 +423,8 @@ module _ (h : ℕ) (la : Lawful TypeArg (arg_form h)) where
         told = λ p r g. class_tokens-made p.0 (map behind_it p.1) r ∙ ap (part_tokens p.0) (told_class p.1 r);
         forth = λ p g. room_class p ∙ g;
         back = λ class g. let p : TypePart × List (Unit {0} × TypePart) = ((out-ClassTree class).first, unled (out-ClassTree class).more) in
-          let e : class_made p ≡ class = ap (λ (more : List TypePart). roll-ClassTree (record { first = (out-ClassTree class).first; more = more })) (unled_back (out-ClassTree class).more) ∙ roll-out-ClassTree class in
-          (p, e, sym (room_class p) ∙ ap (λ q. nat_le (class_height q) h) e ∙ g);
+            let e : class_made p ≡ class = ap (λ (more : List TypePart). roll-ClassTree (record { first = (out-ClassTree class).first; more = more })) (unled_back (out-ClassTree class).more) ∙ roll-out-ClassTree class in
+            (p, e, sym (room_class p) ∙ ap (λ q. nat_le (class_height q) h) e ∙ g);
         starts_too = λ ts e. or_false (one_of (word_code ∷ []) ts) e;
         goes_too = λ ts e. goes_class (less_starts ts) (led_starts TypePart sign_of.Dot part_form ts) e;
       })
@@ -475,7 +481,7 @@ module _ (h : ℕ) (la : Lawful TypeArg (arg_form h)) where
         told = λ p r g. type_tokens-made p.0 p.1 r;
         forth = λ p g. room_type p ∙ g;
         back = λ ty g. let p : BaseTree × ℕ = ((out-TypeTree ty).base, (out-TypeTree ty).dims) in
-          let e : type_made p ≡ ty = roll-out-TypeTree ty in (p, e, sym (room_type p) ∙ ap (λ q. nat_le (type_height q) (suc h)) e ∙ g);
+            let e : type_made p ≡ ty = roll-out-TypeTree ty in (p, e, sym (room_type p) ∙ ap (λ q. nat_le (type_height q) (suc h)) e ∙ g);
         starts_too = λ ts e. or_false (one_of type_codes ts) e;
         goes_too = λ ts e. goes_type (one_of bracket_codes ts) (goes_on_class ts) e;
       })

@@ -1,5 +1,5 @@
 -- How types are read (JLS 4).
-use Rattle.std.specs.Prelude.{◌≡◌, ℕ, zero, suc, cond, ◌==◌, List, [], ◌∷◌, map, length, Option, Some, None}
+use Rattle.std.specs.Prelude.{ℕ, zero, suc, List, [], ◌∷◌, map, length, Option, Some, None}
 use Rattle.jc_lexer.specs.declared.token.Key.{Key}
 use Rattle.jc_lexer.specs.declared.token.Key.TheVariants as key_of
 use Rattle.jc_lexer.specs.declared.token.Sign.TheVariants as sign_of
@@ -17,11 +17,14 @@ use Rattle.jc_tree.specs.declared.types.TypeTree.{TypeTree, roll-TypeTree}
 use Rattle.jc_tree.specs.declared.types.PrimitiveWord.{PrimitiveWord}
 use Rattle.jc_tree.specs.declared.types.PrimitiveWord.TheVariants as word_of
 use Rattle.jc_reading.specs.Kinds.{sign_code, key_code}
-use Rattle.jc_reading.specs.Reading.{Read, Found, Stopped, Run, found, as_new, in_turn, perhaps, any_number, Either, This, That, either, picking, behind_it, commas_run, of_kind, at_kind, an_ident_at}
+use Rattle.jc_reading.specs.Reading.{Stopped, Run, as_new, in_turn, perhaps, any_number, Either, This, That, either, picking, behind_it, commas_run, of_kind, at_kind, an_ident_at}
 
 -- {"[" "]"}
+abbrev pub bracket_run : Run (Unit {0} × Unit {0})
+bracket_run = in_turn (of_kind (sign_code sign_of.LeftBracket)) (of_kind (sign_code sign_of.RightBracket))
+
 unfoldable pub dims_run : Run ℕ
-dims_run = as_new length (any_number (in_turn (of_kind (sign_code sign_of.LeftBracket)) (of_kind (sign_code sign_of.RightBracket))))
+dims_run = as_new length (any_number bracket_run)
 
 abbrev pub word_of_key : Key → Option PrimitiveWord
 word_of_key key_of.Boolean = Some word_of.Boolean

@@ -1,11 +1,10 @@
 //! The parser of types (JLS 4).
 #![tactic(auto)]
 
-ghost use Rattle.std.specs.Prelude.{◌≡◌};
+mod parsing;
+mod reading;
+#[cfg(test)]
+mod tests;
 
-/// Nothing yet.
-pub fn one() -> u32
-    ensures { result ≡ 1 }
-{
-    1
-}
+pub use parsing::{TypeFound, type_at};
+pub use reading::{args_within, base_within, class_within, dims, primitive, type_within};

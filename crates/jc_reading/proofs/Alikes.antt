@@ -1,11 +1,11 @@
 -- A form whose values are made of those of another one.
-use Rattle.std.proofs.Common.{◌≡◌, ℕ, ◌<◌, ◌≤◌, Bool, true, false, List, [], ◌∷◌, ◌++◌, length, refl, sym, ap, ◌∙◌, subst, ⊎_elim, ◌⊎◌, inl, inr, arith}
+use Rattle.std.proofs.Common.{◌≡◌, Bool, true, false, List, [], ◌++◌, length, sym, ap, ◌∙◌, subst, ⊎_elim, inl, inr}
 use Rattle.std.proofs.lemmas.Bool.{false≢true, false_from_ne_true}
 use Rattle.jc_lexer.specs.declared.token.Token.{Token}
 use Rattle.jc_grammar.specs.Told.{Told}
-use Rattle.jc_reading.specs.Reading.{Read, Found, Stopped, Run, becoming, as_new, Takes}
-use Rattle.jc_reading.proofs.Steps.{Good, Within, Goes, IsFound, Refuses, reach, Moved, Moves, Plain, good_becoming, within_becoming, goes_becoming, found_becoming, reach_becoming, moves_becoming}
-use Rattle.jc_reading.proofs.Forms.{Form, Stands, Begins, Least, Opens, Lawful, begins_as}
+use Rattle.jc_reading.specs.Reading.{Read, Found, Stopped, becoming, as_new, Takes}
+use Rattle.jc_reading.proofs.Steps.{Goes, IsFound, Refuses, reach, Plain, good_becoming, within_becoming, goes_becoming, found_becoming, reach_becoming, moves_becoming}
+use Rattle.jc_reading.proofs.Forms.{Form, Stands, Begins, Opens, Lawful, begins_as}
 
 module _ (A B : Type 0) (fa : Form A) (make : A → B) (tell : B → List Told → List Told) (fits : B → Bool) (starts goes_on : List Token → Bool) where
   abbrev pub alike : Form B
@@ -62,7 +62,9 @@ module _ (A B : Type 0) (fa : Form A) (make : A → B) (tell : B → List Told �
     plain = λ b g. let w = h.back b g in subst (λ (l : List Told). Plain l) (sym (h.told w.0 [] w.2) ∙ ap (λ c. tell c []) w.1) (la.plain w.0 w.2);
     within = λ ts. within_becoming (length ts) make (fa.run ts) (la.within ts);
     sound = λ ts. good_becoming (Stands fa ts) (Stands Made ts) make (fa.run ts) (la.sound ts) (λ a r s. stands_made ts a r s);
-    longest = longest_made; exact = exact_made; opens = opens_made;
+    longest = longest_made;
+    exact = exact_made;
+    opens = opens_made;
     refuses = λ ts g. refuses_made ts (fa.run ts) (la.refuses ts (not_so (fa.starts ts) (starts ts) (h.starts_too ts) g));
     total = λ e ts. goes_becoming (length ts) make (fa.run ts) (la.total e ts);
     local = λ p x y. moves_becoming x y make (fa.run (p ++ x)) (fa.run (p ++ y)) (la.local p x y);

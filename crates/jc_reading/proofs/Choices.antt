@@ -1,13 +1,13 @@
 -- The one form or the other, by what stands at the front.
-use Rattle.std.proofs.Common.{◌≡◌, ℕ, zero, suc, ◌+◌, ◌<◌, ◌≤◌, min, Bool, true, false, cond, List, [], ◌∷◌, ◌++◌, length, refl, sym, ap, ◌∙◌, subst, ⊎_elim, ◌⊎◌, inl, inr, arith}
+use Rattle.std.proofs.Common.{◌≡◌, ℕ, Bool, true, false, cond, List, [], ◌∷◌, ◌++◌, length, refl, sym, ◌∙◌, subst, ⊎_elim, inl}
 use Rattle.std.proofs.lemmas.Bool.{false≢true, or_parts, or_left, or_right, cond_both}
 use Rattle.std.specs.Prelude.{◌||◌}
 use Rattle.jc_lexer.specs.declared.token.Token.{Token}
 use Rattle.jc_grammar.specs.Told.{Told}
-use Rattle.jc_reading.specs.Reading.{Read, Found, Stopped, Run, becoming, Either, This, That, either, Takes}
+use Rattle.jc_reading.specs.Reading.{Read, Found, Stopped, becoming, Either, This, That, either}
 use Rattle.jc_reading.specs.Kinds.{one_of}
-use Rattle.jc_reading.proofs.Steps.{Good, Within, Goes, IsFound, Refuses, reach, Moved, Moves, Plain, good_becoming, within_becoming, goes_becoming, found_becoming, reach_becoming, moves_becoming, moves_none}
-use Rattle.jc_reading.proofs.Forms.{Form, Stands, Begins, Least, Opens, Lawful, begins_as}
+use Rattle.jc_reading.proofs.Steps.{Good, Within, Goes, IsFound, Refuses, reach, Moves, Plain, good_becoming, within_becoming, goes_becoming, found_becoming, reach_becoming, moves_becoming, moves_none}
+use Rattle.jc_reading.proofs.Forms.{Form, Stands, Begins, Opens, Lawful, begins_as}
 
 abbrev pub tell_either : {A B : Type 0} → (A → List Told → List Told) → (B → List Told → List Told) → Either A B → List Told → List Told
 tell_either f g (This a) r = f a r
@@ -103,11 +103,18 @@ module _ (A B : Type 0) (codes : List ℕ) (fa : Form A) (fb : Form B) (la : Law
 
   pub choice_laws : Lawful (Either A B) Choice
   choice_laws = record {
-    appends = appends_choice; plain = plain_choice; within = within_choice;
+    appends = appends_choice;
+    plain = plain_choice;
+    within = within_choice;
     sound = λ ts. by_test (Good (Stands Choice ts)) ts
-    (λ e. good_becoming (Stands fa ts) (Stands Choice ts) This (fa.run ts) (la.sound ts) (λ a r s. s))
-    (λ e. good_becoming (Stands fb ts) (Stands Choice ts) That (fb.run ts) (lb.sound ts) (λ b r s. s));
-    longest = longest_choice; exact = exact_choice; opens = opens_choice; refuses = refuses_choice;
-    total = λ e ts. absurd (false≢true e); local = local_choice; begins = begins_choice;
+        (λ e. good_becoming (Stands fa ts) (Stands Choice ts) This (fa.run ts) (la.sound ts) (λ a r s. s))
+        (λ e. good_becoming (Stands fb ts) (Stands Choice ts) That (fb.run ts) (lb.sound ts) (λ b r s. s));
+    longest = longest_choice;
+    exact = exact_choice;
+    opens = opens_choice;
+    refuses = refuses_choice;
+    total = λ e ts. absurd (false≢true e);
+    local = local_choice;
+    begins = begins_choice;
     least = record { value = This la.least.value; tokens = la.least.tokens; spelled = la.least.spelled };
   }

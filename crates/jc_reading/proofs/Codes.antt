@@ -1,5 +1,5 @@
 -- A kind is told by its number.
-use Rattle.std.specs.Prelude.{◌≡◌, ℕ, suc, ◌==◌, cond, Bool, true, false, List, [], ◌∷◌, Option, Some, None}
+use Rattle.std.specs.Prelude.{◌≡◌, ℕ, suc, ◌==◌, cond, List, [], ◌∷◌, Option, Some, None}
 use Rattle.std.proofs.Common.{refl, sym, ap, ◌∙◌, subst}
 use Rattle.jc_lexer.specs.declared.token.Key.{Key}
 use Rattle.jc_lexer.specs.declared.token.Key.TheVariants as key_of

@@ -1,12 +1,10 @@
 -- A form of the grammar with how it is read, the laws of the two, and the forms that are made of others.
-use Rattle.std.proofs.Common.{◌≡◌, ℕ, zero, suc, ◌+◌, ◌<◌, ◌≤◌, min, Bool, true, false, cond, List, [], ◌∷◌, ◌++◌, map, length, length-append, append_assoc, Option, Some, None, refl, sym, ap, ◌∙◌, subst, ⊎_elim, ◌⊎◌, inl, inr, arith}
-use Rattle.std.proofs.lemmas.Bool.{false≢true, cases_lt, cases_Bool, and_parts, and_from, and_cases, or_cases, or_parts, or_left, or_right}
-use Rattle.std.specs.Prelude.{◌&&◌, ◌||◌}
-use Rattle.std.specs.List.{list_all}
+use Rattle.std.proofs.Common.{◌≡◌, ℕ, ◌<◌, ◌≤◌, min, Bool, true, false, List, [], ◌++◌, length, append_assoc, refl, sym, ap, ◌∙◌, subst, ⊎_elim, ◌⊎◌, arith}
+use Rattle.std.proofs.lemmas.Bool.{cases_lt}
 use Rattle.jc_lexer.specs.declared.token.Token.{Token}
-use Rattle.jc_grammar.specs.Told.{Told, each}
-use Rattle.jc_reading.specs.Reading.{Read, Found, Stopped, Run, found, noting, ◌>>=◌, becoming, as_new, in_turn, perhaps, perhaps_from, one_more, times, any_number, Either, This, That, either, IsTold, Takes}
-use Rattle.jc_reading.proofs.Steps.{Good, Within, Goes, IsFound, Refuses, reach, Moved, Moves, Plain, good_becoming, good_bind, good_noting, within_becoming, within_bind, within_noting, within_more, goes_becoming, goes_bind, goes_after, goes_noting, goes_more, found_becoming, found_bind, found_noting, reach_noting, reach_becoming, moves_becoming, moves_bind, moves_found, moves_none, moved_noting, takes_cut, takes_join, takes_front, takes_length}
+use Rattle.jc_grammar.specs.Told.{Told}
+use Rattle.jc_reading.specs.Reading.{Run, Takes}
+use Rattle.jc_reading.proofs.Steps.{Good, Within, Goes, IsFound, Refuses, reach, Moves, Plain, takes_front}
 
 -- what its values tell, which of them it has, how it is read, where it may begin, and where a value may go on that is read already;
 -- and whether a value may be empty
@@ -75,7 +73,10 @@ begins_full A form ts a r s =
 -- a value of one form, and then some tokens, is one of another
 pub begins_fill : (A B : Type 0) (form : Form A) (other : Form B) (make : A → B) (rest ts : List Token) (k : ℕ) → ((us : List Token) (a : A) (z : List Token) → Stands form us a (rest ++ z) → Stands other us (make a) z) → Begins A form ts k → Begins B other ts k
 begins_fill A B form other make rest ts k f b = record {
-  front = b.front; back = b.back; whole = b.whole; left = b.left;
+  front = b.front;
+  back = b.back;
+  whole = b.whole;
+  left = b.left;
   value = make b.value;
   more = b.more ++ rest;
   spelled = λ z. subst (λ (l : List Token). Stands other (b.front ++ l) (make b.value) z) (sym (append_assoc b.more rest z)) (f (b.front ++ (b.more ++ (rest ++ z))) b.value z (b.spelled (rest ++ z)));
@@ -87,7 +88,8 @@ begins_as A B form other make ts k f b = begins_fill A B form other make [] ts k
 -- behind some tokens
 pub begins_behind : (A B : Type 0) (form : Form A) (other : Form B) (make : A → B) (pre m ts : List Token) (k : ℕ) → ts ≡ pre ++ m → ((us : List Token) (a : A) (z : List Token) → Stands form us a z → Stands other (pre ++ us) (make a) z) → Begins A form m k → Begins B other ts k
 begins_behind A B form other make pre m ts k e f b = record {
-  front = pre ++ b.front; back = b.back;
+  front = pre ++ b.front;
+  back = b.back;
   whole = e ∙ ap (λ (l : List Token). pre ++ l) b.whole ∙ sym (append_assoc pre b.front b.back);
   left = b.left;
   value = make b.value;

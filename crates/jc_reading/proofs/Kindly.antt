@@ -1,11 +1,11 @@
 -- One token.
-use Rattle.std.proofs.Common.{◌≡◌, ℕ, zero, suc, ◌+◌, ◌<◌, ◌≤◌, Bool, true, false, cond, List, [], ◌∷◌, ◌++◌, length, length-append, Option, Some, None, refl, sym, ap, ◌∙◌, subst, ⊎_elim, ◌⊎◌, inl, inr, arith}
+use Rattle.std.proofs.Common.{◌≡◌, ℕ, suc, true, false, List, [], ◌∷◌, ◌++◌, length, length-append, Option, Some, None, refl, sym, ap, ◌∙◌, subst, inl, arith}
 use Rattle.std.proofs.lemmas.Bool.{false≢true}
 use Rattle.jc_lexer.specs.declared.token.Token.{Token}
 use Rattle.jc_grammar.specs.Told.{Told}
 use Rattle.jc_reading.specs.Kinds.{kind_code, is_in, one_of}
-use Rattle.jc_reading.specs.Reading.{Read, Found, Stopped, Run, found, on_pick, picking, IsTold, Takes}
-use Rattle.jc_reading.proofs.Steps.{Good, Within, Goes, IsFound, Refuses, reach, Moved, Moves, Plain, moves_none, moves_found}
+use Rattle.jc_reading.specs.Reading.{Read, Found, on_pick, picking, IsTold}
+use Rattle.jc_reading.proofs.Steps.{Good, Within, Goes, IsFound, Refuses, reach, Moves, moves_none, moves_found}
 use Rattle.jc_reading.proofs.Forms.{Form, Stands, Begins, Least, Opens, Lawful, begins_start, begins_full}
 
 module _ (A : Type 0) (codes : List ℕ) (pick : Token → Option A) (tell : A → Told) where
@@ -90,7 +90,16 @@ module _ (A : Type 0) (codes : List ℕ) (pick : Token → Option A) (tell : A �
 
   pub token_laws : Lawful A One
   token_laws = record {
-    appends = λ a r g. refl; plain = λ a g. h.apart a; within = within_token; sound = sound_token;
-    longest = λ ts a r s. goes_found a r (One.run ts) (exact_token ts a r s); exact = λ ts a r s g. exact_token ts a r s; opens = opens_token;
-    refuses = refuses_token; total = λ e ts. absurd (false≢true e); local = local_token; begins = begins_token; least = least_token;
+    appends = λ a r g. refl;
+    plain = λ a g. h.apart a;
+    within = within_token;
+    sound = sound_token;
+    longest = λ ts a r s. goes_found a r (One.run ts) (exact_token ts a r s);
+    exact = λ ts a r s g. exact_token ts a r s;
+    opens = opens_token;
+    refuses = refuses_token;
+    total = λ e ts. absurd (false≢true e);
+    local = local_token;
+    begins = begins_token;
+    least = least_token;
   }

@@ -1,19 +1,19 @@
 -- A form behind a sign, and lists of such.
-use Rattle.std.proofs.Common.{◌≡◌, ℕ, zero, suc, ◌<◌, ◌≤◌, Bool, true, false, cond, List, [], ◌∷◌, ◌++◌, map, length, Option, Some, None, refl, sym, ap, ◌∙◌, subst, ⊎_elim, ◌⊎◌, inl, inr, arith}
-use Rattle.std.proofs.lemmas.Bool.{false≢true, or_parts, or_left, or_right, or_cases, and_from, and_parts, and_cases, cases_Bool}
+use Rattle.std.proofs.Common.{◌≡◌, ℕ, Bool, true, false, List, [], ◌∷◌, map, length, Option, Some, None, refl, sym, ap, ◌∙◌, subst, ⊎_elim}
+use Rattle.std.proofs.lemmas.Bool.{false≢true, and_from, and_cases}
 use Rattle.std.specs.Prelude.{◌&&◌, ◌||◌}
 use Rattle.jc_lexer.specs.declared.token.Sign.{Sign}
 use Rattle.jc_lexer.specs.declared.token.Sign.TheVariants as sign_of
 use Rattle.jc_lexer.specs.declared.token.Token.{Token}
 use Rattle.jc_grammar.specs.Told.{Told, sign, after_commas, commas}
-use Rattle.jc_reading.specs.Kinds.{kind_code, sign_code, is_in, front_code, one_of}
-use Rattle.jc_reading.specs.Reading.{Read, Found, Stopped, Run, found, noting, ◌>>=◌, becoming, joined, in_turn, picking, on_pick, picks, rest_of, behind_it, first_and_more, of_kind, each_behind, commas_run, Takes}
+use Rattle.jc_reading.specs.Kinds.{sign_code, one_of}
+use Rattle.jc_reading.specs.Reading.{Read, Found, Stopped, noting, ◌>>=◌, becoming, joined, on_pick, picks, rest_of, behind_it, first_and_more, commas_run}
 use Rattle.jc_reading.proofs.Steps.{Refuses}
 use Rattle.jc_reading.proofs.Forms.{Form, Lawful, Stands}
-use Rattle.jc_reading.proofs.Pairs.{pair, Meet, pair_laws, cut}
-use Rattle.jc_reading.proofs.Lists.{many, Follows, many_laws, tell_all, fits_all}
-use Rattle.jc_reading.proofs.Alikes.{alike, Alike, alike_laws}
-use Rattle.jc_reading.proofs.Retests.{retested, Retests, retested_laws}
+use Rattle.jc_reading.proofs.Pairs.{pair, pair_laws, cut}
+use Rattle.jc_reading.proofs.Lists.{many, many_laws, tell_all, fits_all}
+use Rattle.jc_reading.proofs.Alikes.{alike_laws}
+use Rattle.jc_reading.proofs.Retests.{retested, retested_laws}
 use Rattle.jc_reading.proofs.Signs.{a_sign, sign_laws}
 
 pub or_false : (b : Bool) → (b || false) ≡ true → b ≡ true
@@ -63,18 +63,18 @@ module _ (A : Type 0) (s : Sign) (fa : Form A) (la : Lawful A fa) (solid : fa.em
       (λ f. refuses_pick (picks (sign_code s) k) k ts f)
       (and_cases (one_of (sign_code s ∷ []) (k ∷ ts)) (fa.starts ts) e)
     where
-    neither : (b : Bool) → b ≡ false → (b || false) ≡ false
-    neither true e = e
-    neither false e = e
+      neither : (b : Bool) → b ≡ false → (b || false) ≡ false
+      neither true e = e
+      neither false e = e
 
   pub led_laws : Lawful (Unit {0} × A) (led A s fa)
   led_laws = retested_laws (Unit {0} × A) (Behind A s fa) (led_starts A s fa) fa.goes_on behind_laws
       (record { opens = λ ts p r t lt. led_opens ts p r t; refuses = led_refuses; goes_too = λ ts e. alone (fa.goes_on ts) fa.empties solid e })
     where
-    alone : (b e : Bool) → e ≡ false → (b || (e && false)) ≡ true → b ≡ true
-    alone true e q h = refl
-    alone false true q h = h
-    alone false false q h = h
+      alone : (b e : Bool) → e ≡ false → (b || (e && false)) ≡ true → b ≡ true
+      alone true e q h = refl
+      alone false true q h = h
+      alone false false q h = h
 
   -- each behind the sign
   abbrev pub led_many : Form (List (Unit {0} × A))
@@ -161,7 +161,7 @@ module _ (A : Type 0) (fa : Form A) (la : Lawful A fa) (solid : fa.empties ≡ f
         goes_too = λ ts e. goes_of (comma_starts A fa ts) (fa.goes_on ts) e;
       })
     where
-    goes_of : (b c : Bool) → ((b || c) || c) ≡ true → (b || c) ≡ true
-    goes_of true c e = refl
-    goes_of false true e = refl
-    goes_of false false e = e
+      goes_of : (b c : Bool) → ((b || c) || c) ≡ true → (b || c) ≡ true
+      goes_of true c e = refl
+      goes_of false true e = refl
+      goes_of false false e = e

@@ -8,6 +8,8 @@ pub mod Lists
 pub mod Options
 pub mod Pairs
 pub mod Retests
+pub mod Places
 pub mod Rooms
 pub mod Signs
 pub mod Steps
+pub mod Turns

@@ -1,12 +1,12 @@
 -- A form any number of times.
-use Rattle.std.proofs.Common.{◌≡◌, ℕ, zero, suc, ◌+◌, ◌<◌, ◌≤◌, min, Bool, true, false, List, [], ◌∷◌, ◌++◌, length, length-append, append_assoc, refl, sym, ap, ◌∙◌, subst, ⊎_elim, ◌⊎◌, inl, inr, arith}
+use Rattle.std.proofs.Common.{◌≡◌, ℕ, zero, suc, ◌+◌, ◌<◌, ◌≤◌, min, Bool, true, false, List, [], ◌∷◌, ◌++◌, length, length-append, append_assoc, refl, sym, ap, ◌∙◌, subst, ⊎_elim, inl, inr, arith}
 use Rattle.std.proofs.lemmas.Bool.{false≢true, and_parts, and_from, or_parts}
 use Rattle.std.specs.Prelude.{◌&&◌, ◌||◌}
 use Rattle.jc_lexer.specs.declared.token.Token.{Token}
 use Rattle.jc_grammar.specs.Told.{Told}
-use Rattle.jc_reading.specs.Reading.{Read, Found, Stopped, Run, found, noting, becoming, one_more, times, any_number, Takes}
-use Rattle.jc_reading.proofs.Steps.{Good, Within, Goes, IsFound, Refuses, reach, Moved, Moves, Plain, good_becoming, good_noting, within_becoming, within_noting, within_more, goes_becoming, goes_noting, goes_more, found_becoming, found_noting, reach_noting, reach_becoming, moves_becoming, moved_noting, moves_found, moves_none, takes_cut, takes_join, takes_front, takes_length}
-use Rattle.jc_reading.proofs.Forms.{Form, Stands, Begins, Least, Opens, Lawful, begins_pick, begins_fill, begins_behind, begins_full, begins_as}
+use Rattle.jc_reading.specs.Reading.{Read, Found, Stopped, noting, becoming, one_more, times, any_number, Takes}
+use Rattle.jc_reading.proofs.Steps.{Good, Within, Goes, IsFound, Refuses, reach, Moved, Moves, Plain, good_becoming, good_noting, within_becoming, within_noting, within_more, goes_becoming, goes_noting, goes_more, found_becoming, found_noting, reach_noting, reach_becoming, moves_becoming, moved_noting, moves_none, takes_cut, takes_join, takes_front, takes_length}
+use Rattle.jc_reading.proofs.Forms.{Form, Stands, Begins, Opens, Lawful, begins_pick, begins_behind, begins_full, begins_as}
 
 -- one behind the other
 abbrev pub tell_all : {A : Type 0} → (A → List Told → List Told) → List A → List Told → List Told
@@ -155,8 +155,8 @@ module _ (A : Type 0) (fa : Form A) (la : Lawful A fa) (h : Follows A fa) where
       let w = cut ts a list r s in
       inl (begun ts a w.0 w.1, omega (arith, shorter ts a w.0 w.1, later w.0 list r w.2))
     where
-    later : (m : List Token) (list : List A) (r : List Token) → Stands Many m list r → length r ≤ length m
-    later m list r t = omega (arith, takes_length false (Many.tell list []) m r t.0)
+      later : (m : List Token) (list : List A) (r : List Token) → Stands Many m list r → length r ≤ length m
+      later m list r t = omega (arith, takes_length false (Many.tell list []) m r t.0)
 
   refuses_many : (ts : List Token) (m : Read (List A)) → IsFound [] ts m → Refuses true ts m
   refuses_many ts m f = subst (λ (v : Read (List A)). Refuses true ts v) (sym f.1) (refl, refl)
@@ -168,14 +168,14 @@ module _ (A : Type 0) (fa : Form A) (la : Lawful A fa) (h : Follows A fa) where
       let less : length w.1 < length p = omega (arith, ap length w.2, length-append w.1 x, length-append p x, gd) in
       moved_two a b r s w.1 l k w.0 w.2 w.3 w.4 (i w.1 less) (omega arith)
     where
-    moved_two : (a b : A) (r s q : List Token) (l k : ℕ) → a ≡ b → r ≡ q ++ x → s ≡ q ++ y → l + length y ≡ k + length x → Moves x y (f (q ++ x)) (g (q ++ y)) → length x < reach (f r) → Moved x y (noting l (becoming (λ more. a ∷ more) (f r))) (noting k (becoming (λ more. b ∷ more) (g s)))
-    moved_two a b r s q l k ab rq sq e mv lt =
-        let lt' = subst (λ (v : List Token). length x < reach (f v)) rq lt in
-        let lt'' = subst (λ (j : ℕ). length x < j) (sym (reach_becoming (λ more. a ∷ more) (f (q ++ x)))) lt' in
-        let m = moved_noting x y l k (becoming (λ more. a ∷ more) (f (q ++ x))) (becoming (λ more. a ∷ more) (g (q ++ y))) e (moves_becoming x y (λ more. a ∷ more) (f (q ++ x)) (g (q ++ y)) mv lt'') in
-        let m1 = subst (λ (v : List Token). Moved x y (noting l (becoming (λ more. a ∷ more) (f v))) (noting k (becoming (λ more. a ∷ more) (g (q ++ y))))) (sym rq) m in
-        let m2 = subst (λ (v : List Token). Moved x y (noting l (becoming (λ more. a ∷ more) (f r))) (noting k (becoming (λ more. a ∷ more) (g v)))) (sym sq) m1 in
-        subst (λ (c : A). Moved x y (noting l (becoming (λ more. a ∷ more) (f r))) (noting k (becoming (λ more. c ∷ more) (g s)))) ab m2
+      moved_two : (a b : A) (r s q : List Token) (l k : ℕ) → a ≡ b → r ≡ q ++ x → s ≡ q ++ y → l + length y ≡ k + length x → Moves x y (f (q ++ x)) (g (q ++ y)) → length x < reach (f r) → Moved x y (noting l (becoming (λ more. a ∷ more) (f r))) (noting k (becoming (λ more. b ∷ more) (g s)))
+      moved_two a b r s q l k ab rq sq e mv lt =
+          let lt' = subst (λ (v : List Token). length x < reach (f v)) rq lt in
+          let lt'' = subst (λ (j : ℕ). length x < j) (sym (reach_becoming (λ more. a ∷ more) (f (q ++ x)))) lt' in
+          let m = moved_noting x y l k (becoming (λ more. a ∷ more) (f (q ++ x))) (becoming (λ more. a ∷ more) (g (q ++ y))) e (moves_becoming x y (λ more. a ∷ more) (f (q ++ x)) (g (q ++ y)) mv lt'') in
+          let m1 = subst (λ (v : List Token). Moved x y (noting l (becoming (λ more. a ∷ more) (f v))) (noting k (becoming (λ more. a ∷ more) (g (q ++ y))))) (sym rq) m in
+          let m2 = subst (λ (v : List Token). Moved x y (noting l (becoming (λ more. a ∷ more) (f r))) (noting k (becoming (λ more. a ∷ more) (g v)))) (sym sq) m1 in
+          subst (λ (c : A). Moved x y (noting l (becoming (λ more. a ∷ more) (f r))) (noting k (becoming (λ more. c ∷ more) (g s)))) ab m2
   moves_one x y p (Stopped l) (Stopped k) f g wi gd mv i lt = (refl, p, refl, refl, mv lt)
   moves_one x y p (Found a r l) (Stopped k) f g wi gd mv i lt =
       let u : length x < min l (reach (f r)) = subst (λ (j : ℕ). length x < j) (reach_noting l (becoming (λ more. a ∷ more) (f r)) ∙ ap (λ j. min l j) (reach_becoming (λ more. a ∷ more) (f r))) lt in absurd (mv (omega arith))
@@ -215,9 +215,16 @@ module _ (A : Type 0) (fa : Form A) (la : Lawful A fa) (h : Follows A fa) where
 
   pub many_laws : Lawful (List A) Many
   many_laws = record {
-    appends = appends_many; plain = plain_many; within = λ ts. within_times (length ts) ts; sound = λ ts. sound_times (length ts) ts;
-    longest = λ ts list r s. longest_times (length ts) ts list r (omega arith) s; exact = λ ts list r s g. exact_times (length ts) ts list r (omega arith) s g;
-    opens = opens_many; refuses = λ ts g. refuses_many ts (Many.run ts) (found_none (length ts) ts g); total = λ e ts. goes_times (length ts) ts;
-    local = λ p x y. local_times (length (p ++ x)) (length (p ++ y)) p x y (omega arith) (omega arith); begins = λ ts. begins_times (length ts) ts (omega arith);
+    appends = appends_many;
+    plain = plain_many;
+    within = λ ts. within_times (length ts) ts;
+    sound = λ ts. sound_times (length ts) ts;
+    longest = λ ts list r s. longest_times (length ts) ts list r (omega arith) s;
+    exact = λ ts list r s g. exact_times (length ts) ts list r (omega arith) s g;
+    opens = opens_many;
+    refuses = λ ts g. refuses_many ts (Many.run ts) (found_none (length ts) ts g);
+    total = λ e ts. goes_times (length ts) ts;
+    local = λ p x y. local_times (length (p ++ x)) (length (p ++ y)) p x y (omega arith) (omega arith);
+    begins = λ ts. begins_times (length ts) ts (omega arith);
     least = record { value = []; tokens = []; spelled = λ z. (refl, refl) };
   }

@@ -1,12 +1,12 @@
 -- A form that may be left out.
-use Rattle.std.proofs.Common.{◌≡◌, ℕ, zero, suc, ◌+◌, ◌<◌, ◌≤◌, min, Bool, true, false, List, [], ◌∷◌, ◌++◌, length, Option, Some, None, refl, sym, ap, ◌∙◌, subst, ⊎_elim, ◌⊎◌, inl, inr, arith}
+use Rattle.std.proofs.Common.{◌≡◌, ℕ, Bool, true, false, List, [], ◌++◌, length, Option, Some, None, refl, sym, ap, ◌∙◌, subst, ⊎_elim, inl, inr, arith}
 use Rattle.std.proofs.lemmas.Bool.{false≢true, or_parts}
 use Rattle.std.specs.Prelude.{◌||◌}
 use Rattle.jc_lexer.specs.declared.token.Token.{Token}
 use Rattle.jc_grammar.specs.Told.{Told}
-use Rattle.jc_reading.specs.Reading.{Read, Found, Stopped, Run, perhaps, perhaps_from, Takes}
-use Rattle.jc_reading.proofs.Steps.{Good, Within, Goes, IsFound, Refuses, reach, Moved, Moves, Plain}
-use Rattle.jc_reading.proofs.Forms.{Form, Stands, Begins, Least, Opens, Lawful, begins_as}
+use Rattle.jc_reading.specs.Reading.{Read, Found, Stopped, perhaps, perhaps_from}
+use Rattle.jc_reading.proofs.Steps.{Good, Within, Goes, IsFound, Refuses, reach, Moves, Plain}
+use Rattle.jc_reading.proofs.Forms.{Form, Stands, Begins, Opens, Lawful, begins_as}
 
 abbrev pub tell_some : {A : Type 0} → (A → List Told → List Told) → Option A → List Told → List Told
 tell_some tell None r = r
@@ -96,8 +96,16 @@ module _ (A : Type 0) (fa : Form A) (la : Lawful A fa) (solid : fa.empties ≡ f
 
   pub option_laws : Lawful (Option A) Maybe
   option_laws = record {
-    appends = appends_option; plain = plain_option; within = λ ts. within_from ts (fa.run ts) (la.within ts); sound = λ ts. sound_from ts (fa.run ts) (la.sound ts);
-    longest = longest_option; exact = exact_option; opens = opens_option; refuses = λ ts h. refuses_from ts (fa.run ts) (la.refuses ts h);
-    total = λ e ts. goes_anyway ts (fa.run ts) (la.within ts); local = λ p x y. moves_from x y p (fa.run (p ++ x)) (fa.run (p ++ y)) (la.local p x y);
-    begins = begins_option; least = record { value = None; tokens = []; spelled = λ z. (refl, refl) };
+    appends = appends_option;
+    plain = plain_option;
+    within = λ ts. within_from ts (fa.run ts) (la.within ts);
+    sound = λ ts. sound_from ts (fa.run ts) (la.sound ts);
+    longest = longest_option;
+    exact = exact_option;
+    opens = opens_option;
+    refuses = λ ts h. refuses_from ts (fa.run ts) (la.refuses ts h);
+    total = λ e ts. goes_anyway ts (fa.run ts) (la.within ts);
+    local = λ p x y. moves_from x y p (fa.run (p ++ x)) (fa.run (p ++ y)) (la.local p x y);
+    begins = begins_option;
+    least = record { value = None; tokens = []; spelled = λ z. (refl, refl) };
   }

@@ -1,11 +1,11 @@
 -- One form and then another.
-use Rattle.std.proofs.Common.{◌≡◌, ℕ, zero, suc, ◌+◌, ◌<◌, ◌≤◌, min, Bool, true, false, cond, List, [], ◌∷◌, ◌++◌, length, length-append, append_assoc, refl, sym, ap, ◌∙◌, subst, ⊎_elim, ◌⊎◌, inl, inr, arith}
-use Rattle.std.proofs.lemmas.Bool.{false≢true, cases_Bool, and_parts, and_from, and_cases, and_left, and_right, or_parts, or_left, or_right}
+use Rattle.std.proofs.Common.{◌≡◌, ℕ, ◌≤◌, min, Bool, true, false, List, [], ◌∷◌, ◌++◌, length, append_assoc, sym, ap, ◌∙◌, subst, ⊎_elim, inl, inr, arith}
+use Rattle.std.proofs.lemmas.Bool.{false≢true, and_parts, and_from, and_left, and_right, or_parts, or_left, or_right}
 use Rattle.std.specs.Prelude.{◌&&◌, ◌||◌}
 use Rattle.jc_lexer.specs.declared.token.Token.{Token}
 use Rattle.jc_grammar.specs.Told.{Told}
-use Rattle.jc_reading.specs.Reading.{Read, Found, Stopped, Run, found, noting, ◌>>=◌, becoming, joined, in_turn, Takes}
-use Rattle.jc_reading.proofs.Steps.{Good, Within, Goes, IsFound, Refuses, reach, Moved, Moves, Plain, good_becoming, good_bind, within_becoming, within_bind, goes_becoming, goes_bind, goes_after, goes_more, found_becoming, found_bind, reach_noting, reach_becoming, moves_becoming, moves_bind, takes_cut, takes_join, takes_front}
+use Rattle.jc_reading.specs.Reading.{Read, Found, Stopped, noting, ◌>>=◌, becoming, joined, in_turn, Takes}
+use Rattle.jc_reading.proofs.Steps.{Good, Within, Goes, IsFound, Refuses, reach, Moves, Plain, good_becoming, good_bind, within_becoming, within_bind, goes_becoming, goes_bind, goes_after, goes_more, found_becoming, found_bind, reach_noting, reach_becoming, moves_becoming, moves_bind, takes_cut, takes_join, takes_front}
 use Rattle.jc_reading.proofs.Forms.{Form, Stands, Begins, Least, Opens, Lawful, begins_pick, begins_fill, begins_behind}
 
 pub alone : (b c : Bool) → b ≡ true → (b && c) ≡ false → c ≡ false
@@ -142,11 +142,21 @@ module _ (A B : Type 0) (fa : Form A) (fb : Form B) (la : Lawful A fa) (lb : Law
     value = (la.least.value, lb.least.value);
     tokens = la.least.tokens ++ lb.least.tokens;
     spelled = λ z. subst (λ (l : List Token). Stands Both l (la.least.value, lb.least.value) z) (sym (append_assoc la.least.tokens lb.least.tokens z))
-    (join (la.least.tokens ++ (lb.least.tokens ++ z)) (lb.least.tokens ++ z) z la.least.value lb.least.value (la.least.spelled (lb.least.tokens ++ z)) (lb.least.spelled z));
+        (join (la.least.tokens ++ (lb.least.tokens ++ z)) (lb.least.tokens ++ z) z la.least.value lb.least.value (la.least.spelled (lb.least.tokens ++ z)) (lb.least.spelled z));
   }
 
   pub pair_laws : Lawful (A × B) Both
   pair_laws = record {
-    appends = appends_pair; plain = plain_pair; within = within_pair; sound = sound_pair; longest = longest_pair; exact = exact_pair; opens = opens_pair;
-    refuses = refuses_pair; total = total_pair; local = local_pair; begins = λ ts. begins_both ts (fa.run ts) (la.begins ts) (la.sound ts); least = least_pair;
+    appends = appends_pair;
+    plain = plain_pair;
+    within = within_pair;
+    sound = sound_pair;
+    longest = longest_pair;
+    exact = exact_pair;
+    opens = opens_pair;
+    refuses = refuses_pair;
+    total = total_pair;
+    local = local_pair;
+    begins = λ ts. begins_both ts (fa.run ts) (la.begins ts) (la.sound ts);
+    least = least_pair;
   }

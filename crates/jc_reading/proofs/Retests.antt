@@ -1,10 +1,9 @@
 -- A form with other tests of where it begins and goes on.
-use Rattle.std.proofs.Common.{◌≡◌, ℕ, ◌<◌, ◌≤◌, Bool, true, false, List, [], ◌∷◌, length, refl, sym, ap, ◌∙◌, subst, ⊎_elim, ◌⊎◌, inl, inr, arith}
+use Rattle.std.proofs.Common.{◌≡◌, ◌<◌, Bool, true, false, List, length, sym, ◌∙◌, ⊎_elim, inl, inr}
 use Rattle.std.proofs.lemmas.Bool.{false≢true, false_from_ne_true}
 use Rattle.jc_lexer.specs.declared.token.Token.{Token}
-use Rattle.jc_reading.specs.Reading.{Read, Run}
 use Rattle.jc_reading.proofs.Steps.{Refuses}
-use Rattle.jc_reading.proofs.Forms.{Form, Stands, Begins, Least, Opens, Lawful, begins_as}
+use Rattle.jc_reading.proofs.Forms.{Form, Stands, Lawful, begins_as}
 
 module _ (A : Type 0) (fa : Form A) (starts goes_on : List Token → Bool) where
   abbrev pub retested : Form A
@@ -21,10 +20,16 @@ module _ (A : Type 0) (fa : Form A) (starts goes_on : List Token → Bool) (la :
 
   pub retested_laws : Lawful A Other
   retested_laws = record {
-    appends = la.appends; plain = la.plain; within = la.within; sound = la.sound; longest = la.longest;
+    appends = la.appends;
+    plain = la.plain;
+    within = la.within;
+    sound = la.sound;
+    longest = la.longest;
     exact = λ ts a r s g. la.exact ts a r s (false_from_ne_true (fa.goes_on r) (λ t. false≢true (sym g ∙ h.goes_too r t)));
     opens = λ ts a r s. ⊎_elim (λ o. inl (h.opens ts a r s o.1, o.1)) (λ o. inr o) (la.opens ts a r s);
-    refuses = h.refuses; total = la.total; local = la.local;
+    refuses = h.refuses;
+    total = la.total;
+    local = la.local;
     begins = λ ts. begins_as A A fa Other (λ a. a) ts _ (λ us a z s. s) (la.begins ts);
     least = record { value = la.least.value; tokens = la.least.tokens; spelled = la.least.spelled };
   }

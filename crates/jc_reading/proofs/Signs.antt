@@ -1,6 +1,6 @@
 -- Signs, keywords and identifiers.
-use Rattle.std.proofs.Common.{◌≡◌, ℕ, Bool, true, false, cond, List, [], ◌∷◌, Option, Some, None, refl, sym, ap, ◌∙◌, subst, ⊎_elim, ◌⊎◌, inl, inr, arith}
-use Rattle.std.specs.Prelude.{◌==◌, ◌||◌}
+use Rattle.std.proofs.Common.{◌≡◌, ℕ, Bool, true, false, cond, List, [], ◌∷◌, Some, None, refl, sym, ap, ◌∙◌, subst, ⊎_elim}
+use Rattle.std.specs.Prelude.{◌==◌}
 use Rattle.std.proofs.lemmas.Bool.{false≢true, eqb-true, eq-eqb, or_left, or_cases, cond-true, cond-false, cases_Bool}
 use Rattle.jc_lexer.specs.declared.token.Key.{Key}
 use Rattle.jc_lexer.specs.declared.token.Sign.{Sign}
@@ -9,9 +9,9 @@ use Rattle.jc_lexer.specs.declared.token.TokenKind.{TokenKind}
 use Rattle.jc_lexer.specs.declared.token.TokenKind.TheVariants as kind_of
 use Rattle.jc_rules.specs.declared.text.Text.{Text}
 use Rattle.jc_tree.specs.declared.name.Ident.{Ident}
-use Rattle.jc_grammar.specs.Told.{Told, sign, sign_at, key, key_at, told, ident}
+use Rattle.jc_grammar.specs.Told.{sign, sign_at, key, key_at, told, ident}
 use Rattle.jc_reading.specs.Kinds.{kind_code, sign_code, key_code, word_code, is_in, front_code, one_of}
-use Rattle.jc_reading.specs.Reading.{picks, picks_at, IsTold, ident_of_kind, picks_ident}
+use Rattle.jc_reading.specs.Reading.{picks, picks_at, ident_of_kind, picks_ident}
 use Rattle.jc_reading.proofs.Codes.{kind_is_sign, kind_is_key, some_is, none_is}
 use Rattle.jc_reading.proofs.Forms.{Form, Lawful}
 use Rattle.jc_reading.proofs.Kindly.{token, Picks, token_laws}
@@ -48,7 +48,9 @@ module _ (k : TokenKind) (is_kind : (j : TokenKind) → kind_code j ≡ kind_cod
     picks = λ t a i. to_test t.kind tt i.0;
     coded = λ t a e. coded_test t.kind (from_test t.kind tt a e).0;
     apart = λ a. refl;
-    sample = a_token k; value = tt; sampled = to_test k tt refl;
+    sample = a_token k;
+    value = tt;
+    sampled = to_test k tt refl;
   }
 
   placed_picks : Picks ℕ (code ∷ []) (picks_at code) (λ at. told k (Some at))
@@ -58,7 +60,9 @@ module _ (k : TokenKind) (is_kind : (j : TokenKind) → kind_code j ≡ kind_cod
     picks = λ t a i. to_test t.kind t.from i.0 ∙ ap (λ n. Some n) i.1;
     coded = λ t a e. coded_test t.kind (from_test t.kind t.from a e).0;
     apart = λ a. refl;
-    sample = a_token k; value = 0; sampled = to_test k 0 refl;
+    sample = a_token k;
+    value = 0;
+    sampled = to_test k 0 refl;
   }
 
 abbrev pub a_sign : Sign → Form (Unit {0})
@@ -117,7 +121,9 @@ ident_picks = record {
   picks = λ t i h. to_kind t.kind t.from i h.0 h.1;
   coded = λ t i e. word_coded t.kind t.from i e;
   apart = λ i. refl;
-  sample = a_token (kind_of.Word an_empty); value = record { at = 0; text = an_empty }; sampled = refl;
+  sample = a_token (kind_of.Word an_empty);
+  value = record { at = 0; text = an_empty };
+  sampled = refl;
 }
 
 pub ident_laws : Lawful Ident an_ident

@@ -1,11 +1,9 @@
 -- How the steps of reading go together.
-use Rattle.std.proofs.Common.{◌≡◌, ℕ, zero, suc, ◌+◌, ◌<◌, ◌≤◌, min, Bool, true, false, cond, List, [], ◌∷◌, ◌++◌, length, length-append, append_assoc, Option, Some, None, refl, sym, ap, ◌∙◌, subst, ⊎_elim, ◌⊎◌, inl, inr, arith}
+use Rattle.std.proofs.Common.{◌≡◌, ℕ, ◌+◌, ◌<◌, ◌≤◌, min, Bool, true, false, List, [], ◌∷◌, ◌++◌, length, length-append, refl, sym, ap, ◌∙◌, subst, arith}
 use Rattle.std.proofs.lemmas.Bool.{false≢true}
-use Rattle.std.specs.Prelude.{◌&&◌}
 use Rattle.jc_lexer.specs.declared.token.Token.{Token}
 use Rattle.jc_grammar.specs.Told.{Told}
-use Rattle.jc_grammar.specs.Spelling.{is_greater}
-use Rattle.jc_reading.specs.Reading.{Read, Found, Stopped, Run, found, noting, ◌>>=◌, becoming, IsTold, Takes}
+use Rattle.jc_reading.specs.Reading.{Read, Found, Stopped, found, noting, ◌>>=◌, becoming, Takes}
 
 -- each answer has P
 abbrev pub Good : {A : Type 0} → (A → List Token → Type 0) → Read A → Type 0
@@ -156,10 +154,10 @@ moves_none x y (Stopped l) n w lt = absurd (omega (arith, w))
 pub takes_cut : (b : Bool) (d e : List Told) (ts r : List Token) → Takes b (d ++ e) ts r → (m : List Token) × Takes b d ts m × Takes false e m r
 takes_cut b [] e ts r h = (ts, refl, weaker b e ts r h)
   where
-  weaker : (b : Bool) (e : List Told) (ts r : List Token) → Takes b e ts r → Takes false e ts r
-  weaker b [] ts r h = h
-  weaker b (d ∷ e) [] r h = h
-  weaker b (d ∷ e) (t ∷ ts) r h = ((h.0.0, h.0.1, h.0.2, λ q. refl), h.1)
+    weaker : (b : Bool) (e : List Told) (ts r : List Token) → Takes b e ts r → Takes false e ts r
+    weaker b [] ts r h = h
+    weaker b (d ∷ e) [] r h = h
+    weaker b (d ∷ e) (t ∷ ts) r h = ((h.0.0, h.0.1, h.0.2, λ q. refl), h.1)
 takes_cut b (d ∷ ds) e [] r h = absurd h
 takes_cut b (d ∷ ds) e (t ∷ ts) r h = let w = takes_cut _ ds e ts r h.1 in (w.0, (h.0, w.1), w.2)
 
@@ -171,10 +169,10 @@ Plain (d ∷ told) = d.apart ≡ false
 pub takes_join : (b : Bool) (d e : List Told) (ts m r : List Token) → Plain e → Takes b d ts m → Takes false e m r → Takes b (d ++ e) ts r
 takes_join b [] e ts m r p h k = stronger b e ts r p (subst (λ (v : List Token). Takes false e v r) (sym h) k)
   where
-  stronger : (b : Bool) (e : List Told) (ts r : List Token) → Plain e → Takes false e ts r → Takes b e ts r
-  stronger b [] ts r p h = h
-  stronger b (d ∷ e) [] r p h = h
-  stronger b (d ∷ e) (t ∷ ts) r p h = ((h.0.0, h.0.1, h.0.2, λ q. absurd (false≢true (sym p ∙ q))), h.1)
+    stronger : (b : Bool) (e : List Told) (ts r : List Token) → Plain e → Takes false e ts r → Takes b e ts r
+    stronger b [] ts r p h = h
+    stronger b (d ∷ e) [] r p h = h
+    stronger b (d ∷ e) (t ∷ ts) r p h = ((h.0.0, h.0.1, h.0.2, λ q. absurd (false≢true (sym p ∙ q))), h.1)
 takes_join b (d ∷ ds) e [] m r p h k = absurd h
 takes_join b (d ∷ ds) e (t ∷ ts) m r p h k = (h.0, takes_join _ ds e ts m r p h.1 k)
 

@@ -8,6 +8,7 @@ use Rattle.jc_class_out.specs.declared.model.Ins.{Ins}
 use Rattle.jc_class_out.specs.declared.model.ClassModel.{ClassModel}
 use Rattle.jc_class_out.specs.declared.model.MethodModel.{MethodModel}
 use Rattle.jc_class_out.specs.declared.model.CodeModel.{CodeModel}
+use Rattle.jc_class_out.specs.declared.model.Item.{Item}
 use Rattle.jc_class_out.specs.declared.model.Loaded.TheVariants.{Whole}
 use Rattle.jc_class_out.specs.declared.model.Operand.TheVariants.{Nothing, Number, Load}
 use Rattle.jc_class_out.specs.Pool.{Known, KnownText, KnownWhole, KnownClass, KnownField, KnownMethod, KnownPair}
@@ -15,7 +16,7 @@ use Rattle.jc_class_out.specs.Texts.{text_bytes}
 use Rattle.jc_class_out.specs.Descriptors.{is_method_descriptor, parameter_units, name_end, type_end, parameters_on}
 use Rattle.jc_class_out.specs.Instructions.{kind_of, branch_kind, member_kind, ins_size, operand_size}
 use Rattle.jc_class_out.specs.Code.{marks_of, marks_from, size_from}
-use Rattle.jc_class_out.specs.Spelling.{same_known, has, add, adds, ins_uses, ins_first_uses, operand_uses, member_uses, code_uses, method_uses, members_uses, loads_of, uses, method_first_uses}
+use Rattle.jc_class_out.specs.Spelling.{same_known, has, add, adds, ins_uses, ins_first_uses, operand_uses, member_uses, code_uses, method_uses, members_uses, loads_of, uses, method_first_uses, entry_of_method}
 use Rattle.jc_class_out.specs.Fitting.{is_u16, text_fits, known_fits, places, operand_fits, ins_fits, all_fit, ins_lands, ins_all_fit, tables_fit, frames_fit, frames_within, code_fits, method_fits, counts_fit, members_fit, pool_fits, fits_of}
 use Rattle.jc_small.specs.Small.{Program, IsSum}
 use Rattle.jc_small.specs.ClassOf.{ins, const_ins, more_code, sum_code, write_code, main_code, main_class, out_ins, write_ins, init_code, init_method, main_method}
@@ -295,7 +296,7 @@ size_some : (is : List Ins) → 1 ≤ length is → AllByRecursion IsFit is → 
 size_some [] h fit = absurd (omega arith)
 size_some (i ∷ is) h fit = size_least i is 0 fit
 
-init_method_fits : method_fits init_method ≡ true
+init_method_fits : method_fits (codes "Main") init_method ≡ true
 unfolding method_fits code_fits ins_all_fit all_fit ins_fits operand_fits kind_of branch_kind member_kind operand_size size_from marks_from tables_fit frames_fit frames_within name_end type_end parameters_on parameter_units
 init_method_fits = refl
 
@@ -305,17 +306,17 @@ main_ins_fit is some short fit =
     and_true _ _ (lt-ltb 0 (size_from 0 is) (omega (arith, size_some is some fit)))
     (and_true _ _ (lt-ltb (size_from 0 is) 65536 (omega (arith, size_most is 0 fit))) (and_true _ _ (each_fits is 0 fit) (each_lands is (marks_of is) fit)))
 
-main_tables_fit : (marks : List Bool) (is : List Ins) → tables_fit marks (record { stack = 3; locals = 1; ins = is; handlers = []; frames = [] }) ≡ true
+main_tables_fit : (marks : List Bool) (entry : List Item) (is : List Ins) → tables_fit marks entry (record { stack = 3; locals = 1; ins = is; handlers = []; frames = [] }) ≡ true
 unfolding tables_fit frames_fit frames_within
-main_tables_fit marks is = refl
+main_tables_fit marks entry is = refl
 
-main_code_fits : (is : List Ins) → 1 ≤ length is → length is ≤ 16384 → AllByRecursion IsFit is → code_fits (record { stack = 3; locals = 1; ins = is; handlers = []; frames = [] }) ≡ true
+main_code_fits : (entry : List Item) (is : List Ins) → 1 ≤ length is → length is ≤ 16384 → AllByRecursion IsFit is → code_fits entry (record { stack = 3; locals = 1; ins = is; handlers = []; frames = [] }) ≡ true
 unfolding code_fits
-main_code_fits is some short fit = and_true _ _ (main_ins_fit is some short fit) (main_tables_fit (marks_of is) is)
+main_code_fits entry is some short fit = and_true _ _ (main_ins_fit is some short fit) (main_tables_fit (marks_of is) entry is)
 
-main_method_fits : (program : Program) → AllByRecursion IsFit (main_code program) → length (main_code program) ≤ 16384 → 1 ≤ length (main_code program) → method_fits (main_method program) ≡ true
+main_method_fits : (program : Program) → AllByRecursion IsFit (main_code program) → length (main_code program) ≤ 16384 → 1 ≤ length (main_code program) → method_fits (codes "Main") (main_method program) ≡ true
 unfolding method_fits name_end type_end parameters_on parameter_units
-main_method_fits program fit short some = main_code_fits (main_code program) some short fit
+main_method_fits program fit short some = main_code_fits (entry_of_method (codes "Main") (main_method program)) (main_code program) some short fit
 
 class_members_fit : (program : Program) → AllByRecursion IsFit (main_code program) → length (main_code program) ≤ 16384 → 1 ≤ length (main_code program) → members_fit (main_class program) ≡ true
 unfolding members_fit counts_fit

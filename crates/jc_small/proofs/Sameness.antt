@@ -11,6 +11,7 @@ use Rattle.jc_small.specs.ClassOf.{main_class, main_code, init_method, main_meth
 use Rattle.jc_small.specs.Same.{Same, ShowsSame, HasMembers, Compiled}
 use Rattle.jc_small.proofs.Short.{code_short}
 use Rattle.jc_small.proofs.Standing.{Stands, rest_here}
+use Rattle.jc_class_out.proofs.Exact.{spelled}
 use Rattle.jc_small.proofs.Fits.{class_fits}
 use Rattle.jc_small.proofs.MainRuns.{frame, forwards, backwards}
 
@@ -55,5 +56,5 @@ compiled text program is = record {
     starts = main_starts program;
     shows = shows_same program is.sums (code_short text program is);
   };
-  fits = class_fits program is.sums (code_short text program is);
+  has_file = spelled (main_class program) (class_fits program is.sums (code_short text program is));
 }

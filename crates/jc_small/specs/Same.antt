@@ -3,7 +3,7 @@ use Rattle.std.specs.Prelude.{◌≡◌, ℕ, ◌+◌, ◌*◌, ◌≤◌, List,
 use Rattle.std.specs.declared.option.Option.TheVariants.{Some, None}
 use Rattle.jc_class_out.specs.declared.model.ClassModel.{ClassModel}
 use Rattle.jc_class_out.specs.declared.model.MethodModel.{MethodModel}
-use Rattle.jc_class_out.specs.Fitting.{fits_of}
+use Rattle.jc_class_out.specs.Format.{HasClassFile}
 use Rattle.jc_machine.specs.declared.machine.Ran.{Ran}
 use Rattle.jc_machine.specs.declared.machine.Ran.TheVariants.{StepsReached, Ended as RanEnded}
 use Rattle.jc_machine.specs.Table.{State}
@@ -66,9 +66,9 @@ pub record Same (program : Program) (class : ClassModel) : Type 0 where
   pub starts : (arguments : List (List ℕ)) → start_of (class ∷ []) (codes "Main") arguments ≡ Some start
   pub shows : ShowsSame program class start
 
--- the text is a program, and this class is one of it, which the writer of class files can spell
+-- the text is a program, and this class is one of it, which has a class file
 pub record Compiled (text : List ℕ) (class : ClassModel) : Type 0 where
   pub program : Program
   pub is_program : IsProgram text program
   pub same : Same program class
-  pub fits : fits_of class ≡ true
+  pub has_file : HasClassFile class

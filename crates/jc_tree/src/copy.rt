@@ -33,8 +33,9 @@ pub fn copy_type(alloc: Global, ty: &TypeTree) -> Result<TypeTree, WantOfMemory>
     })
 }
 
+/// A copy of a type without its brackets.
 #[cycle(type_copies)]
-fn copy_base(alloc: Global, base: &BaseTree) -> Result<BaseTree, WantOfMemory>
+pub fn copy_base(alloc: Global, base: &BaseTree) -> Result<BaseTree, WantOfMemory>
     ensures { IfOk result (λ copy. copy ≡ base.now) }
 {
     match base {
@@ -77,8 +78,9 @@ fn copy_parts(alloc: Global, parts: &[TypePart]) -> Result<Items<TypePart>, Want
     Ok(copies)
 }
 
+/// A copy of type arguments.
 #[cycle(type_copies)]
-fn copy_args(alloc: Global, args: &[TypeArg]) -> Result<Items<TypeArg>, WantOfMemory>
+pub fn copy_args(alloc: Global, args: &[TypeArg]) -> Result<Items<TypeArg>, WantOfMemory>
     ensures { IfOk result (λ copy. copy ≡ args.now) }
 {
     let mut copies = Items::new(alloc);

@@ -1,6 +1,9 @@
 use crate::{
-    BaseTree, ClassTree, Expr, Ident, Literal, PrimitiveWord, SourceFile, TypeArg, TypePart,
-    TypeTree, copy_type, expr_height, height, type_height,
+    BaseTree, ClassTree, Expr, Formal, Ident, Init, Literal, Member, MethodHead, Modifier,
+    ModifierWord, PostfixOp, PrimitiveWord, SourceFile, Stmt, TypeArg, TypeParam, TypeParams,
+    TypePart, TypeTree, copy_type, expr_height, first_offset_of_expr, first_offset_of_formal,
+    first_offset_of_init, first_offset_of_member, first_offset_of_method, first_offset_of_stmt,
+    first_offset_of_type, height, type_height,
 };
 use jc_rules::{Boxed, Items, Text};
 use std::alloc::Global;
@@ -58,5 +61,77 @@ fn heights_count_the_nodes_on_a_way_down(rt: HostRuntime) -> Result<(), Fail> {
         types: Items::new(alloc),
     };
     assert_eq!(rt; height(&empty), 1);
+    Ok(())
+}
+
+/// `final int[] x`
+fn final_int(alloc: Global) -> Result<Formal, Fail> {
+    let mut modifiers = Items::new(alloc);
+    modifiers.push(Modifier::Word {
+        at: 3,
+        word: ModifierWord::Final,
+    })?;
+    Ok(Formal {
+        modifiers,
+        ty: int_array(),
+        variable_arity: false,
+        name: Ident {
+            at: 13,
+            text: Text::of(String::from_str(alloc, "x")?),
+        },
+        dims: 0,
+    })
+}
+
+/// `<T> x(final int[] x)`
+fn generic(alloc: Global) -> Result<MethodHead, Fail> {
+    let mut formals = Items::new(alloc);
+    formals.push(final_int(alloc)?)?;
+    let first = TypeParam {
+        name: Ident {
+            at: 8,
+            text: Text::of(String::from_str(alloc, "T")?),
+        },
+        bounds: Items::new(alloc),
+    };
+    Ok(MethodHead {
+        modifiers: Items::new(alloc),
+        params: Some(TypeParams {
+            at: 7,
+            first,
+            more: Items::new(alloc),
+        }),
+        result: None,
+        name: Ident {
+            at: 10,
+            text: Text::of(String::from_str(alloc, "x")?),
+        },
+        formals,
+        throws: Items::new(alloc),
+    })
+}
+
+#[test]
+fn trees_begin_at_their_first_tokens(rt: HostRuntime) -> Result<(), Fail> {
+    let alloc = rt.alloc();
+    assert_eq!(rt; first_offset_of_type(&list_of(alloc, int_array())?), 0);
+    let null = Boxed::new(
+        alloc,
+        Expr::Literal {
+            at: 6,
+            value: Literal::Null,
+        },
+    )?;
+    let call = Expr::Postfix {
+        of: null,
+        op: PostfixOp::Increment,
+    };
+    assert_eq!(rt; first_offset_of_expr(&call), 6);
+    assert_eq!(rt; first_offset_of_init(&Init::Value(call)), 6);
+    assert_eq!(rt; first_offset_of_formal(&final_int(alloc)?), 3);
+    let head = generic(alloc)?;
+    assert_eq!(rt; first_offset_of_method(&head), 7);
+    assert_eq!(rt; first_offset_of_member(&Member::Bare { head }), 7);
+    assert_eq!(rt; first_offset_of_stmt(&Stmt::Empty { at: 5 }), 5);
     Ok(())
 }

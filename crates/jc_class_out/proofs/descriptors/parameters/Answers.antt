@@ -1,4 +1,4 @@
-use Rattle.std.proofs.Common.{rules, arith, ◌≡◌, ◌-◌, ◌+◌, suc, length}
+use Rattle.std.proofs.Common.{arith, ◌≡◌, ◌-◌, ◌+◌, suc, length}
 use Rattle.std.proofs.lemmas.Grind.{common_steps}
 use Rattle.jc_class_out.specs.Descriptors.{parameters_on}
 use Rattle.jc_class_out.proofs.descriptors.parameters.Goals as goal

@@ -1,8 +1,7 @@
 use Rattle.std.proofs.Common.{◌≡◌, drop}
 use Rattle.std.specs.List.{list_all}
-use Rattle.jc_class_out.specs.Code.{marks_of}
 use Rattle.jc_class_out.specs.Fitting.{case_lands}
 use Rattle.jc_class_out.proofs.fitting.cases_begin.Given as goal
 
 abbrev pub invariant-loop-case : goal.invariant-loop-case
-invariant-loop-case l = list_all (case_lands (marks_of l.list)) (drop l.case-index l.cases) ≡ list_all (case_lands (marks_of l.list)) l.cases
+invariant-loop-case l = list_all (case_lands l.marks) (drop l.case-index l.cases) ≡ list_all (case_lands l.marks) l.cases

@@ -1,6 +1,5 @@
-use Rattle.std.proofs.Common.{rules, sym, ◌∙◌, ◌≡◌, false, true, Some, None, refl, ltb, arith}
+use Rattle.std.proofs.Common.{sym, ◌∙◌, ◌≡◌, false, true, Some, None, refl, ltb}
 use Rattle.std.proofs.lemmas.Bool.{lt-ltb, le-ltb}
-use Rattle.jc_class_out.specs.Spelling.{number_if}
 use Rattle.jc_class_out.proofs.Pools.{number_is}
 use Rattle.jc_class_out.proofs.pool.number.Goals as goal
 

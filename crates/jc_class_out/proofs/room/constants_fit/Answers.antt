@@ -1,4 +1,3 @@
-use Rattle.std.proofs.Common.{◌∙◌, Bool}
 use Rattle.jc_class_out.specs.declared.room.Checker.{Checker}
 use Rattle.jc_class_out.specs.Spelling.{uses}
 use Rattle.jc_class_out.proofs.Census.{told_checks}

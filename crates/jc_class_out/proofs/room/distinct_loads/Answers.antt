@@ -1,7 +1,5 @@
-use Rattle.std.proofs.Common.{List, [], ◌++◌, ◌≡◌, refl, sym, ◌∙◌, rules}
-use Rattle.std.proofs.lemmas.List.{append-nil}
+use Rattle.std.proofs.Common.{[], ◌≡◌, refl, sym}
 use Rattle.jc_class_out.specs.declared.room.Census.{Census}
-use Rattle.jc_class_out.specs.Pool.{Known}
 use Rattle.jc_class_out.specs.Spelling.{adds, loads_of, members_uses, uses}
 use Rattle.jc_class_out.specs.Fitting.{places}
 use Rattle.jc_class_out.proofs.Census.{told_census}

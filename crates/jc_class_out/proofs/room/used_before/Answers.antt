@@ -1,4 +1,3 @@
-use Rattle.std.proofs.Common.{◌∙◌, ℕ, Bool}
 use Rattle.jc_class_out.specs.declared.room.Finder.{Finder}
 use Rattle.jc_class_out.specs.Spelling.{known, uses}
 use Rattle.jc_class_out.proofs.Census.{told_finds}

@@ -1,6 +1,5 @@
 use Rattle.std.proofs.Common.{rules, List, [], ◌≡◌, ◌∙◌, ap}
 use Rattle.jc_class_out.specs.declared.writer.Gatherer.{Gatherer}
-use Rattle.jc_class_out.specs.Pool.{Known}
 use Rattle.jc_class_out.specs.Spelling.{knowns, adds, uses}
 use Rattle.jc_class_out.proofs.Tellings.{told_adds}
 use Rattle.jc_class_out.proofs.writer.pool_of.Goals as goal

@@ -1,5 +1,5 @@
-use Rattle.std.proofs.Common.{rules, arith, ◌≡◌, ◌++◌, ◌∙◌, ap, sym, List, ℕ, drop, length}
-use Rattle.jc_class_out.specs.Spelling.{knowns, spell_ins, spell_code}
+use Rattle.std.proofs.Common.{rules, arith, ◌≡◌, length}
+use Rattle.jc_class_out.specs.Spelling.{knowns, spell_code}
 use Rattle.jc_class_out.proofs.Codes.{code_goes_on, code_done}
 use Rattle.jc_class_out.proofs.writing.put_code.Goals as goal
 

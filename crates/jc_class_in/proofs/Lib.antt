@@ -1,0 +1,10 @@
+pub mod Rows
+pub mod Slots
+pub mod Spelled
+pub mod Cases
+pub mod Marked
+pub mod Taken
+pub mod Coded
+pub mod Framed
+pub mod Typed
+pub mod Sorted
