@@ -1,1 +1,4 @@
+pub mod LevelActs
+pub mod LevelFollowed
+pub mod LevelSpelled
 pub mod LevelTests
