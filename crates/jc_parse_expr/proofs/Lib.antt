@@ -1,4 +1,5 @@
 pub mod LevelActs
+pub mod LevelChains
 pub mod LevelFlat
 pub mod LevelFollowed
 pub mod LevelLasts
