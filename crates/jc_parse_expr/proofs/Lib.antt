@@ -1,0 +1,9 @@
+pub mod LevelActs
+pub mod LevelChains
+pub mod LevelFlat
+pub mod LevelFollowed
+pub mod LevelLasts
+pub mod LevelOps
+pub mod LevelShapes
+pub mod LevelSpelled
+pub mod LevelTests
