@@ -4,3 +4,6 @@ pub mod PrimeKinds
 pub mod PrimeTokens
 pub mod CreationSkips
 pub mod CreationArrays
+pub mod CreationRooms
+pub mod CreationTails
+pub mod CreationForms
