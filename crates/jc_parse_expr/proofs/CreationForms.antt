@@ -35,21 +35,22 @@ use Rattle.jc_reading.specs.Kinds.{sign_code, word_code, front_code, one_of}
 use Rattle.jc_reading.specs.Reading.{Read, Found, Stopped, Run, becoming, joined, ◌>>=◌, Either, This, That, either, Takes}
 use Rattle.jc_reading.proofs.Steps.{Refuses, IsFound, found_becoming, found_bind, takes_cut}
 use Rattle.jc_reading.proofs.Forms.{Form, Lawful, Stands}
+use Rattle.jc_reading.proofs.Pairs.{cut}
 use Rattle.jc_reading.proofs.Lists.{tell_all, fits_all}
 use Rattle.jc_reading.proofs.Rooms.{room_above, room_max}
 use Rattle.jc_reading.proofs.Signs.{apart_sets, within_sets, sign_laws}
 use Rattle.jc_parse_type.specs.TypeReading.{primitive_codes, class_run}
 use Rattle.jc_parse_type.proofs.TypeForms.{class_form, class_laws, arg_laws, word_form, word_laws, goes_on_class}
 use Rattle.jc_parse_parts.specs.Reading.{with_room, by_value}
-use Rattle.jc_parse_parts.proofs.Coded.{Coded, formed, coded, coded_laws, in_order, in_order_laws, one_or, Apart, made, Makes, made_laws, Same, same_makes}
+use Rattle.jc_parse_parts.proofs.Coded.{Coded, formed, coded, coded_laws, in_order, in_order_laws, one_or, one_or_laws, Apart, made, Makes, made_laws, Same, same_makes}
 use Rattle.jc_parse_parts.proofs.Depends.{depending, Depends, depending_laws}
 use Rattle.jc_parse_parts.proofs.Lowest.{Law, Void, roomy, never_second}
 use Rattle.jc_parse_parts.proofs.PartForms.{sign_form}
-use Rattle.jc_parse_expr.specs.PrimeReading.{Initial, Lengths, ArrayTail, ObjectTail, ClassTail, array_tail_run, class_tail_run, array_creation, class_creation, creation_made, creation_run}
+use Rattle.jc_parse_expr.specs.PrimeReading.{Initial, Lengths, ArrayTail, ObjectTail, ClassTail, array_tail_run, object_tail_run, class_tail_run, array_creation, class_creation, creation_made, creation_run}
 use Rattle.jc_parse_expr.proofs.PrimeTokens.{any_expr, actuals_coded, fit_all, all_standing}
 use Rattle.jc_parse_expr.proofs.CreationArrays.{array_coded}
 use Rattle.jc_parse_expr.proofs.CreationRooms.{Below, expr_below, room_same, lawful_room, void_room, one_or_second, found_this, found_that}
-use Rattle.jc_parse_expr.proofs.CreationTails.{initial, initial_laws, lengths_laws, brackets_coded, array_tail, array_tail_law, object_coded, object_fits, fits_object, object_form, object_form_laws, tail_starts, tail_goes, class_tail, class_tail_laws, tail_meets}
+use Rattle.jc_parse_expr.proofs.CreationTails.{initial, initial_laws, lengths, lengths_laws, brackets_coded, array_tail, array_tail_law, object_coded, object_fits, fits_object, object_form, object_form_laws, tail_starts, tail_goes, class_tail, class_tail_laws, tail_meets}
 use Rattle.jc_parse_parts.proofs.AnnotationForms.{room_and}
 
 shuffle_sized : (b e m g s : Bool) → (((b && e) && m) && (g && s)) ≡ (b && ((e && g) && (m && s)))
@@ -224,3 +225,114 @@ module _ (h : ℕ) (expr : Run Expr) (array : Run ArrayInit) (below : Below h ex
       made_laws (Either ((ℕ × PrimitiveWord) × ArrayTail) (ClassTree × ClassTail)) Creation Sides creation_made creation_tokens creation_fits sides_laws
       (same_makes (Either ((ℕ × PrimitiveWord) × ArrayTail) (ClassTree × ClassTail)) Creation Sides creation_made creation_tokens creation_fits
       (record { told = told_creation; fit = fit_creation; back = λ c. back_creation c (out-Creation c) refl }))
+
+  -- a creation that is no array with lengths is found exactly where no body follows
+
+  abbrev Brackets : Coded (Either Initial Lengths)
+  Brackets = one_or (sign_code sign_of.RightBracket ∷ []) (initial h expr array below) (lengths h expr array below)
+
+  array_exact : (m : List Token) (u : Unit {0}) (p : Initial) (r : List Token) → Stands (formed ATail) m (u, This p) r → (one_of (sign_code sign_of.LeftBracket ∷ []) m ≡ true) × IsFound (u, This p) r (ATail.run m)
+  array_exact m u p r s =
+      ⊎_elim
+      (λ v. absurd (false≢true (sym (v.1.1.never p.1.1) ∙ s.1)))
+      (λ l.
+        let li = initial_laws h expr array below l.1.1 in
+        let lb = one_or_laws Initial Lengths (sign_code sign_of.RightBracket ∷ []) (initial h expr array below) (lengths h expr array below) li (lengths_laws h expr array below l.1.0) (record { solid = refl; solid' = refl; this = refl; that = refl }) in
+        let c = cut (Unit {0}) (Either Initial Lengths) (formed (sign_form sign_of.LeftBracket)) (formed Brackets) (sign_laws sign_of.LeftBracket) lb (λ ts e. refl) m (u, This p) r s in
+        let first = (sign_laws sign_of.LeftBracket).exact m u c.0 c.1 refl in
+        let second = found_this (sign_code sign_of.RightBracket ∷ []) (initial h expr array below).run (lengths h expr array below).run c.0 p r
+          (⊎_elim (λ o. o.0) (λ o. absurd (false≢true o.1)) (li.opens c.0 p r c.2)) (li.exact c.0 p r c.2 refl) in
+        let whole = found_bind u c.0 (u, This p) r ((sign_form sign_of.LeftBracket).run m) (λ a q. becoming (joined a) (Brackets.run q)) first (found_becoming (joined u) (This p) r (Brackets.run c.0) second) in
+        (⊎_elim (λ o. o.0) (λ o. absurd (false≢true o.1)) ((sign_laws sign_of.LeftBracket).opens m u c.0 c.1),
+        subst (λ (w : Read ArrayTail). IsFound (u, This p) r w) (room_same h (brackets_coded h expr array below).run l.0 m) whole))
+      below
+
+  abbrev Sized_tail : ArrayTail → Bool
+  Sized_tail (u, This p) = false
+  Sized_tail (u, That p) = true
+
+  abbrev Sized_class : ClassTail → Bool
+  Sized_class (This t) = Sized_tail t
+  Sized_class (That p) = false
+
+  abbrev Sized_side : Either ((ℕ × PrimitiveWord) × ArrayTail) (ClassTree × ClassTail) → Bool
+  Sized_side (This p) = Sized_tail p.1
+  Sized_side (That p) = Sized_class p.1
+
+  sized_array : (el : BaseTree) (t : ArrayTail) → (creation_shape (array_creation el t)).sized ≡ Sized_tail t
+  sized_array el (u, This p) = ap (λ (s : CreationShape). s.sized) (creation_shape-Initialised el p.1.0 p.1.1)
+  sized_array el (u, That p) = ap (λ (s : CreationShape). s.sized) (creation_shape-Sized el p.0 (sizes p.1.1.0) p.1.1.1)
+
+  sized_side : (o : Either ((ℕ × PrimitiveWord) × ArrayTail) (ClassTree × ClassTail)) → (creation_shape (creation_made o)).sized ≡ Sized_side o
+  sized_side (This p) = sized_array (base_of.Primitive p.0.0 p.0.1) p.1
+  sized_side (That (class, This t)) = sized_array (base_of.Class class) t
+  sized_side (That (class, That p)) = ap (λ (s : CreationShape). s.sized) (creation_shape-Object class p.0 p.1.0 p.1.1)
+
+  word_exact : (ts : List Token) (w : ℕ × PrimitiveWord) (t : ArrayTail) (r : List Token) → Stands (formed WordArray) ts (w, t) r → Sized_tail t ≡ false → (one_of primitive_codes ts ≡ true) × IsFound (w, t) r (of_word.run ts)
+  word_exact ts w (u, That p) r s n = absurd (false≢true (sym n))
+  word_exact ts w (u, This p) r s n =
+      ⊎_elim
+      (λ v. absurd (false≢true (sym (v.1.1.never p.1.1) ∙ s.1)))
+      (λ l. ⊎_elim
+      (λ la.
+        let c = cut (ℕ × PrimitiveWord) ArrayTail (formed Word) (formed ATail) word_laws la (λ ts e. refl) ts (w, (u, This p)) r s in
+        let e = array_exact c.0 u p r c.2 in
+        let whole = found_bind w c.0 (w, (u, This p)) r (Word.run ts) (λ a q. becoming (joined a) (ATail.run q)) (word_laws.exact ts w c.0 c.1 refl) (found_becoming (joined w) (u, This p) r (ATail.run c.0) e.1) in
+        (⊎_elim (λ o. o.0) (λ o. absurd (false≢true o.1)) (word_laws.opens ts w c.0 c.1),
+        subst (λ (v : Read ((ℕ × PrimitiveWord) × ArrayTail)). IsFound (w, (u, This p)) r v) (room_same h WordArray.run l.0 ts) whole))
+      (λ v. absurd (false≢true (sym (v.never (u, This p)) ∙ s.1))) (array_tail_law h expr array below))
+      below
+
+  no_bracket : (ts : List Token) → (object_form h expr array below true).starts ts ≡ true → one_of (sign_code sign_of.LeftBracket ∷ []) ts ≡ false
+  no_bracket ts e =
+      ⊎_elim (λ t. apart_sets (sign_code sign_of.Less ∷ []) (sign_code sign_of.LeftBracket ∷ []) refl (front_code ts) (and_parts (one_of (sign_code sign_of.Less ∷ []) ts) _ t).0)
+      (λ t. apart_sets (sign_code sign_of.LeftParen ∷ []) (sign_code sign_of.LeftBracket ∷ []) refl (front_code ts) t) (or_cases _ (one_of (sign_code sign_of.LeftParen ∷ []) ts) e)
+
+  tail_exact : (class : ClassTree) (m : List Token) (t : ClassTail) (r : List Token) → Stands (class_tail h expr array below class) m t r → Sized_class t ≡ false → one_of (sign_code sign_of.LeftBrace ∷ []) r ≡ false → IsFound t r (class_tail_run h expr array class m)
+  tail_exact class m (This (u, That p)) r s n e = absurd (false≢true (sym n))
+  tail_exact class m (This (u, This p)) r s n e =
+      let f = array_exact m u p r s in
+      found_this (sign_code sign_of.LeftBracket ∷ []) (array_tail_run h expr array) (object_tail_run h expr (ends_bare class)) m (u, This p) r f.0 f.1
+  tail_exact class m (That p) r s n e =
+      let lo = object_form_laws h expr array below (ends_bare class) in
+      found_that (sign_code sign_of.LeftBracket ∷ []) (array_tail_run h expr array) (object_tail_run h expr (ends_bare class)) m p r
+      (no_bracket m (⊎_elim (λ o. o.0) (λ o. absurd (false≢true o.1)) (lo.opens m p r s))) (lo.exact m p r s e)
+
+  cut_class : (ts : List Token) (p : ClassTree × ClassTail) (r : List Token) → Stands of_class ts p r → (m : List Token) × Stands (class_form h (arg_laws h)) ts p.0 m × Stands (class_tail h expr array below p.0) m p.1 r
+  cut_class ts p r s =
+      let f = and_parts ((class_form h (arg_laws h)).fits p.0) ((class_tail h expr array below p.0).fits p.1) s.1 in
+      let e = subst (λ (l : List Told). Takes false l ts r) ((class_laws h (arg_laws h)).appends p.0 ((class_tail h expr array below p.0).tell p.1 []) f.0) s.0 in
+      let w = takes_cut false (class_tokens p.0 []) ((class_tail h expr array below p.0).tell p.1 []) ts r e in
+      (w.0, (w.1, f.0), (w.2, f.1))
+
+  class_exact : (ts : List Token) (p : ClassTree × ClassTail) (r : List Token) → Stands of_class ts p r → Sized_class p.1 ≡ false → one_of (sign_code sign_of.LeftBrace ∷ []) r ≡ false → IsFound p r (of_class.run ts)
+  class_exact ts p r s n e =
+      let c = cut_class ts p r s in
+      let met = tail_meets h expr array below c.0 (⊎_elim (λ o. o.0) (λ o. absurd (false≢true o.1)) ((class_tail_laws h expr array below p.0).opens c.0 p.1 r c.2)) in
+      found_bind p.0 c.0 p r ((class_form h (arg_laws h)).run ts) (λ a q. becoming (joined a) (class_tail_run h expr array a q)) ((class_laws h (arg_laws h)).exact ts p.0 c.0 c.1 met)
+      (found_becoming (joined p.0) p.1 r (class_tail_run h expr array p.0 c.0) (tail_exact p.0 c.0 p.1 r c.2 n e))
+
+  side_exact : (ts : List Token) (o : Either ((ℕ × PrimitiveWord) × ArrayTail) (ClassTree × ClassTail)) (r : List Token) → Stands (formed Sides) ts o r → Sized_side o ≡ false → one_of (sign_code sign_of.LeftBrace ∷ []) r ≡ false → IsFound o r (Sides.run ts)
+  side_exact ts (This p) r s n e = let f = word_exact ts p.0 p.1 r s n in found_this primitive_codes of_word.run of_class.run ts p r f.0 f.1
+  side_exact ts (That p) r s n e =
+      found_that primitive_codes of_word.run of_class.run ts p r
+      (apart_sets (word_code ∷ []) primitive_codes refl (front_code ts) (⊎_elim (λ o. o.0) (λ o. absurd (false≢true o.1)) (of_class_coded.opens ts p r s))) (class_exact ts p r s n e)
+
+  pub creation_exact : (ts : List Token) (c : Creation) (r : List Token) → Stands (formed creation_coded) ts c r → (creation_shape c).sized ≡ false → one_of (sign_code sign_of.LeftBrace ∷ []) r ≡ false → IsFound c r (creation_run h expr array ts)
+  unfolding creation_run
+  creation_exact ts c r s n e =
+      let w = back_creation c (out-Creation c) refl in
+      let told : Takes false (Sides.tell w.0 []) ts r = subst (λ (l : List Told). Takes false l ts r) (ap (λ (k : Creation). creation_tokens k []) (sym w.1) ∙ told_creation w.0 []) s.0 in
+      let fit : Sides.fits w.0 ≡ true = sym (fit_creation w.0) ∙ ap creation_fits w.1 ∙ s.1 in
+      let size : Sized_side w.0 ≡ false = sym (sized_side w.0) ∙ ap (λ (k : Creation). (creation_shape k).sized) w.1 ∙ n in
+      let f = side_exact ts w.0 r (told, fit) size e in
+      subst (λ (k : Creation). IsFound k r (becoming creation_made (Sides.run ts))) w.1 (found_becoming creation_made w.0 r (Sides.run ts) f)
+
+  -- behind a creation stands a selector, which is no bracket where the creation has lengths
+  abbrev pub selector_codes : List ℕ
+  selector_codes = sign_code sign_of.Dot ∷ sign_code sign_of.LeftBracket ∷ []
+
+  pub creation_next : (ts : List Token) (c : Creation) (r : List Token) → Stands (formed creation_coded) ts c r → one_of selector_codes r ≡ true → ((creation_shape c).sized ≡ true → one_of (sign_code sign_of.Dot ∷ []) r ≡ true) → IsFound c r (creation_run h expr array ts)
+  creation_next ts c r s e f =
+      ⊎_elim (λ t. creation_laws.exact ts c r s (apart_sets (sign_code sign_of.Dot ∷ []) Sides.goes refl (front_code r) (f t)))
+      (λ n. creation_exact ts c r s n (apart_sets selector_codes (sign_code sign_of.LeftBrace ∷ []) refl (front_code r) e)) (cases_Bool (creation_shape c).sized)

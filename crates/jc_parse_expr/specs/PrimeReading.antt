@@ -24,7 +24,8 @@ use Rattle.jc_tree.specs.declared.expression.ArrayInit.{ArrayInit, roll-ArrayIni
 use Rattle.jc_tree.specs.declared.expression.Skip.{Skip, roll-Skip}
 use Rattle.jc_tree.specs.declared.expression.SkipPart.{SkipPart}
 use Rattle.jc_tree.specs.declared.expression.SkipPart.TheVariants as skip_part_of
-use Rattle.jc_grammar.specs.Shapes.{is_brace, ends_bare}
+use Rattle.jc_tree.specs.Heights.{expr_height}
+use Rattle.jc_grammar.specs.Shapes.{is_brace, ends_bare, expr_shape}
 use Rattle.jc_reading.specs.Kinds.{sign_code, key_code}
 use Rattle.jc_reading.specs.Reading.{Read, Found, Stopped, Run, found, as_new, in_turn, perhaps, any_number, each_behind, Either, This, That, either, picking, behind_it, commas_run, of_kind, at_kind, an_ident_at}
 use Rattle.jc_parse_type.specs.TypeReading.{dims_run, type_run, class_run, arg_run, word_run, primitive_codes, at_its_place}
@@ -166,3 +167,53 @@ creation_made (That p) = class_creation p.0 p.1
 unfoldable pub creation_run : ℕ → Run Expr → Run ArrayInit → Run Creation
 creation_run h expr array =
     as_new creation_made (either primitive_codes (with_room h (in_turn word_run (array_tail_run h expr array))) (by_value (class_run h) (class_tail_run h expr array)))
+
+-- behind a point: [Args] Id Actuals, or Id [Actuals]
+abbrev pub SomeArgs : Type 0
+SomeArgs = Unit {0} × (List TypeArg × Unit {0})
+
+abbrev pub Member : Type 0
+Member = Either (SomeArgs × (Ident × List Expr)) (Ident × Option (List Expr))
+
+abbrev pub some_args_run : ℕ → Run SomeArgs
+some_args_run h = in_turn (of_kind (sign_code sign_of.Less)) (in_turn (commas_run (arg_run h (type_run h))) (of_kind (sign_code sign_of.Greater)))
+
+abbrev pub named_run : Run Expr → Run (Ident × Option (List Expr))
+named_run expr = in_turn an_ident_at (perhaps (actuals_run expr))
+
+abbrev pub member_run : ℕ → Run Expr → Run Member
+member_run h expr = either (sign_code sign_of.Less ∷ []) (in_turn (some_args_run h) (in_turn an_ident_at (actuals_run expr))) (named_run expr)
+
+-- a selector: "[" Expr "]", "." "new" Creation, or "." and a member
+abbrev pub Indexed : Type 0
+Indexed = Unit {0} × (Expr × Unit {0})
+
+abbrev pub Dotted : Type 0
+Dotted = Unit {0} × Either (Unit {0} × Creation) Member
+
+abbrev pub Selector : Type 0
+Selector = Either Indexed Dotted
+
+abbrev pub indexed_run : ℕ → Run Expr → Run Indexed
+indexed_run h expr = with_room h (in_turn (of_kind (sign_code sign_of.LeftBracket)) (in_turn expr (of_kind (sign_code sign_of.RightBracket))))
+
+abbrev pub dotted_run : ℕ → Run Expr → Run ArrayInit → Run Dotted
+dotted_run h expr array =
+    in_turn (of_kind (sign_code sign_of.Dot)) (either (key_code key_of.New ∷ []) (in_turn (of_kind (key_code key_of.New)) (creation_run h expr array)) (member_run h expr))
+
+-- with room for a value that is selected from, and behind an array with lengths or not
+abbrev pub selector_run : ℕ → Run Expr → Run ArrayInit → Bool → Bool → Run Selector
+selector_run h expr array true false = either (sign_code sign_of.LeftBracket ∷ []) (indexed_run h expr) (dotted_run h expr array)
+selector_run h expr array true true = as_new That (dotted_run h expr array)
+selector_run h expr array false sized = λ ts. Stopped (length ts)
+
+abbrev pub selected : Expr → Selector → Expr
+selected v (This p) = expr_of.Index v p.1.0
+selected v (That (u, This p)) = expr_of.InnerNew v p.1
+selected v (That (u, That (This p))) = expr_of.Call v p.0.1.0 p.1.0 p.1.1
+selected v (That (u, That (That (name, None)))) = expr_of.Field v name
+selected v (That (u, That (That (name, Some list)))) = expr_of.Call v [] name list
+
+-- the selectors behind a value of height at most one more than h
+abbrev pub selectors_run : ℕ → Run Expr → Run ArrayInit → Expr → Run Selector
+selectors_run h expr array v = selector_run h expr array (nat_le (expr_height v) h) (expr_shape v).sized
