@@ -1,3 +1,8 @@
+pub mod CreationArrays
+pub mod CreationForms
+pub mod CreationRooms
+pub mod CreationSkips
+pub mod CreationTails
 pub mod LevelActs
 pub mod LevelChains
 pub mod LevelFlat
@@ -7,3 +12,7 @@ pub mod LevelOps
 pub mod LevelShapes
 pub mod LevelSpelled
 pub mod LevelTests
+pub mod PrimeGrowing
+pub mod PrimeKinds
+pub mod PrimeSteps
+pub mod PrimeTokens

@@ -1,1 +1,3 @@
+pub mod Growing
 pub mod LevelReading
+pub mod PrimeReading
