@@ -49,7 +49,7 @@ module _ (A B : Type 0) (ops : List (List ℕ)) (fo : Form A) (fb : Form B) wher
     refuses_on : (ts : List Token) (m : Read A) → Good (Stands fo ts) m → acts ops ts ≡ false → Refuses false ts (m >>= (λ a q. becoming (joined a) (fb.run q)))
     refuses_on ts (Found a q l) g e =
         let none : one_of expr_codes q ≡ false =
-            ⊎_elim (λ (t : one_of expr_codes q ≡ true). absurd (false≢true (sym e ∙ d.seen ts a q g t))) (λ (f : one_of expr_codes q ≡ false). f) (cases_Bool (one_of expr_codes q)) in
+        ⊎_elim (λ (t : one_of expr_codes q ≡ true). absurd (false≢true (sym e ∙ d.seen ts a q g t))) (λ (f : one_of expr_codes q ≡ false). f) (cases_Bool (one_of expr_codes q)) in
         refuses_next (fb.run q) a ts q l fb.empties d.solid' (lb.refuses q (no_start q none))
     refuses_on ts (Stopped l) g e = refl
 

@@ -37,9 +37,10 @@ flat_forth touched b [] [] ts r w k s = s
 flat_forth touched b [] (e ∷ a) ts r w k s = absurd k
 flat_forth touched b (d ∷ f) [] ts r w k s = absurd k
 flat_forth touched b (d ∷ f) (e ∷ a) [] r w k s = absurd s
-flat_forth touched b (d ∷ f) (e ∷ a) (t ∷ ts) r w k s =
-    ((s.0.0 ∙ k.0, subst (λ o. StandsAt o t.from) k.1 s.0.1, λ j. s.0.2 (k.2 ∙ j), λ q. ⊎_elim (λ (p : d.apart ≡ true). s.0.3 p) (λ (p : b ≡ false). never_both touched b w p) (k.3 q)),
-    flat_forth (is_greater t.kind && t.touches) (is_greater d.kind) f a ts r (touched_next t.kind d.kind t.touches s.0.0) k.5 s.1)
+flat_forth touched b (d ∷ f) (e ∷ a) (t ∷ ts) r w k s = (
+  (s.0.0 ∙ k.0, subst (λ o. StandsAt o t.from) k.1 s.0.1, λ j. s.0.2 (k.2 ∙ j), λ q. ⊎_elim (λ (p : d.apart ≡ true). s.0.3 p) (λ (p : b ≡ false). never_both touched b w p) (k.3 q)),
+  flat_forth (is_greater t.kind && t.touches) (is_greater d.kind) f a ts r (touched_next t.kind d.kind t.touches s.0.0) k.5 s.1,
+)
 
 pub flat_back : (touched b : Bool) (f a : List Told) (ts r : List Token) → Flat b f a → Takes touched a ts r → Takes touched f ts r
 flat_back touched b [] [] ts r k s = s

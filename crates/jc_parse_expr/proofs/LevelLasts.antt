@@ -207,9 +207,9 @@ module _ (n : ℕ) (lower : (e : Expr) → expr_height e < n → stands 9 (expr_
       pass (type_tokens ty) (type_frames ty) (sign sign_of.RightParen ∷ expr_tokens operand [])
       (λ c. lower operand (omega arith) (tighter (is_primitive ty) (and_parts (stands (if is_primitive ty then unary_level else plain_level) (expr_shape operand)) true g).0) false) false
     where
-    tighter : (c : Bool) → stands (if c then unary_level else plain_level) (expr_shape operand) ≡ true → stands 9 (expr_shape operand) ≡ true
-    tighter true s = looser 12 operand (omega arith) s
-    tighter false s = looser 13 operand (omega arith) s
+      tighter : (c : Bool) → stands (if c then unary_level else plain_level) (expr_shape operand) ≡ true → stands 9 (expr_shape operand) ≡ true
+      tighter true s = looser 12 operand (omega arith) s
+      tighter false s = looser 13 operand (omega arith) s
   layer (Expr-F.Postfix of_it op) h g = pass (expr_tokens of_it) (expr_frames of_it) (sign (postfix_sign op) ∷ []) (postfix_silent op)
   layer (Expr-F.Field of_it name) h g = pass (expr_tokens of_it) (expr_frames of_it) (sign sign_of.Dot ∷ ident name ∷ []) (λ b. refl)
   layer (Expr-F.Call of_it type_args name args) h g =

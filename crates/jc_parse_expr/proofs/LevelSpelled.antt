@@ -29,12 +29,16 @@ module _ (A : Type 0) (fa : Form A) (tell : A → List Told → List Told) where
 
     pub respelled_laws : Lawful A respelled
     respelled_laws = record {
-      appends = d.appends; plain = d.plain; within = la.within;
+      appends = d.appends;
+      plain = d.plain;
+      within = la.within;
       sound = λ ts. good_more ts (fa.run ts) (la.sound ts);
       longest = λ ts a r s. la.longest ts a r (stands_back ts a r s);
       exact = λ ts a r s g. la.exact ts a r (stands_back ts a r s) g;
       opens = λ ts a r s. la.opens ts a r (stands_back ts a r s);
-      refuses = la.refuses; total = la.total; local = la.local;
+      refuses = la.refuses;
+      total = la.total;
+      local = la.local;
       begins = λ ts. begins_as A A fa respelled (λ a. a) ts (reach (fa.run ts)) (λ us a z s. stands_forth us a z s) (la.begins ts);
       least = record { value = la.least.value; tokens = la.least.tokens; spelled = λ z. stands_forth (la.least.tokens ++ z) la.least.value z (la.least.spelled z) };
     }

@@ -1,11 +1,3 @@
-//! The parser of expressions (JLS 15).
+//! How expressions are read (JLS 15). The readers stand in `specs/`, and that they read what the grammar spells in `proofs/`; the parser
+//! of expressions is to stand on them.
 #![tactic(auto)]
-
-ghost use Rattle.std.specs.Prelude.{◌≡◌};
-
-/// Nothing yet.
-pub fn one() -> u32
-    ensures { result ≡ 1 }
-{
-    1
-}

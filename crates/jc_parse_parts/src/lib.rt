@@ -1,11 +1,3 @@
-//! The parser of the parts of units: names, annotations, modifiers, type parameters, formals, variables and heads (JLS 7, 8, 9).
+//! How the parts of source files are read: names, annotations, modifiers, type parameters, formals, variables and heads (JLS 7, 8, 9).
+//! The readers stand in `specs/`, and that they read what the grammar spells in `proofs/`; the parser of units is to stand on them.
 #![tactic(auto)]
-
-ghost use Rattle.std.specs.Prelude.{◌≡◌};
-
-/// Nothing yet.
-pub fn one() -> u32
-    ensures { result ≡ 1 }
-{
-    1
-}

@@ -1,11 +1,3 @@
-//! The parser of statements, members and files (JLS 7, 8, 9, 14).
+//! How statements, members and source files are read (JLS 7, 8, 9, 14). The readers stand in `specs/`, and that they read what the
+//! grammar spells in `proofs/`; the parser of units is to stand on them.
 #![tactic(auto)]
-
-ghost use Rattle.std.specs.Prelude.{◌≡◌};
-
-/// Nothing yet.
-pub fn one() -> u32
-    ensures { result ≡ 1 }
-{
-    1
-}
