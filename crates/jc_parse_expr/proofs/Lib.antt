@@ -4,6 +4,8 @@ pub mod LevelFlat
 pub mod LevelFollowed
 pub mod LevelLasts
 pub mod LevelOps
+pub mod LevelPrefixes
+pub mod LevelRanks
 pub mod LevelShapes
 pub mod LevelSpelled
 pub mod LevelTests
