@@ -1,4 +1,5 @@
 pub mod LevelActs
+pub mod LevelCasts
 pub mod LevelChains
 pub mod LevelFlat
 pub mod LevelFollowed
@@ -9,3 +10,4 @@ pub mod LevelRanks
 pub mod LevelShapes
 pub mod LevelSpelled
 pub mod LevelTests
+pub mod LevelUnaries

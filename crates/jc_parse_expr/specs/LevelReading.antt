@@ -187,17 +187,21 @@ abbrev pub operand_for : Bool → Run Expr → Run Expr → Run Expr
 operand_for true unary plain = unary
 operand_for false unary plain = plain
 
-abbrev pub cast_made : (ℕ × ((TypeTree × Unit {0}) × Expr)) → Expr
-cast_made p = expr_of.Cast p.0 p.1.0.0 p.1.1
+abbrev pub CastParts : Type 0
+CastParts = ℕ × ((TypeTree × Unit {0}) × Expr)
 
-unfoldable pub cast_run : ℕ → Run Expr → Run Expr → Run Expr
+abbrev pub cast_run : ℕ → Run Expr → Run Expr → Run CastParts
 cast_run h unary plain =
-    as_new cast_made (in_turn (at_kind (sign_code sign_of.LeftParen)) (by_value (in_turn (type_run h) (of_kind (sign_code sign_of.RightParen))) (λ p. operand_for (is_primitive p.0) unary plain)))
+    in_turn (at_kind (sign_code sign_of.LeftParen)) (by_value (in_turn (type_run h) (of_kind (sign_code sign_of.RightParen))) (λ p. operand_for (is_primitive p.0) unary plain))
 
--- Bare = Cast | Post, of height h + 1
+abbrev pub bare_made : Either CastParts Expr → Expr
+bare_made (This p) = expr_of.Cast p.0 p.1.0.0 p.1.1
+bare_made (That e) = e
+
+-- Bare = Cast | Post, of height h + 1, of Unary and Plain of height h and of Post of height h + 1
 unfoldable pub bare_run : ℕ → Run Expr → Run Expr → Run Expr → Run Expr
 bare_run zero unary plain post = post
-bare_run (suc k) unary plain post = as_new either_one (preferring (cast_run (suc k) unary plain) post)
+bare_run (suc k) unary plain post = as_new bare_made (preferring (cast_run (suc k) unary plain) post)
 
 -- conditionals and assignments
 
