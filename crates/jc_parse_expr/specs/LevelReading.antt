@@ -1,8 +1,11 @@
 -- How the levels of expressions are read: casts, prefix operators, binary operators, conditionals and assignments (JLS 15.15 to 15.26).
 use Rattle.std.specs.Prelude.{ℕ, zero, suc, Bool, true, false, not, cond, ◌==◌, ◌&&◌, nat_le, List, [], ◌∷◌, map, Option, Some, None}
 use Rattle.jc_lexer.specs.declared.token.Key.TheVariants as key_of
+use Rattle.jc_lexer.specs.declared.token.Sign.{Sign}
 use Rattle.jc_lexer.specs.declared.token.Sign.TheVariants as sign_of
 use Rattle.jc_lexer.specs.declared.token.Token.{Token}
+use Rattle.jc_lexer.specs.declared.token.TokenKind.{TokenKind}
+use Rattle.jc_lexer.specs.declared.token.TokenKind.TheVariants as kind_of
 use Rattle.jc_tree.specs.declared.types.TypeTree.{TypeTree}
 use Rattle.jc_tree.specs.declared.expression.AssignOp.{AssignOp}
 use Rattle.jc_tree.specs.declared.expression.AssignOp.TheVariants as assign_of
@@ -19,7 +22,8 @@ use Rattle.jc_tree.specs.Heights.{expr_height}
 use Rattle.jc_reading.specs.Kinds.{kind_code, sign_code, key_code, one_of}
 use Rattle.jc_reading.specs.Reading.{Read, Found, Stopped, Run, found, as_new, in_turn, perhaps, any_number, Either, This, That, either, picking, of_kind, at_kind}
 use Rattle.jc_parse_type.specs.TypeReading.{type_run}
-use Rattle.jc_parse_parts.specs.Reading.{with_room, either_one, followed, preferring}
+use Rattle.jc_grammar.specs.Shapes.{is_primitive}
+use Rattle.jc_parse_parts.specs.Reading.{either_one, followed, preferring, by_value}
 
 -- a `>` that touches the next token
 abbrev pub picks_touching : Token → Option (Unit {0})
@@ -123,3 +127,106 @@ chain_made (first, p ∷ more) = expr_of.Chain first (map operand_made (p ∷ mo
 unfoldable pub chain_run : ℕ → Run BinaryOp → Run Expr → Run Expr → Run Expr
 chain_run zero op first next = first
 chain_run (suc k) op first next = as_new chain_made (followed (is_tall (suc k)) [] first (any_number (in_turn op next)))
+
+-- prefix operators
+
+abbrev pub prefix_of_sign : Sign → Option PrefixSign
+prefix_of_sign sign_of.Plus = Some prefix_of.Plus
+prefix_of_sign sign_of.Minus = Some prefix_of.Minus
+prefix_of_sign sign_of.Increment = Some prefix_of.Increment
+prefix_of_sign sign_of.Decrement = Some prefix_of.Decrement
+prefix_of_sign sign_of.Not = Some prefix_of.Not
+prefix_of_sign sign_of.Tilde = Some prefix_of.Complement
+prefix_of_sign _ = None
+
+abbrev pub prefix_of_kind : TokenKind → Option PrefixSign
+prefix_of_kind (kind_of.Sign s) = prefix_of_sign s
+prefix_of_kind _ = None
+
+abbrev pub prefix_placed : ℕ → Option PrefixSign → Option PrefixOp
+prefix_placed at None = None
+prefix_placed at (Some s) = Some (record { at = at; sign = s })
+
+abbrev pub picks_prefix : Token → Option PrefixOp
+picks_prefix t = prefix_placed t.from (prefix_of_kind t.kind)
+
+abbrev pub prefix_op_run : Run PrefixOp
+prefix_op_run = picking picks_prefix
+
+abbrev pub plain_op : Either ℕ ℕ → PrefixOp
+plain_op (This at) = record { at = at; sign = prefix_of.Not }
+plain_op (That at) = record { at = at; sign = prefix_of.Complement }
+
+-- `!` or `~`
+unfoldable pub plain_op_run : Run PrefixOp
+plain_op_run = as_new plain_op (either (sign_code sign_of.Not ∷ []) (at_kind (sign_code sign_of.Not)) (at_kind (sign_code sign_of.Tilde)))
+
+abbrev pub prefix_made : (PrefixOp × (List PrefixOp × Expr)) → Expr
+prefix_made p = expr_of.Prefix p.0 p.1.0 p.1.1
+
+abbrev pub prefix_codes : List ℕ
+prefix_codes = sign_code sign_of.Plus ∷ sign_code sign_of.Minus ∷ sign_code sign_of.Increment ∷ sign_code sign_of.Decrement ∷ sign_code sign_of.Not ∷ sign_code sign_of.Tilde ∷ []
+
+-- a chain of prefix operators before what is none, of height h
+abbrev pub prefix_run : Run PrefixOp → Run Expr → Run Expr
+prefix_run first bare = as_new prefix_made (in_turn first (in_turn (any_number prefix_op_run) bare))
+
+-- Plain of height h + 1, of Bare of height h + 1 and of height h
+unfoldable pub plain_run : ℕ → Run Expr → Run Expr → Run Expr
+plain_run zero bare lower = bare
+plain_run (suc k) bare lower = as_new either_one (either (sign_code sign_of.Not ∷ sign_code sign_of.Tilde ∷ []) (prefix_run plain_op_run lower) bare)
+
+-- Unary
+unfoldable pub unary_run : ℕ → Run Expr → Run Expr → Run Expr
+unary_run zero bare lower = bare
+unary_run (suc k) bare lower = as_new either_one (either prefix_codes (prefix_run prefix_op_run lower) bare)
+
+-- casts: behind a primitive type stands a Unary, behind another type a Plain
+
+abbrev pub operand_for : Bool → Run Expr → Run Expr → Run Expr
+operand_for true unary plain = unary
+operand_for false unary plain = plain
+
+abbrev pub CastParts : Type 0
+CastParts = ℕ × ((TypeTree × Unit {0}) × Expr)
+
+abbrev pub cast_run : ℕ → Run Expr → Run Expr → Run CastParts
+cast_run h unary plain =
+    in_turn (at_kind (sign_code sign_of.LeftParen)) (by_value (in_turn (type_run h) (of_kind (sign_code sign_of.RightParen))) (λ p. operand_for (is_primitive p.0) unary plain))
+
+abbrev pub bare_made : Either CastParts Expr → Expr
+bare_made (This p) = expr_of.Cast p.0 p.1.0.0 p.1.1
+bare_made (That e) = e
+
+-- Bare = Cast | Post, of height h + 1, of Unary and Plain of height h and of Post of height h + 1
+unfoldable pub bare_run : ℕ → Run Expr → Run Expr → Run Expr → Run Expr
+bare_run zero unary plain post = post
+bare_run (suc k) unary plain post = as_new bare_made (preferring (cast_run (suc k) unary plain) post)
+
+-- conditionals and assignments
+
+abbrev pub Branches : Type 0
+Branches = Option (Unit {0} × (Expr × (Unit {0} × Expr)))
+
+abbrev pub conditional_made : (Expr × Branches) → Expr
+conditional_made (test, None) = test
+conditional_made (test, Some p) = expr_of.Conditional test p.1.0 p.1.1.1
+
+-- Cond of height h + 1, of level 2 of height h + 1, and expressions and Cond of height h
+unfoldable pub conditional_run : ℕ → Run Expr → Run Expr → Run Expr → Run Expr
+conditional_run zero test expr conditional = test
+conditional_run (suc k) test expr conditional =
+    as_new conditional_made (followed (is_tall (suc k)) None test (perhaps (in_turn (of_kind (sign_code sign_of.Question)) (in_turn expr (in_turn (of_kind (sign_code sign_of.Colon)) conditional)))))
+
+abbrev pub assign_of_sign : Sign → Option AssignOp
+assign_of_sign sign_of.Assign = Some assign_of.Plain
+assign_of_sign sign_of.PlusAssign = Some assign_of.Plus
+assign_of_sign sign_of.MinusAssign = Some assign_of.Minus
+assign_of_sign sign_of.StarAssign = Some assign_of.Times
+assign_of_sign sign_of.SlashAssign = Some assign_of.Divide
+assign_of_sign sign_of.PercentAssign = Some assign_of.Remainder
+assign_of_sign sign_of.AndAssign = Some assign_of.And
+assign_of_sign sign_of.OrAssign = Some assign_of.Or
+assign_of_sign sign_of.CaretAssign = Some assign_of.Xor
+assign_of_sign sign_of.ShiftLeftAssign = Some assign_of.ShiftLeft
+assign_of_sign _ = None
