@@ -7,3 +7,6 @@ pub mod CreationArrays
 pub mod CreationRooms
 pub mod CreationTails
 pub mod CreationForms
+pub mod PrimeSelectors
+pub mod PrimeStarts
+pub mod PrimeSpecials
