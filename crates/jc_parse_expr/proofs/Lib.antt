@@ -10,3 +10,6 @@ pub mod CreationForms
 pub mod PrimeSelectors
 pub mod PrimeStarts
 pub mod PrimeSpecials
+pub mod PrimeParts
+pub mod PrimeForms
+pub mod PrimePrefers

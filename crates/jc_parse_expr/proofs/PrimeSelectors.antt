@@ -22,10 +22,11 @@ use Rattle.jc_reading.proofs.Steps.{IsFound, found_becoming, found_bind}
 use Rattle.jc_reading.proofs.Forms.{Form, Lawful, Stands}
 use Rattle.jc_reading.proofs.Pairs.{cut}
 use Rattle.jc_reading.proofs.Alikes.{alike, alike_laws}
-use Rattle.jc_reading.proofs.Signs.{apart_sets, within_sets, all_in, sign_laws, key_laws, ident_laws}
+use Rattle.jc_reading.proofs.Signs.{a_sign, apart_sets, within_sets, all_in, sign_laws, key_laws, ident_laws}
 use Rattle.jc_parse_type.specs.TypeReading.{arg_run, type_run}
 use Rattle.jc_parse_type.proofs.TypeForms.{arg_form, arg_laws, arg_codes, limit_codes, bracket_codes, goes_on_type, goes_on_class}
 use Rattle.jc_parse_parts.proofs.Coded.{Coded, formed, coded, coded_laws, in_order, in_order_laws, optional, optional_laws, listed, listed_laws, one_or, Apart, one_or_laws}
+use Rattle.jc_parse_parts.proofs.ExprForms.{expr_codes}
 use Rattle.jc_parse_parts.proofs.Lowest.{Law, Void, roomy}
 use Rattle.jc_parse_parts.proofs.PartForms.{sign_form, key_form, ident_form}
 use Rattle.jc_parse_expr.specs.PrimeReading.{SomeArgs, Member, Indexed, Dotted, Selector, creation_run, member_run, indexed_run, dotted_run, selector_run, selected, selectors_run}
@@ -97,10 +98,13 @@ module _ (h : ℕ) (expr : Run Expr) (array : Run ArrayInit) (below : Below h ex
   abbrev pub member : Coded Member
   member = one_or (sign_code sign_of.Less ∷ []) generic named
 
+  pub generic_laws : Lawful (SomeArgs × (Ident × List Expr)) (formed generic)
+  generic_laws = in_order_laws SomeArgs (Ident × List Expr) some_args (in_order ident_form Actuals) some_args_laws (in_order_laws Ident (List Expr) ident_form Actuals ident_laws la refl) refl
+
   pub member_laws : Lawful Member (formed member)
   member_laws =
       one_or_laws (SomeArgs × (Ident × List Expr)) (Ident × Option (List Expr)) (sign_code sign_of.Less ∷ []) generic named
-      (in_order_laws SomeArgs (Ident × List Expr) some_args (in_order ident_form Actuals) some_args_laws (in_order_laws Ident (List Expr) ident_form Actuals ident_laws la refl) refl)
+      generic_laws
       named_laws (record { solid = refl; solid' = refl; this = refl; that = refl })
 
   -- selectors
@@ -108,13 +112,13 @@ module _ (h : ℕ) (expr : Run Expr) (array : Run ArrayInit) (below : Below h ex
   abbrev pub inner_new : Coded (Unit {0} × Creation)
   inner_new = in_order (key_form key_of.New) New
 
-  inner_new_laws : Lawful (Unit {0} × Creation) (formed inner_new)
+  pub inner_new_laws : Lawful (Unit {0} × Creation) (formed inner_new)
   inner_new_laws = in_order_laws (Unit {0}) Creation (key_form key_of.New) New (key_laws key_of.New) (creation_laws h expr array below) refl
 
   abbrev pub behind_dot : Coded (Either (Unit {0} × Creation) Member)
   behind_dot = one_or (key_code key_of.New ∷ []) inner_new member
 
-  behind_dot_laws : Lawful (Either (Unit {0} × Creation) Member) (formed behind_dot)
+  pub behind_dot_laws : Lawful (Either (Unit {0} × Creation) Member) (formed behind_dot)
   behind_dot_laws = one_or_laws (Unit {0} × Creation) Member (key_code key_of.New ∷ []) inner_new member inner_new_laws member_laws (record { solid = refl; solid' = refl; this = refl; that = refl })
 
   abbrev pub dotted : Coded Dotted
@@ -250,3 +254,19 @@ module _ (h : ℕ) (expr : Run Expr) (array : Run ArrayInit) (below : Below h ex
       let f = first_selector (selected v p) m q r t in
       part_next (nat_le (expr_height v) h) (expr_shape v).sized ts p m s f.0 (λ e. f.1 (sized_selected v p ∙ e));
   }
+
+  -- a bracket, and behind it an expression
+  pub index_second : (ts : List Token) (p : Indexed) (r : List Token) → Stands (formed indexed) ts p r → (one_of (sign_code sign_of.LeftBracket ∷ []) ts ≡ true) × (one_of expr_codes (rest_of ts) ≡ true)
+  index_second ts p r s =
+      ⊎_elim
+      (λ v. absurd (false≢true (sym (and_left ((any_expr h expr).fits p.1.0) true (v.1.0.never p.1.0)) ∙ s.1)))
+      (λ l.
+        let lr = in_order_laws Expr (Unit {0}) (any_expr h expr) (sign_form sign_of.RightBracket) l.1.0 (sign_laws sign_of.RightBracket) refl in
+        let w = cut (Unit {0}) (Expr × Unit {0}) (formed (sign_form sign_of.LeftBracket)) (formed (in_order (any_expr h expr) (sign_form sign_of.RightBracket))) (sign_laws sign_of.LeftBracket) lr (λ us q. refl) ts p r s in
+        (⊎_elim (λ o. o.0) (λ o. absurd (false≢true o.1)) ((sign_laws sign_of.LeftBracket).opens ts p.0 w.0 w.1),
+        subst (λ (m : List Token). one_of expr_codes m ≡ true) (rest_is ts w.0 w.1) (⊎_elim (λ o. o.0) (λ o. absurd (false≢true o.1)) (lr.opens w.0 p.1 r w.2))))
+      below
+    where
+    rest_is : (ts m : List Token) → Stands (a_sign sign_of.LeftBracket) ts p.0 m → m ≡ rest_of ts
+    rest_is [] m t = absurd t.0
+    rest_is (k ∷ ts) m t = sym t.0.1

@@ -33,7 +33,7 @@ use Rattle.jc_grammar.proofs.ShapesOfExpressions.{expr_shape-ClassLiteral, expr_
 use Rattle.jc_grammar.proofs.TokensOfExpressions.{expr_tokens-ClassLiteral, expr_tokens-OuterThis}
 use Rattle.jc_grammar.proofs.TokensOfTypes.{type_tokens-made, base_tokens-Primitive, base_tokens-Class, class_tokens-made, part_tokens-made}
 use Rattle.jc_reading.specs.Kinds.{sign_code, key_code, word_code, front_code, one_of}
-use Rattle.jc_reading.specs.Reading.{Read, Run, becoming, Either, This, That, either, of_kind, rest_of}
+use Rattle.jc_reading.specs.Reading.{Read, Run, becoming, Either, This, That, either, of_kind, rest_of, Takes}
 use Rattle.jc_reading.proofs.Steps.{Refuses}
 use Rattle.jc_reading.proofs.Forms.{Form, Lawful, Stands}
 use Rattle.jc_reading.proofs.Pairs.{pair, pair_laws}
@@ -211,7 +211,7 @@ module _ (h : ℕ) where
   led_key_laws : Lawful DotKey (led (Either (Unit {0}) (Unit {0})) sign_of.Dot (formed Keys))
   led_key_laws = led_laws (Either (Unit {0}) (Unit {0})) sign_of.Dot (formed Keys) keys_laws refl
 
-  abbrev Tails : Coded SpecialTail
+  abbrev pub Tails : Coded SpecialTail
   Tails = one_or (sign_code sign_of.LeftBracket ∷ []) class_dims dot_key
 
   -- a bracket, or a point and `this` or `class`
@@ -255,14 +255,14 @@ module _ (h : ℕ) where
   abbrev Named : Form NamesSpecial
   Named = pair Ident (List Ident × SpecialTail) an_ident NamesTail
 
-  abbrev names_special : Coded NamesSpecial
+  abbrev pub names_special : Coded NamesSpecial
   names_special = coded Named (word_code ∷ []) []
 
   twice : (b : Bool) → (b || false) ≡ true → b ≡ true
   twice true e = refl
   twice false e = e
 
-  names_special_laws : Lawful NamesSpecial (formed names_special)
+  pub names_special_laws : Lawful NamesSpecial (formed names_special)
   names_special_laws = coded_laws NamesSpecial Named (word_code ∷ []) [] (pair_laws Ident (List Ident × SpecialTail) an_ident NamesTail ident_laws names_tail_laws (λ ts e. refl)) (λ ts e. twice (one_of (word_code ∷ []) ts) e) (λ ts e. e)
 
   abbrev Word : Coded (ℕ × PrimitiveWord)
@@ -271,20 +271,20 @@ module _ (h : ℕ) where
   abbrev Word_class : Coded WordClass
   Word_class = in_order Word (in_order dims_coded DotClassed)
 
-  abbrev word_class : Coded WordClass
+  abbrev pub word_class : Coded WordClass
   word_class = roomy h Word_class
 
-  word_class_law : Law WordClass word_class
+  pub word_class_law : Law WordClass word_class
   word_class_law =
       ⊎_elim (λ e. inr (void_room WordClass Word_class h e (λ p. no_class e)))
       (λ n. inl (lawful_room WordClass Word_class h n
       (in_order_laws (ℕ × PrimitiveWord) (ℕ × DotClass) Word (in_order dims_coded DotClassed) word_laws (in_order_laws ℕ DotClass dims_coded DotClassed dims_laws (dot_laws n) refl) refl)))
       (zero_or h)
 
-  abbrev Specials : Coded Special
+  abbrev pub Specials : Coded Special
   Specials = one_or primitive_codes word_class names_special
 
-  specials_laws : Lawful Special (formed Specials)
+  pub specials_laws : Lawful Special (formed Specials)
   specials_laws = one_or_second WordClass NamesSpecial primitive_codes word_class names_special (record { solid = refl; solid' = refl; this = refl; that = refl }) word_class_law names_special_laws
 
   pub told_special : (a : Special) (r : List Told) → expr_tokens (special_made a) r ≡ Specials.tell a r
@@ -324,3 +324,9 @@ module _ (h : ℕ) where
   special_laws =
       made_laws Special Expr Specials special_made expr_tokens special_fits specials_laws
       (record { told = λ a r g. told_special a r; forth = λ a g. and_from (is_special (special_made a)) (prime_fits h (special_made a)) (kind_special a) (fit_special a ∙ g); back = back_special })
+
+  -- what it is made of, where it stands
+  pub special_of : (ts : List Token) (e : Expr) (r : List Token) → Stands (formed special_coded) ts e r → (a : Special) × (special_made a ≡ e) × Stands (formed Specials) ts a r
+  special_of ts e r s =
+      let w = back_special e s.1 in
+      (w.0, w.1, (subst (λ (l : List Told). Takes false l ts r) (ap (λ (d : Expr). expr_tokens d []) (sym w.1) ∙ told_special w.0 []) s.0, w.2))

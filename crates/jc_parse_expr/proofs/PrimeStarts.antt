@@ -130,7 +130,7 @@ module _ (h : ℕ) (expr : Run Expr) (array : Run ArrayInit) (below : Below h ex
   abbrev ThisOr : Coded (Either ℕ Keyed)
   ThisOr = one_or (key_code key_of.This ∷ []) (key_at_form key_of.This) KeyedOnes
 
-  abbrev LiteralOr : Coded (Either (ℕ × Literal) (Either ℕ Keyed))
+  abbrev pub LiteralOr : Coded (Either (ℕ × Literal) (Either ℕ Keyed))
   LiteralOr = one_or literal_codes literal_form ThisOr
 
   abbrev pub Plains : Coded Plain
@@ -168,10 +168,10 @@ module _ (h : ℕ) (expr : Run Expr) (array : Run ArrayInit) (below : Below h ex
   this_or_laws : Lawful (Either ℕ Keyed) (formed ThisOr)
   this_or_laws = one_or_laws ℕ Keyed (key_code key_of.This ∷ []) (key_at_form key_of.This) KeyedOnes (key_at_laws key_of.This) keyed_laws (record { solid = refl; solid' = refl; this = refl; that = refl })
 
-  literal_or_laws : Lawful (Either (ℕ × Literal) (Either ℕ Keyed)) (formed LiteralOr)
+  pub literal_or_laws : Lawful (Either (ℕ × Literal) (Either ℕ Keyed)) (formed LiteralOr)
   literal_or_laws = one_or_laws (ℕ × Literal) (Either ℕ Keyed) literal_codes literal_form ThisOr literal_laws this_or_laws (record { solid = refl; solid' = refl; this = refl; that = refl })
 
-  plains_laws : Lawful Plain (formed Plains)
+  pub plains_laws : Lawful Plain (formed Plains)
   plains_laws = one_or_laws (Ident × Option (List Expr)) (Either (ℕ × Literal) (Either ℕ Keyed)) (word_code ∷ []) (named h expr array below) LiteralOr (named_laws h expr array below) literal_or_laws (record { solid = refl; solid' = refl; this = refl; that = refl })
 
   told_plain : (a : Plain) (r : List Told) → Plains.fits a ≡ true → expr_tokens (plain_made a) r ≡ Plains.tell a r

@@ -118,3 +118,17 @@ unfoldable pub special_run : ℕ → Run Expr
 special_run h =
     as_new special_made (either primitive_codes (with_room h (in_turn word_run (in_turn dims_run dot_class_run)))
     (in_turn an_ident_at (in_turn more_names_run (either (sign_code sign_of.LeftBracket ∷ []) (class_dims_run h) (dot_key_run h)))))
+
+-- a primary of height at most one more than h: class literals and outer `this` with their selectors come first
+abbrev pub grown_of : (Expr × List Selector) → Expr
+grown_of g = grown selected g.0 g.1
+
+abbrev pub which_grown : Either (Expr × List Selector) (Expr × List Selector) → Expr
+which_grown (This g) = grown_of g
+which_grown (That g) = grown_of g
+
+abbrev pub selecting_run : ℕ → Run Expr → Run ArrayInit → Run Expr → Run (Expr × List Selector)
+selecting_run h expr array first = growing first selected (selectors_run h expr array)
+
+unfoldable pub prime_run : ℕ → Run Expr → Run ArrayInit → Run Expr
+prime_run h expr array = as_new which_grown (preferring (selecting_run h expr array (special_run h)) (selecting_run h expr array (plain_run h expr array)))
