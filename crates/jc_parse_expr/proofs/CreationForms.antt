@@ -53,6 +53,10 @@ use Rattle.jc_parse_expr.proofs.CreationRooms.{Below, expr_below, room_same, law
 use Rattle.jc_parse_expr.proofs.CreationTails.{initial, initial_laws, lengths, lengths_laws, brackets_coded, array_tail, array_tail_law, object_coded, object_fits, fits_object, object_form, object_form_laws, tail_starts, tail_goes, class_tail, class_tail_laws, tail_meets}
 use Rattle.jc_parse_parts.proofs.AnnotationForms.{room_and}
 
+-- where a selector begins
+abbrev pub selector_codes : List ℕ
+selector_codes = sign_code sign_of.Dot ∷ sign_code sign_of.LeftBracket ∷ []
+
 shuffle_sized : (b e m g s : Bool) → (((b && e) && m) && (g && s)) ≡ (b && ((e && g) && (m && s)))
 shuffle_sized b e m g s = grind (arith, common_steps)
 
@@ -332,9 +336,6 @@ module _ (h : ℕ) (expr : Run Expr) (array : Run ArrayInit) (below : Below h ex
       subst (λ (k : Creation). IsFound k r (becoming creation_made (Sides.run ts))) w.1 (found_becoming creation_made w.0 r (Sides.run ts) f)
 
   -- behind a creation stands a selector, which is no bracket where the creation has lengths
-  abbrev pub selector_codes : List ℕ
-  selector_codes = sign_code sign_of.Dot ∷ sign_code sign_of.LeftBracket ∷ []
-
   pub creation_next : (ts : List Token) (c : Creation) (r : List Token) → Stands (formed creation_coded) ts c r → one_of selector_codes r ≡ true → ((creation_shape c).sized ≡ true → one_of (sign_code sign_of.Dot ∷ []) r ≡ true) → IsFound c r (creation_run h expr array ts)
   creation_next ts c r s e f =
       ⊎_elim (λ t. creation_laws.exact ts c r s (apart_sets (sign_code sign_of.Dot ∷ []) Sides.goes refl (front_code r) (f t)))

@@ -16,7 +16,13 @@ pub mod LevelShapes
 pub mod LevelSpelled
 pub mod LevelTests
 pub mod LevelUnaries
+pub mod PrimeForms
 pub mod PrimeGrowing
 pub mod PrimeKinds
+pub mod PrimeParts
+pub mod PrimePrefers
+pub mod PrimeSelectors
+pub mod PrimeSpecials
+pub mod PrimeStarts
 pub mod PrimeSteps
 pub mod PrimeTokens

@@ -1,3 +1,4 @@
 pub mod Growing
 pub mod LevelReading
 pub mod PrimeReading
+pub mod StartReading
