@@ -180,9 +180,9 @@ module _ (k : ℕ) (unary plain post : Run Expr) where
         (record { solid = λ p. refl; begun = λ p ts e. begun_for (is_primitive p.0) ts e; going = λ p ts e. e; meet = λ ts e. refl }))
         (λ ts e. without (one_of type_codes ts) e) (λ ts e. e)
       where
-      without : (b : Bool) → (b || false) ≡ true → b ≡ true
-      without true e = refl
-      without false e = e
+        without : (b : Bool) → (b || false) ≡ true → b ≡ true
+        without true e = refl
+        without false e = e
 
     cast_laws : Lawful CastParts (formed Cast)
     cast_laws = in_order_laws ℕ ((TypeTree × Unit {0}) × Expr) (sign_at_form sign_of.LeftParen) Rest (sign_at_laws sign_of.LeftParen) rest_laws refl
@@ -202,12 +202,15 @@ module _ (k : ℕ) (unary plain post : Run Expr) where
         let w = takes_cut false (type_tokens ty []) (sign sign_of.RightParen ∷ expr_tokens e []) us q (subst (λ (l : List Told). Takes false l us q) ((type_frames ty).at [] (sign sign_of.RightParen ∷ expr_tokens e [])) s) in
         at_close w.0 w.1 w.2
       where
-      at_close : (m : List Token) → Takes false (type_tokens ty []) us m → Takes false (sign sign_of.RightParen ∷ expr_tokens e []) m q → Seen us ty e q
-      at_close [] a b = absurd b
-      at_close (c ∷ n) a b = record {
-        close = c; back = n; is_close = ap kind_code b.0.0; typed = (a, f);
-        operand = (subst (λ (x : Bool). Takes (x && c.touches) (expr_tokens e []) n q) (ap is_greater b.0.0) b.1, g);
-      }
+        at_close : (m : List Token) → Takes false (type_tokens ty []) us m → Takes false (sign sign_of.RightParen ∷ expr_tokens e []) m q → Seen us ty e q
+        at_close [] a b = absurd b
+        at_close (c ∷ n) a b = record {
+          close = c;
+          back = n;
+          is_close = ap kind_code b.0.0;
+          typed = (a, f);
+          operand = (subst (λ (x : Bool). Takes (x && c.touches) (expr_tokens e []) n q) (ap is_greater b.0.0) b.1, g);
+        }
 
     begun : (b : Bool) (n : List Token) (e : Expr) (q : List Token) → Stands (operand_form b) n e q → (one_of (starts_for b) n ≡ true) × (length q < length n)
     begun b n e q s = ⊎_elim (λ o. (o.0, o.1)) (λ o. absurd (false≢true o.1)) ((operand_laws b).opens n e q s)
@@ -241,13 +244,15 @@ module _ (k : ℕ) (unary plain post : Run Expr) where
     either_laws : Lawful (Either CastParts Expr) (formed Bare)
     either_laws = preferred_laws CastParts Expr bare_goes Cast Post cast_laws d.post_laws
         (record {
-          solid = refl; solid' = refl; goes_first = λ r e. e;
+          solid = refl;
+          solid' = refl;
+          goes_first = λ r e. e;
           goes_second = λ r e. outside post_goes bare_goes r refl e;
           longer = longer;
         })
       where
-      outside : (xs ys : List ℕ) (r : List Token) → all_in xs ys ≡ true → one_of ys r ≡ false → one_of xs r ≡ false
-      outside xs ys r a e = ⊎_elim (λ (t : one_of xs r ≡ true). absurd (false≢true (sym e ∙ within_sets xs ys a (front_code r) t))) (λ (f : one_of xs r ≡ false). f) (cases_Bool (one_of xs r))
+        outside : (xs ys : List ℕ) (r : List Token) → all_in xs ys ≡ true → one_of ys r ≡ false → one_of xs r ≡ false
+        outside xs ys r a e = ⊎_elim (λ (t : one_of xs r ≡ true). absurd (false≢true (sym e ∙ within_sets xs ys a (front_code r) t))) (λ (f : one_of xs r ≡ false). f) (cases_Bool (one_of xs r))
 
     told : (o : Either CastParts Expr) (r : List Told) → Bare.fits o ≡ true → expr_tokens (bare_made o) r ≡ Bare.tell o r
     told (This p) r g = expr_tokens-Cast p.0 p.1.0.0 p.1.1 r
@@ -275,10 +280,12 @@ module _ (k : ℕ) (unary plain post : Run Expr) where
     of_cast e w g s =
         let h = and_parts (nat_le (type_height w.ty) (suc k)) (nat_le (expr_height w.operand) (suc k)) (sym (high w.at w.ty w.operand) ∙ ap (λ (x : Expr). nat_le (expr_height x) (suc (suc k))) w.is_it ∙ g) in
         let z : stands 13 (expr_shape (expr_of.Cast w.at w.ty w.operand)) ≡ true = ap (λ (x : Expr). stands 13 (expr_shape x)) w.is_it ∙ s in
-        let c = and_parts (stands (operand_level (is_primitive w.ty)) (expr_shape w.operand)) true (subst (λ (y : Shape). stands 13 y ≡ true) (expr_shape-Cast w.at w.ty w.operand) z) in
-        (This (w.at, ((w.ty, tt), w.operand)), w.is_it,
-        and_from ((type_coded (suc k)).fits w.ty && true) ((operand_form (is_primitive w.ty)).fits w.operand) (and_from ((type_coded (suc k)).fits w.ty) true h.0 refl)
-        (and_from (nat_le (expr_height w.operand) (suc k)) (stands (operand_level (is_primitive w.ty)) (expr_shape w.operand)) h.1 c.0))
+        let c = and_parts (stands (operand_level (is_primitive w.ty)) (expr_shape w.operand)) true (subst (λ (y : Shape). stands 13 y ≡ true) (expr_shape-Cast w.at w.ty w.operand) z) in (
+          This (w.at, ((w.ty, tt), w.operand)),
+          w.is_it,
+          and_from ((type_coded (suc k)).fits w.ty && true) ((operand_form (is_primitive w.ty)).fits w.operand) (and_from ((type_coded (suc k)).fits w.ty) true h.0 refl)
+              (and_from (nat_le (expr_height w.operand) (suc k)) (stands (operand_level (is_primitive w.ty)) (expr_shape w.operand)) h.1 c.0),
+        )
 
     not_true : (b : Bool) → not b ≡ true → b ≡ false
     not_true true e = absurd (false≢true e)

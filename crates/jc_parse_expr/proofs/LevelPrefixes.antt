@@ -144,16 +144,18 @@ plain_op_laws = made_laws (Either ℕ ℕ) PrefixOp PlainOp plain_op (λ op r. o
     (one_or_laws ℕ ℕ (sign_code sign_of.Not ∷ []) (sign_at_form sign_of.Not) (sign_at_form sign_of.Tilde) (sign_at_laws sign_of.Not) (sign_at_laws sign_of.Tilde) (record { solid = refl; solid' = refl; this = refl; that = refl }))
     (record { told = told; forth = forth; back = λ op g. back op.sign op.at g })
   where
-  told : (o : Either ℕ ℕ) (r : List Told) → PlainOp.fits o ≡ true → (op_told (plain_op o) ∷ r) ≡ PlainOp.tell o r
-  told (This at) r g = refl
-  told (That at) r g = refl
-  forth : (o : Either ℕ ℕ) → PlainOp.fits o ≡ true → nat_le 13 (prefix_level (plain_op o).sign) ≡ true
-  forth (This at) g = refl
-  forth (That at) g = refl
-  back : (s : PrefixSign) (at : ℕ) → nat_le 13 (prefix_level s) ≡ true → (o : Either ℕ ℕ) × (plain_op o ≡ record { at = at; sign = s }) × (PlainOp.fits o ≡ true)
-  back prefix_of.Not at g = (This at, refl, refl)
-  back prefix_of.Complement at g = (That at, refl, refl)
-  back _ at g = absurd (false≢true g)
+    told : (o : Either ℕ ℕ) (r : List Told) → PlainOp.fits o ≡ true → (op_told (plain_op o) ∷ r) ≡ PlainOp.tell o r
+    told (This at) r g = refl
+    told (That at) r g = refl
+
+    forth : (o : Either ℕ ℕ) → PlainOp.fits o ≡ true → nat_le 13 (prefix_level (plain_op o).sign) ≡ true
+    forth (This at) g = refl
+    forth (That at) g = refl
+
+    back : (s : PrefixSign) (at : ℕ) → nat_le 13 (prefix_level s) ≡ true → (o : Either ℕ ℕ) × (plain_op o ≡ record { at = at; sign = s }) × (PlainOp.fits o ≡ true)
+    back prefix_of.Not at g = (This at, refl, refl)
+    back prefix_of.Complement at g = (That at, refl, refl)
+    back _ at g = absurd (false≢true g)
 
 -- which expressions are chains of prefix operators
 
@@ -224,10 +226,12 @@ module _ (level h : ℕ) (first : Run PrefixOp) (starts : List ℕ) (lower : Run
       let k = subst (λ (s : Shape). (stands level s && s.prefix) ≡ true) (expr_shape-Prefix w.first w.more w.operand) a.1 in
       let b = and_parts ((stands 13 (expr_shape w.operand) && not (expr_shape w.operand).prefix) && nat_le level (prefix_level w.first.sign)) true k in
       let c = and_parts (stands 13 (expr_shape w.operand) && not (expr_shape w.operand).prefix) (nat_le level (prefix_level w.first.sign)) b.0 in
-      let n : nat_le (expr_height w.operand) h ≡ true = sym (ap (λ (n : ℕ). nat_le n (suc h)) (expr_height-Prefix w.first w.more w.operand) ∙ room_suc (expr_height w.operand) h) ∙ a.0 in
-      ((w.first, (w.more, w.operand)), w.is_it,
-      and_from (nat_le level (prefix_level w.first.sign)) ((repeated op_form).fits w.more && bare_fits h w.operand) c.1
-      (and_from ((repeated op_form).fits w.more) (bare_fits h w.operand) (all_ops w.more) (and_from (nat_le (expr_height w.operand) h) (stands 13 (expr_shape w.operand) && not (expr_shape w.operand).prefix) n c.0)))
+      let n : nat_le (expr_height w.operand) h ≡ true = sym (ap (λ (n : ℕ). nat_le n (suc h)) (expr_height-Prefix w.first w.more w.operand) ∙ room_suc (expr_height w.operand) h) ∙ a.0 in (
+        (w.first, (w.more, w.operand)),
+        w.is_it,
+        and_from (nat_le level (prefix_level w.first.sign)) ((repeated op_form).fits w.more && bare_fits h w.operand) c.1
+            (and_from ((repeated op_form).fits w.more) (bare_fits h w.operand) (all_ops w.more) (and_from (nat_le (expr_height w.operand) h) (stands 13 (expr_shape w.operand) && not (expr_shape w.operand).prefix) n c.0)),
+      )
 
   flag : (e : Expr) → prefix_fits e ≡ true → (expr_shape e).prefix ≡ true
   flag e g = (and_parts (stands level (expr_shape e)) (expr_shape e).prefix (and_parts (nat_le (expr_height e) (suc h)) (stands level (expr_shape e) && (expr_shape e).prefix) g).1).1

@@ -57,10 +57,11 @@ tight_tells level h nine p g =
     (subst (λ (c : Bool). Flat c (flat_tail p.1 []) (real_tail p.1 [])) (sym (quiet p.0 first.1 false))
     (flat_list (λ (q : BinaryOp × Expr). (binary_level q.0 == level) && (nat_le (expr_height q.1) h && stands (level + 1) (expr_shape q.1))) each_quiet p.1 list.0))
   where
-  quiet : (e : Expr) → stands (level + 1) (expr_shape e) ≡ true → Silent (expr_tokens e [])
-  quiet e s = expr_silent e (stands_looser 9 (level + 1) (expr_shape e) (omega (arith, nine)) s)
-  each_quiet : (q : BinaryOp × Expr) → ((binary_level q.0 == level) && (nat_le (expr_height q.1) h && stands (level + 1) (expr_shape q.1))) ≡ true → Silent (expr_tokens q.1 [])
-  each_quiet q f = quiet q.1 (and_parts (nat_le (expr_height q.1) h) (stands (level + 1) (expr_shape q.1)) (and_parts (binary_level q.0 == level) (nat_le (expr_height q.1) h && stands (level + 1) (expr_shape q.1)) f).1).1
+    quiet : (e : Expr) → stands (level + 1) (expr_shape e) ≡ true → Silent (expr_tokens e [])
+    quiet e s = expr_silent e (stands_looser 9 (level + 1) (expr_shape e) (omega (arith, nine)) s)
+
+    each_quiet : (q : BinaryOp × Expr) → ((binary_level q.0 == level) && (nat_le (expr_height q.1) h && stands (level + 1) (expr_shape q.1))) ≡ true → Silent (expr_tokens q.1 [])
+    each_quiet q f = quiet q.1 (and_parts (nat_le (expr_height q.1) h) (stands (level + 1) (expr_shape q.1)) (and_parts (binary_level q.0 == level) (nat_le (expr_height q.1) h && stands (level + 1) (expr_shape q.1)) f).1).1
 
 flat_unless : (level : ℕ) → (8 == level) ≡ false → (9 == level) ≡ false → (op : BinaryOp) → (binary_level op == level) ≡ true → is_flat op ≡ true
 flat_unless level e f binary_of.Greater g = absurd (false≢true (sym e ∙ g))

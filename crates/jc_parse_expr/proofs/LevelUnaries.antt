@@ -58,15 +58,17 @@ module _ (codes : List ℕ) (ca cb : Coded Expr) (fits : Expr → Bool) where
   both_laws la lb d h = made_laws (Either Expr Expr) Expr (one_or codes ca cb) either_one expr_tokens fits (one_or_laws Expr Expr codes ca cb la lb d)
       (record { told = told; forth = forth; back = λ e g. back e (h.which e g) })
     where
-    told : (o : Either Expr Expr) (r : List Told) → (one_or codes ca cb).fits o ≡ true → expr_tokens (either_one o) r ≡ (one_or codes ca cb).tell o r
-    told (This e) r g = h.told_first e r
-    told (That e) r g = h.told_second e r
-    forth : (o : Either Expr Expr) → (one_or codes ca cb).fits o ≡ true → fits (either_one o) ≡ true
-    forth (This e) g = h.first e g
-    forth (That e) g = h.second e g
-    back : (e : Expr) → (ca.fits e ≡ true) ⊎ (cb.fits e ≡ true) → (o : Either Expr Expr) × (either_one o ≡ e) × ((one_or codes ca cb).fits o ≡ true)
-    back e (inl t) = (This e, refl, t)
-    back e (inr t) = (That e, refl, t)
+      told : (o : Either Expr Expr) (r : List Told) → (one_or codes ca cb).fits o ≡ true → expr_tokens (either_one o) r ≡ (one_or codes ca cb).tell o r
+      told (This e) r g = h.told_first e r
+      told (That e) r g = h.told_second e r
+
+      forth : (o : Either Expr Expr) → (one_or codes ca cb).fits o ≡ true → fits (either_one o) ≡ true
+      forth (This e) g = h.first e g
+      forth (That e) g = h.second e g
+
+      back : (e : Expr) → (ca.fits e ≡ true) ⊎ (cb.fits e ≡ true) → (o : Either Expr Expr) × (either_one o ≡ e) × ((one_or codes ca cb).fits o ≡ true)
+      back e (inl t) = (This e, refl, t)
+      back e (inr t) = (That e, refl, t)
 
 -- what is no chain of prefix operators and no looser than one is Plain
 
@@ -160,7 +162,8 @@ module _ (k : ℕ) (bare lower : Run Expr) (lb : Lawful Expr (formed (bare_coded
       widened_laws Expr (both codes PlainChain (bare_coded (suc (suc k)) bare) fits) plain_codes bare_goes
       (both_laws codes PlainChain (bare_coded (suc (suc k)) bare) fits (prefix_laws 13 (suc k) plain_op_run codes lower plain_op_laws ll) lb (record { solid = refl; solid' = refl; this = refl; that = refl })
       (record {
-        told_first = λ e r. refl; told_second = λ e r. refl;
+        told_first = λ e r. refl;
+        told_second = λ e r. refl;
         first = from_prefixed 13 (suc (suc k)) (omega arith) same;
         second = from_bare 13 (suc (suc k)) (omega arith) same;
         which = which 13 (suc (suc k)) (omega arith) same;
@@ -180,7 +183,8 @@ module _ (k : ℕ) (bare lower : Run Expr) (lb : Lawful Expr (formed (bare_coded
       widened_laws Expr (both prefix_codes AnyChain (bare_coded (suc (suc k)) bare) fits) expr_codes bare_goes
       (both_laws prefix_codes AnyChain (bare_coded (suc (suc k)) bare) fits any_laws lb (record { solid = refl; solid' = refl; this = refl; that = refl })
       (record {
-        told_first = λ e r. refl; told_second = λ e r. refl;
+        told_first = λ e r. refl;
+        told_second = λ e r. refl;
         first = from_prefixed 12 (suc (suc k)) (omega arith) unprefixed;
         second = from_bare 12 (suc (suc k)) (omega arith) unprefixed;
         which = which 12 (suc (suc k)) (omega arith) unprefixed;
