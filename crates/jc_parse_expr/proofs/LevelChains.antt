@@ -45,7 +45,7 @@ may_go codes ops ts = one_of codes ts || acts ops ts
 abbrev pub at_level : ℕ → ℕ → Run Expr → List ℕ → List (List ℕ) → Form Expr
 at_level level h run codes ops = record { tell = expr_tokens; fits = λ e. nat_le (expr_height e) h && stands level (expr_shape e); run = run; starts = one_of expr_codes; goes_on = may_go codes ops; empties = false }
 
-plain_front : (x y : List Told) → (x ≡ [] → ⊥) → Plain x → Plain (x ++ y)
+pub plain_front : (x y : List Told) → (x ≡ [] → ⊥) → Plain x → Plain (x ++ y)
 plain_front [] y b p = absurd (b refl)
 plain_front (d ∷ x) y b p = p
 

@@ -286,7 +286,7 @@ abbrev pub told_codes : List Told → List ℕ
 told_codes [] = []
 told_codes (d ∷ told) = kind_code d.kind ∷ told_codes told
 
-told_match : (b : Bool) (told : List Told) (ts m : List Token) → Takes b told ts m → one_of expr_codes m ≡ true → matches (told_codes told) ts ≡ true
+pub told_match : (b : Bool) (told : List Told) (ts m : List Token) → Takes b told ts m → one_of expr_codes m ≡ true → matches (told_codes told) ts ≡ true
 told_match b [] ts m s e = subst (λ (l : List Token). one_of expr_codes l ≡ true) (sym s) e
 told_match b (d ∷ told) [] m s e = absurd s
 told_match b (d ∷ told) (t ∷ ts) m s e =
@@ -310,7 +310,7 @@ abbrev pub has : List ℕ → List (List ℕ) → Bool
 has op [] = false
 has op (other ∷ ops) = same_codes op other || has op ops
 
-has_acts : (op : List ℕ) (ops : List (List ℕ)) (ts : List Token) → has op ops ≡ true → matches op ts ≡ true → acts ops ts ≡ true
+pub has_acts : (op : List ℕ) (ops : List (List ℕ)) (ts : List Token) → has op ops ≡ true → matches op ts ≡ true → acts ops ts ≡ true
 has_acts op [] ts h m = absurd (false≢true h)
 has_acts op (other ∷ ops) ts h m =
     ⊎_elim (λ (e : same_codes op other ≡ true). or_left (matches other ts) (acts ops ts) (subst (λ (l : List ℕ). matches l ts ≡ true) (are_same op other e) m))

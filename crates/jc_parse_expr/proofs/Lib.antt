@@ -1,6 +1,9 @@
 pub mod LevelActs
+pub mod LevelAssignOps
+pub mod LevelAssigns
 pub mod LevelCasts
 pub mod LevelChains
+pub mod LevelConditionals
 pub mod LevelFlat
 pub mod LevelFollowed
 pub mod LevelLasts

@@ -22,7 +22,7 @@ use Rattle.jc_tree.specs.Heights.{expr_height}
 use Rattle.jc_reading.specs.Kinds.{kind_code, sign_code, key_code, one_of}
 use Rattle.jc_reading.specs.Reading.{Read, Found, Stopped, Run, found, as_new, in_turn, perhaps, any_number, Either, This, That, either, picking, of_kind, at_kind}
 use Rattle.jc_parse_type.specs.TypeReading.{type_run}
-use Rattle.jc_grammar.specs.Shapes.{is_primitive}
+use Rattle.jc_grammar.specs.Shapes.{is_primitive, stands, post_level, expr_shape}
 use Rattle.jc_parse_parts.specs.Reading.{either_one, followed, preferring, by_value}
 
 -- a `>` that touches the next token
@@ -218,15 +218,42 @@ conditional_run zero test expr conditional = test
 conditional_run (suc k) test expr conditional =
     as_new conditional_made (followed (is_tall (suc k)) None test (perhaps (in_turn (of_kind (sign_code sign_of.Question)) (in_turn expr (in_turn (of_kind (sign_code sign_of.Colon)) conditional)))))
 
-abbrev pub assign_of_sign : Sign → Option AssignOp
-assign_of_sign sign_of.Assign = Some assign_of.Plain
-assign_of_sign sign_of.PlusAssign = Some assign_of.Plus
-assign_of_sign sign_of.MinusAssign = Some assign_of.Minus
-assign_of_sign sign_of.StarAssign = Some assign_of.Times
-assign_of_sign sign_of.SlashAssign = Some assign_of.Divide
-assign_of_sign sign_of.PercentAssign = Some assign_of.Remainder
-assign_of_sign sign_of.AndAssign = Some assign_of.And
-assign_of_sign sign_of.OrAssign = Some assign_of.Or
-assign_of_sign sign_of.CaretAssign = Some assign_of.Xor
-assign_of_sign sign_of.ShiftLeftAssign = Some assign_of.ShiftLeft
-assign_of_sign _ = None
+-- `>>=` or `>>>=`: runs of tokens that touch
+abbrev pub Touched : Type 0
+Touched = Unit {0} × (Unit {0} × Either (Unit {0}) (Unit {0} × Unit {0}))
+
+abbrev pub touched_assign_run : Run Touched
+touched_assign_run = in_turn touching_run (in_turn touching_run (either (sign_code sign_of.Assign ∷ []) (of_kind (sign_code sign_of.Assign)) (in_turn touching_run (of_kind (sign_code sign_of.Assign)))))
+
+abbrev pub AssignSign : Type 0
+AssignSign = Either (Unit {0}) (Either (Unit {0}) (Either (Unit {0}) (Either (Unit {0}) (Either (Unit {0}) (Either (Unit {0}) (Either (Unit {0}) (Either (Unit {0}) (Either (Unit {0}) (Either (Unit {0}) Touched)))))))))
+
+abbrev pub assign_op : AssignSign → AssignOp
+assign_op (This u) = assign_of.Plain
+assign_op (That (This u)) = assign_of.Plus
+assign_op (That (That (This u))) = assign_of.Minus
+assign_op (That (That (That (This u)))) = assign_of.Times
+assign_op (That (That (That (That (This u))))) = assign_of.Divide
+assign_op (That (That (That (That (That (This u)))))) = assign_of.Remainder
+assign_op (That (That (That (That (That (That (This u))))))) = assign_of.And
+assign_op (That (That (That (That (That (That (That (This u)))))))) = assign_of.Or
+assign_op (That (That (That (That (That (That (That (That (This u))))))))) = assign_of.Xor
+assign_op (That (That (That (That (That (That (That (That (That (This u)))))))))) = assign_of.ShiftLeft
+assign_op (That (That (That (That (That (That (That (That (That (That ((u, (v, This w))))))))))))) = assign_of.ShiftRight
+assign_op (That (That (That (That (That (That (That (That (That (That ((u, (v, That p))))))))))))) = assign_of.ShiftRightZero
+
+unfoldable pub assign_run : Run AssignOp
+assign_run = as_new assign_op (either (sign_code sign_of.Assign ∷ []) (of_kind (sign_code sign_of.Assign)) (either (sign_code sign_of.PlusAssign ∷ []) (of_kind (sign_code sign_of.PlusAssign)) (either (sign_code sign_of.MinusAssign ∷ []) (of_kind (sign_code sign_of.MinusAssign)) (either (sign_code sign_of.StarAssign ∷ []) (of_kind (sign_code sign_of.StarAssign)) (either (sign_code sign_of.SlashAssign ∷ []) (of_kind (sign_code sign_of.SlashAssign)) (either (sign_code sign_of.PercentAssign ∷ []) (of_kind (sign_code sign_of.PercentAssign)) (either (sign_code sign_of.AndAssign ∷ []) (of_kind (sign_code sign_of.AndAssign)) (either (sign_code sign_of.OrAssign ∷ []) (of_kind (sign_code sign_of.OrAssign)) (either (sign_code sign_of.CaretAssign ∷ []) (of_kind (sign_code sign_of.CaretAssign)) (either (sign_code sign_of.ShiftLeftAssign ∷ []) (of_kind (sign_code sign_of.ShiftLeftAssign)) (touched_assign_run)))))))))))
+
+-- an assignment needs a target of the postfix level that is not too high
+abbrev pub no_target : ℕ → Expr → Bool
+no_target h e = not (nat_le (expr_height e) h && stands post_level (expr_shape e))
+
+abbrev pub assign_made : (Expr × Option (AssignOp × Expr)) → Expr
+assign_made (target, None) = target
+assign_made (target, Some p) = expr_of.Assign target p.0 p.1
+
+-- Expr of height h + 1, of Cond of height h + 1 and Expr of height h
+unfoldable pub expr_run : ℕ → Run Expr → Run Expr → Run Expr
+expr_run zero conditional expr = conditional
+expr_run (suc k) conditional expr = as_new assign_made (followed (no_target (suc k)) None conditional (perhaps (in_turn assign_run expr)))
