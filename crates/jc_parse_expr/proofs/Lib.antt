@@ -13,4 +13,5 @@ pub mod LevelRanks
 pub mod LevelShapes
 pub mod LevelSpelled
 pub mod LevelTests
+pub mod LevelTower
 pub mod LevelUnaries

@@ -257,3 +257,43 @@ assign_made (target, Some p) = expr_of.Assign target p.0 p.1
 unfoldable pub expr_run : ℕ → Run Expr → Run Expr → Run Expr
 expr_run zero conditional expr = conditional
 expr_run (suc k) conditional expr = as_new assign_made (followed (no_target (suc k)) None conditional (perhaps (in_turn assign_run expr)))
+
+-- the readers of all levels, of one height
+pub record Levels : Type 0 where
+  pub bare : Run Expr
+  pub plain : Run Expr
+  pub unary : Run Expr
+  pub times : Run Expr
+  pub plus : Run Expr
+  pub shift : Run Expr
+  pub compared : Run Expr
+  pub equal : Run Expr
+  pub bit_and : Run Expr
+  pub bit_xor : Run Expr
+  pub bit_or : Run Expr
+  pub and_also : Run Expr
+  pub or_else : Run Expr
+  pub conditional : Run Expr
+  pub expr : Run Expr
+
+-- those of height h + 1, of those of height h and of the postfix level of height h + 1; the level of `<` and `instanceof` is read by `compare`
+unfoldable pub next_levels : (ℕ → Run Expr → Run Expr → Run Expr) → ℕ → Levels → Run Expr → Levels
+next_levels compare h low post =
+    let bare : Run Expr = bare_run h low.unary low.plain post in
+    let unary : Run Expr = unary_run h bare low.bare in
+    let times : Run Expr = chain_run h times_run unary low.unary in
+    let plus : Run Expr = chain_run h plus_run times low.times in
+    let shift : Run Expr = chain_run h shift_run plus low.plus in
+    let compared : Run Expr = compare h shift low.shift in
+    let equal : Run Expr = chain_run h equal_run compared low.compared in
+    let bit_and : Run Expr = chain_run h and_run equal low.equal in
+    let bit_xor : Run Expr = chain_run h xor_run bit_and low.bit_and in
+    let bit_or : Run Expr = chain_run h or_run bit_xor low.bit_xor in
+    let and_also : Run Expr = chain_run h and_also_run bit_or low.bit_or in
+    let or_else : Run Expr = chain_run h or_else_run and_also low.and_also in
+    let conditional : Run Expr = conditional_run h or_else low.expr low.conditional in
+    record {
+      bare = bare; plain = plain_run h bare low.bare; unary = unary; times = times; plus = plus; shift = shift; compared = compared; equal = equal;
+      bit_and = bit_and; bit_xor = bit_xor; bit_or = bit_or; and_also = and_also; or_else = or_else; conditional = conditional;
+      expr = expr_run h conditional low.expr;
+    }
