@@ -129,7 +129,7 @@ flag_layer (Expr-F.Chain first []) g = refl
 flag_layer (Expr-F.Chain first (o ∷ rest)) g = refl
 flag_layer _ g = refl
 
-post_flag : (e : Expr) → stands 14 (expr_shape e) ≡ true → (expr_shape e).prefix ≡ false
+pub post_flag : (e : Expr) → stands 14 (expr_shape e) ≡ true → (expr_shape e).prefix ≡ false
 post_flag e s =
     let h : 14 ≤ (expr_shape e).level = leb-true 14 (expr_shape e).level (and_parts (expr_shape e).good (nat_le 14 (expr_shape e).level) s).1 in
     ap (λ (z : Shape). z.prefix) (expr_shape-out e) ∙ flag_layer (out-Expr e) (subst (λ (z : Shape). 14 ≤ z.level) (expr_shape-out e) h)

@@ -1,6 +1,7 @@
 pub mod LevelActs
 pub mod LevelAssignOps
 pub mod LevelAssigns
+pub mod LevelBase
 pub mod LevelCasts
 pub mod LevelChains
 pub mod LevelConditionals
