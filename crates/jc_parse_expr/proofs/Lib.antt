@@ -7,6 +7,7 @@ pub mod LevelChains
 pub mod LevelConditionals
 pub mod LevelFlat
 pub mod LevelFollowed
+pub mod LevelKnot
 pub mod LevelLasts
 pub mod LevelOps
 pub mod LevelPrefixes

@@ -1,5 +1,6 @@
 -- How the levels of expressions are read: casts, prefix operators, binary operators, conditionals and assignments (JLS 15.15 to 15.26).
-use Rattle.std.specs.Prelude.{ℕ, zero, suc, Bool, true, false, not, cond, ◌==◌, ◌&&◌, nat_le, List, [], ◌∷◌, map, Option, Some, None}
+use Rattle.std.specs.Prelude.{ℕ, zero, suc, Bool, true, false, not, cond, ◌==◌, ◌&&◌, nat_le, List, [], ◌∷◌, map, length, Option, Some, None}
+use Rattle.jc_tree.specs.declared.expression.Init.{Init}
 use Rattle.jc_lexer.specs.declared.token.Key.TheVariants as key_of
 use Rattle.jc_lexer.specs.declared.token.Sign.{Sign}
 use Rattle.jc_lexer.specs.declared.token.Sign.TheVariants as sign_of
@@ -297,3 +298,23 @@ next_levels compare h low post =
       bit_and = bit_and; bit_xor = bit_xor; bit_or = bit_or; and_also = and_also; or_else = or_else; conditional = conditional;
       expr = expr_run h conditional low.expr;
     }
+
+abbrev pub none_at : {A : Type 0} → Run A
+none_at ts = Stopped (length ts)
+
+abbrev pub no_levels : Levels
+no_levels = record {
+  bare = none_at; plain = none_at; unary = none_at; times = none_at; plus = none_at; shift = none_at; compared = none_at; equal = none_at;
+  bit_and = none_at; bit_xor = none_at; bit_or = none_at; and_also = none_at; or_else = none_at; conditional = none_at; expr = none_at;
+}
+
+-- the postfix level of height h + 1 is read by `post`, of expressions and initialisers of height h; initialisers of height h + 1 by `init`, of
+-- expressions of height h + 1 and initialisers of height h
+module _ (compare : ℕ → Run Expr → Run Expr → Run Expr) (post : ℕ → Run Expr → Run Init → Run Expr) (init : ℕ → Run Expr → Run Init → Run Init) where
+  abbrev pub tied : ℕ → Levels → Run Init → Levels × Run Init
+  tied h low inits =
+      let levels : Levels = next_levels compare h low (post h low.expr inits) in (levels, init h levels.expr inits)
+
+  unfoldable pub readers : ℕ → Levels × Run Init
+  readers zero = (no_levels, none_at)
+  readers (suc h) = tied h (readers h).0 (readers h).1
