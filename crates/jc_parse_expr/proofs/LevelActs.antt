@@ -1,14 +1,14 @@
 -- An operator and an operand behind it, tested by the operator's tokens and one that begins an operand.
-use Rattle.std.proofs.Common.{◌≡◌, ℕ, ◌<◌, Bool, true, false, List, [], ◌∷◌, ◌++◌, length, refl, sym, ap, ◌∙◌, subst, ⊎_elim, arith}
+use Rattle.std.proofs.Common.{◌≡◌, ℕ, Bool, true, false, List, refl, sym, ◌∙◌, ⊎_elim}
 use Rattle.std.proofs.lemmas.Bool.{false≢true, cases_Bool}
 use Rattle.std.specs.Prelude.{◌&&◌, ◌||◌}
 use Rattle.jc_lexer.specs.declared.token.Token.{Token}
 use Rattle.jc_reading.specs.Kinds.{one_of}
-use Rattle.jc_reading.specs.Reading.{Read, Found, Stopped, Run, noting, ◌>>=◌, becoming, joined}
+use Rattle.jc_reading.specs.Reading.{Read, Found, Stopped, noting, ◌>>=◌, becoming, joined}
 use Rattle.jc_reading.proofs.Steps.{Good, Refuses}
 use Rattle.jc_reading.proofs.Forms.{Form, Lawful, Stands}
 use Rattle.jc_reading.proofs.Pairs.{pair, pair_laws, cut}
-use Rattle.jc_reading.proofs.Retests.{retested, Retests, retested_laws}
+use Rattle.jc_reading.proofs.Retests.{retested, retested_laws}
 use Rattle.jc_parse_parts.proofs.ExprForms.{expr_codes}
 use Rattle.jc_parse_expr.proofs.LevelTests.{acts}
 
@@ -49,7 +49,7 @@ module _ (A B : Type 0) (ops : List (List ℕ)) (fo : Form A) (fb : Form B) wher
     refuses_on : (ts : List Token) (m : Read A) → Good (Stands fo ts) m → acts ops ts ≡ false → Refuses false ts (m >>= (λ a q. becoming (joined a) (fb.run q)))
     refuses_on ts (Found a q l) g e =
         let none : one_of expr_codes q ≡ false =
-            ⊎_elim (λ (t : one_of expr_codes q ≡ true). absurd (false≢true (sym e ∙ d.seen ts a q g t))) (λ (f : one_of expr_codes q ≡ false). f) (cases_Bool (one_of expr_codes q)) in
+        ⊎_elim (λ (t : one_of expr_codes q ≡ true). absurd (false≢true (sym e ∙ d.seen ts a q g t))) (λ (f : one_of expr_codes q ≡ false). f) (cases_Bool (one_of expr_codes q)) in
         refuses_next (fb.run q) a ts q l fb.empties d.solid' (lb.refuses q (no_start q none))
     refuses_on ts (Stopped l) g e = refl
 

@@ -1,5 +1,5 @@
 -- The operators of assignments, told without the rule that no `>` before one touches it.
-use Rattle.std.proofs.Common.{◌≡◌, ℕ, Bool, true, false, List, [], ◌∷◌, ◌++◌, refl, inl, inr}
+use Rattle.std.proofs.Common.{◌≡◌, ℕ, Bool, true, false, List, [], ◌∷◌, refl, inl, inr}
 use Rattle.std.proofs.lemmas.Bool.{false≢true}
 use Rattle.jc_lexer.specs.declared.token.Sign.TheVariants as sign_of
 use Rattle.jc_lexer.specs.declared.token.Token.{Token}
@@ -9,9 +9,9 @@ use Rattle.jc_grammar.specs.Told.{Told, Spelled, sign}
 use Rattle.jc_grammar.specs.Expressions.{inner, assign_tokens}
 use Rattle.jc_reading.specs.Kinds.{sign_code, one_of}
 use Rattle.jc_reading.specs.Reading.{Either, This, That, Takes}
-use Rattle.jc_reading.proofs.Forms.{Form, Lawful, Stands}
+use Rattle.jc_reading.proofs.Forms.{Lawful}
 use Rattle.jc_reading.proofs.Signs.{sign_laws}
-use Rattle.jc_parse_parts.proofs.Coded.{Coded, formed, in_order, in_order_laws, one_or, Apart, one_or_laws, made, Makes, made_laws}
+use Rattle.jc_parse_parts.proofs.Coded.{Coded, formed, in_order, in_order_laws, one_or, one_or_laws, made_laws}
 use Rattle.jc_parse_parts.proofs.PartForms.{sign_form}
 use Rattle.jc_parse_parts.proofs.ExprForms.{expr_codes}
 use Rattle.jc_parse_expr.specs.LevelReading.{Touched, AssignSign, assign_op, assign_run}

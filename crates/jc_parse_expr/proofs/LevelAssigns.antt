@@ -1,8 +1,7 @@
 -- Expr: a Cond, and behind one of the postfix level that is not too high an assignment.
-use Rattle.std.proofs.Common.{◌≡◌, ℕ, zero, suc, ◌+◌, ◌<◌, ◌≤◌, max, Bool, true, false, List, [], ◌∷◌, ◌++◌, map, length, Option, Some, None, refl, sym, ap, ◌∙◌, subst, ⊎_elim, ◌⊎◌, inl, inr, arith}
-use Rattle.std.proofs.lemmas.Bool.{false≢true, and_parts, and_from, or_from, or_left, or_right, or_cases, cases_Bool, leb-true, le-leb}
-use Rattle.std.specs.Prelude.{◌&&◌, ◌||◌, nat_le, not, ◌==◌}
-use Rattle.jc_lexer.specs.declared.token.Sign.TheVariants as sign_of
+use Rattle.std.proofs.Common.{◌≡◌, ℕ, suc, ◌≤◌, max, Bool, true, false, List, [], ◌∷◌, Option, Some, None, refl, sym, ap, ◌∙◌, subst, ⊎_elim, arith}
+use Rattle.std.proofs.lemmas.Bool.{false≢true, and_parts, and_from, or_from, or_cases, cases_Bool, leb-true, le-leb}
+use Rattle.std.specs.Prelude.{◌&&◌, ◌||◌, nat_le, not}
 use Rattle.jc_lexer.specs.declared.token.Token.{Token}
 use Rattle.jc_tree.specs.declared.expression.ArrayInit.{ArrayInit}
 use Rattle.jc_tree.specs.declared.expression.AssignOp.{AssignOp}
@@ -20,26 +19,26 @@ use Rattle.jc_grammar.proofs.FramedExpressions.{expr_frames}
 use Rattle.jc_grammar.proofs.ShapesOfExpressions.{expr_shape-out, expr_shape-Assign}
 use Rattle.jc_grammar.proofs.Stands.{stands_looser}
 use Rattle.jc_grammar.proofs.TokensOfExpressions.{expr_tokens-Assign}
-use Rattle.jc_reading.specs.Kinds.{sign_code, is_in, front_code, one_of}
-use Rattle.jc_reading.specs.Reading.{Run, as_new, in_turn, perhaps, Takes}
+use Rattle.jc_reading.specs.Kinds.{front_code, one_of}
+use Rattle.jc_reading.specs.Reading.{Run, Takes}
 use Rattle.jc_reading.proofs.Steps.{Plain}
-use Rattle.jc_reading.proofs.Alikes.{alike, Alike, alike_laws}
+use Rattle.jc_reading.proofs.Alikes.{alike_laws}
 use Rattle.jc_reading.proofs.Forms.{Form, Lawful, Stands}
-use Rattle.jc_reading.proofs.Options.{option, option_laws, tell_some, fits_some}
+use Rattle.jc_reading.proofs.Options.{option, option_laws}
 use Rattle.jc_reading.proofs.Rooms.{room_suc, room_max}
-use Rattle.jc_reading.proofs.Signs.{none_common, apart_sets, all_in, within_sets}
-use Rattle.jc_parse_parts.proofs.Coded.{Coded, formed}
+use Rattle.jc_reading.proofs.Signs.{none_common, all_in, within_sets}
+use Rattle.jc_parse_parts.proofs.Coded.{formed}
 use Rattle.jc_parse_parts.proofs.ExprForms.{expr_codes}
-use Rattle.jc_parse_expr.specs.LevelReading.{no_target, assign_made, assign_run, expr_run}
+use Rattle.jc_parse_expr.specs.LevelReading.{no_target, assign_made, expr_run}
 use Rattle.jc_parse_expr.proofs.LevelTests.{acts, leads, acts_in, acts_out, clashes, acts_apart}
-use Rattle.jc_parse_expr.proofs.LevelFollowed.{followed_form, Follow, followed_laws}
-use Rattle.jc_parse_expr.proofs.LevelActs.{acting, Acting, acting_laws}
-use Rattle.jc_parse_expr.proofs.LevelSpelled.{respelled, Respells, respelled_laws}
-use Rattle.jc_parse_expr.proofs.LevelLasts.{ends_open, expr_silent}
+use Rattle.jc_parse_expr.proofs.LevelFollowed.{followed_form, followed_laws}
+use Rattle.jc_parse_expr.proofs.LevelActs.{acting, acting_laws}
+use Rattle.jc_parse_expr.proofs.LevelSpelled.{respelled, respelled_laws}
+use Rattle.jc_parse_expr.proofs.LevelLasts.{expr_silent}
 use Rattle.jc_parse_expr.proofs.LevelFlat.{Flat, flat_forth, flat_back, flat_expr}
 use Rattle.jc_parse_expr.proofs.LevelShapes.{exactly}
 use Rattle.jc_parse_expr.proofs.LevelChains.{may_go, at_level, plain_front}
-use Rattle.jc_parse_expr.proofs.LevelConditionals.{any_form, is_nothing, operand_high, unary}
+use Rattle.jc_parse_expr.proofs.LevelConditionals.{is_nothing, operand_high, unary}
 use Rattle.jc_parse_expr.proofs.LevelAssignOps.{flat_assign, assign_op_coded, assign_op_laws, assign_ops, assign_acts, flat_assigns}
 
 abbrev Layer : Type 0
@@ -114,7 +113,13 @@ module _ (k : ℕ) (conditional expr : Run Expr) (codes goes : List ℕ) (ops : 
     both_laws : Lawful (Expr × Option (AssignOp × Expr)) Both
     both_laws = followed_laws Expr (Option (AssignOp × Expr)) (no_target (suc k)) None is_nothing Cond (option (AssignOp × Expr) Act) d.cond_laws tail_laws
         (record {
-          solid = refl; free = refl; bare = λ r. refl; none_fits = refl; none_is = refl; only = only_none; some = some_tail;
+          solid = refl;
+          free = refl;
+          bare = λ r. refl;
+          none_fits = refl;
+          none_is = refl;
+          only = only_none;
+          some = some_tail;
           whole = λ ts e r s c t. d.cond_laws.exact ts e r s (stops r t);
         })
 
@@ -185,11 +190,13 @@ module _ (k : ℕ) (conditional expr : Run Expr) (codes goes : List ℕ) (ops : 
         let s = and_parts (stands 14 (expr_shape e) && stands 0 (expr_shape v)) true (subst (λ (z : Shape). stands 0 z ≡ true) (expr_shape-Assign e op v) a.1) in
         let t = and_parts (stands 14 (expr_shape e)) (stands 0 (expr_shape v)) s.0 in
         let low : nat_le (expr_height e) (suc (suc k)) ≡ true = let j : expr_height e ≤ suc k = leb-true (expr_height e) (suc k) h.0 in le-leb (expr_height e) (suc (suc k)) (omega (arith, j)) in
-        let is_target = and_from (nat_le (expr_height e) (suc k)) (stands 14 (expr_shape e)) h.0 t.0 in
-        ((e, Some (op, v)), refl,
-        and_from (Cond.fits e) (Act.fits (op, v) && (false || not (no_target (suc k) e)))
-        (and_from (nat_le (expr_height e) (suc (suc k))) (stands 1 (expr_shape e)) low (stands_looser 1 14 (expr_shape e) (omega arith) t.0))
-        (and_from (Act.fits (op, v)) (false || not (no_target (suc k) e)) (and_from (nat_le (expr_height v) (suc k)) (stands 0 (expr_shape v)) h.1 t.1) (ap (λ (b : Bool). not (not b)) is_target)))
+        let is_target = and_from (nat_le (expr_height e) (suc k)) (stands 14 (expr_shape e)) h.0 t.0 in (
+          (e, Some (op, v)),
+          refl,
+          and_from (Cond.fits e) (Act.fits (op, v) && (false || not (no_target (suc k) e)))
+              (and_from (nat_le (expr_height e) (suc (suc k))) (stands 1 (expr_shape e)) low (stands_looser 1 14 (expr_shape e) (omega arith) t.0))
+              (and_from (Act.fits (op, v)) (false || not (no_target (suc k) e)) (and_from (nat_le (expr_height v) (suc k)) (stands 0 (expr_shape v)) h.1 t.1) (ap (λ (b : Bool). not (not b)) is_target)),
+        )
 
     back : (e : Expr) → Fits e ≡ true → (p : Expr × Option (AssignOp × Expr)) × (assign_made p ≡ e) × (Both.fits p ≡ true)
     back e g =

@@ -1,8 +1,8 @@
 -- The levels of height 1: only expressions of the postfix level are as low.
-use Rattle.std.proofs.Common.{◌≡◌, ℕ, zero, suc, ◌+◌, ◌≤◌, max, Bool, true, false, List, [], ◌∷◌, ◌++◌, refl, sym, ap, ◌∙◌, subst, arith}
+use Rattle.std.proofs.Common.{◌≡◌, ℕ, ◌≤◌, Bool, true, false, List, ◌∷◌, refl, sym, ap, ◌∙◌, subst, arith}
 use Rattle.std.proofs.Math.Path.{fun_ext}
 use Rattle.std.proofs.lemmas.Bool.{false≢true, and_parts, and_from, or_left, leb-true, le-leb}
-use Rattle.std.specs.Prelude.{◌&&◌, ◌||◌, nat_le, not}
+use Rattle.std.specs.Prelude.{◌&&◌, nat_le, not}
 use Rattle.jc_lexer.specs.declared.token.Sign.TheVariants as sign_of
 use Rattle.jc_lexer.specs.declared.token.Token.{Token}
 use Rattle.jc_tree.specs.declared.expression.ArrayInit.{ArrayInit}
@@ -20,14 +20,14 @@ use Rattle.jc_reading.specs.Kinds.{sign_code, front_code, one_of}
 use Rattle.jc_reading.specs.Reading.{Run}
 use Rattle.jc_reading.proofs.Forms.{Form, Lawful}
 use Rattle.jc_reading.proofs.Signs.{all_in, within_sets}
-use Rattle.jc_parse_parts.proofs.Coded.{Coded, formed}
+use Rattle.jc_parse_parts.proofs.Coded.{formed}
 use Rattle.jc_parse_parts.proofs.ExprForms.{expr_codes, expr_tall}
 use Rattle.jc_parse_expr.specs.LevelReading.{Levels, next_levels, bare_run, plain_run, unary_run, chain_run, conditional_run, expr_run}
 use Rattle.jc_parse_expr.proofs.LevelSpelled.{loosened_laws}
 use Rattle.jc_parse_expr.proofs.LevelPrefixes.{bare_codes, plain_codes, post_goes, bare_goes, bare_fits}
 use Rattle.jc_parse_expr.proofs.LevelCasts.{post_coded, post_flag}
 use Rattle.jc_parse_expr.proofs.LevelChains.{may_go, at_level}
-use Rattle.jc_parse_expr.proofs.LevelTower.{LevelLaws, Compares, times_tight, plus_tight, shift_tight, less_tight, equal_tight, and_tight, xor_tight, or_tight, and_also_tight, or_else_tight, compare_goes, whole_goes, next_laws}
+use Rattle.jc_parse_expr.proofs.LevelTower.{LevelLaws, times_tight, plus_tight, shift_tight, less_tight, equal_tight, and_tight, xor_tight, or_tight, and_also_tight, or_else_tight, compare_goes, whole_goes}
 
 abbrev Layer : Type 0
 Layer = Expr-F Creation Expr Init Operand ArrayInit
@@ -121,5 +121,5 @@ module _ (post : Run Expr) (lp : Lawful Expr (formed (post_coded 1 post))) where
       or_else = over (λ m. at_level 2 1 m compare_goes or_else_tight) (low_level 2 (omega arith) compare_goes or_else_tight refl);
       conditional = over (λ m. at_level 1 1 m (sign_code sign_of.Question ∷ compare_goes) or_else_tight) (low_level 1 (omega arith) (sign_code sign_of.Question ∷ compare_goes) or_else_tight refl);
       expr = over (λ m. record { tell = expr_tokens; fits = λ e. nat_le (expr_height e) 1 && stands 0 (expr_shape e); run = m; starts = one_of expr_codes; goes_on = one_of whole_goes; empties = false })
-        (lowest (λ e. nat_le (expr_height e) 1 && stands 0 (expr_shape e)) (one_of expr_codes) (one_of whole_goes) (at_post 0 (omega arith)) (to_post 0) (inside bare_codes expr_codes refl) (inside post_goes whole_goes refl));
+          (lowest (λ e. nat_le (expr_height e) 1 && stands 0 (expr_shape e)) (one_of expr_codes) (one_of whole_goes) (at_post 0 (omega arith)) (to_post 0) (inside bare_codes expr_codes refl) (inside post_goes whole_goes refl));
     }

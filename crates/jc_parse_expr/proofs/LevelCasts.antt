@@ -1,11 +1,9 @@
 -- Bare: a cast, or an expression of the postfix level.
-use Rattle.std.proofs.Common.{◌≡◌, ℕ, zero, suc, ◌+◌, ◌<◌, ◌≤◌, max, Bool, true, false, cond, List, [], ◌∷◌, ◌++◌, map, length, Option, Some, None, refl, sym, ap, ◌∙◌, subst, ⊎_elim, ◌⊎◌, inl, inr, arith}
-use Rattle.std.proofs.lemmas.Bool.{false≢true, and_parts, and_from, cases_Bool, leb-true, le-leb}
+use Rattle.std.proofs.Common.{◌≡◌, ℕ, zero, suc, ◌<◌, ◌≤◌, max, Bool, true, false, cond, List, [], ◌∷◌, length, Option, Some, None, refl, sym, ap, ◌∙◌, subst, ⊎_elim, ◌⊎◌, inl, inr, arith}
+use Rattle.std.proofs.lemmas.Bool.{false≢true, and_parts, and_from, cases_Bool, leb-true}
 use Rattle.std.specs.Prelude.{◌&&◌, ◌||◌, nat_le, not, ◌==◌, if◌then◌else◌}
 use Rattle.jc_lexer.specs.declared.token.Sign.TheVariants as sign_of
 use Rattle.jc_lexer.specs.declared.token.Token.{Token}
-use Rattle.jc_lexer.specs.declared.token.TokenKind.{TokenKind}
-use Rattle.jc_lexer.specs.declared.token.TokenKind.TheVariants as kind_of
 use Rattle.jc_tree.specs.declared.types.TypeTree.{TypeTree}
 use Rattle.jc_tree.specs.declared.expression.ArrayInit.{ArrayInit}
 use Rattle.jc_tree.specs.declared.expression.Creation.{Creation}
@@ -17,7 +15,7 @@ use Rattle.jc_tree.specs.declared.expression.PrefixSign.{PrefixSign}
 use Rattle.jc_tree.specs.declared.expression.PrefixSign.TheVariants as prefix_of
 use Rattle.jc_tree.specs.Heights.{expr_height, type_height}
 use Rattle.jc_tree.proofs.HeightsOfExpressions.{expr_height-Cast}
-use Rattle.jc_grammar.specs.Told.{Told, sign, sign_at}
+use Rattle.jc_grammar.specs.Told.{Told, sign}
 use Rattle.jc_grammar.specs.Spelling.{is_greater}
 use Rattle.jc_grammar.specs.Types.{type_tokens}
 use Rattle.jc_grammar.specs.Expressions.{expr_tokens}
@@ -27,22 +25,20 @@ use Rattle.jc_grammar.proofs.ShapesOfExpressions.{expr_shape-out, expr_shape-Cas
 use Rattle.jc_grammar.proofs.Stands.{stands_looser}
 use Rattle.jc_grammar.proofs.TokensOfExpressions.{expr_tokens-Cast}
 use Rattle.jc_reading.specs.Kinds.{kind_code, sign_code, front_code, one_of}
-use Rattle.jc_reading.specs.Reading.{Run, Either, This, That, as_new, Takes}
+use Rattle.jc_reading.specs.Reading.{Run, Either, This, That, Takes}
 use Rattle.jc_reading.proofs.Steps.{takes_cut}
 use Rattle.jc_reading.proofs.Codes.{some_is}
-use Rattle.jc_reading.proofs.Choices.{tell_either, fits_either}
 use Rattle.jc_reading.proofs.Forms.{Form, Lawful, Stands}
 use Rattle.jc_reading.proofs.Rooms.{room_suc, room_max}
-use Rattle.jc_reading.proofs.Signs.{sign_laws, sign_at_laws, none_common, apart_sets, all_in, within_sets}
+use Rattle.jc_reading.proofs.Signs.{sign_laws, sign_at_laws, apart_sets, all_in, within_sets}
 use Rattle.jc_parse_type.proofs.TypeForms.{type_codes}
-use Rattle.jc_parse_parts.specs.Reading.{preferring}
-use Rattle.jc_parse_parts.proofs.Coded.{Coded, formed, coded, coded_laws, in_order, in_order_laws, made, Makes, made_laws, widened, widened_laws}
-use Rattle.jc_parse_parts.proofs.Depends.{depending, Depends, depending_laws}
-use Rattle.jc_parse_parts.proofs.Prefers.{preferred, Prefer, preferred_laws}
+use Rattle.jc_parse_parts.proofs.Coded.{Coded, formed, coded, coded_laws, in_order, in_order_laws, made, made_laws, widened_laws}
+use Rattle.jc_parse_parts.proofs.Depends.{depending, depending_laws}
+use Rattle.jc_parse_parts.proofs.Prefers.{preferred, preferred_laws}
 use Rattle.jc_parse_parts.proofs.PartForms.{sign_form, sign_at_form, type_coded, type_coded_laws}
 use Rattle.jc_parse_parts.proofs.ExprForms.{expr_codes}
-use Rattle.jc_parse_expr.specs.LevelReading.{operand_for, CastParts, cast_run, bare_made, bare_run}
-use Rattle.jc_parse_expr.proofs.LevelPrefixes.{bare_codes, plain_codes, post_goes, bare_goes, bare_fits, bare_coded, IsPrefix, prefix_only}
+use Rattle.jc_parse_expr.specs.LevelReading.{operand_for, CastParts, bare_made, bare_run}
+use Rattle.jc_parse_expr.proofs.LevelPrefixes.{bare_codes, plain_codes, post_goes, bare_goes, bare_fits, bare_coded}
 use Rattle.jc_parse_expr.proofs.LevelShapes.{exactly}
 use Rattle.jc_parse_expr.proofs.LevelUnaries.{plain_coded, unary_coded, operand_low}
 
@@ -180,9 +176,9 @@ module _ (k : ℕ) (unary plain post : Run Expr) where
         (record { solid = λ p. refl; begun = λ p ts e. begun_for (is_primitive p.0) ts e; going = λ p ts e. e; meet = λ ts e. refl }))
         (λ ts e. without (one_of type_codes ts) e) (λ ts e. e)
       where
-      without : (b : Bool) → (b || false) ≡ true → b ≡ true
-      without true e = refl
-      without false e = e
+        without : (b : Bool) → (b || false) ≡ true → b ≡ true
+        without true e = refl
+        without false e = e
 
     cast_laws : Lawful CastParts (formed Cast)
     cast_laws = in_order_laws ℕ ((TypeTree × Unit {0}) × Expr) (sign_at_form sign_of.LeftParen) Rest (sign_at_laws sign_of.LeftParen) rest_laws refl
@@ -202,12 +198,15 @@ module _ (k : ℕ) (unary plain post : Run Expr) where
         let w = takes_cut false (type_tokens ty []) (sign sign_of.RightParen ∷ expr_tokens e []) us q (subst (λ (l : List Told). Takes false l us q) ((type_frames ty).at [] (sign sign_of.RightParen ∷ expr_tokens e [])) s) in
         at_close w.0 w.1 w.2
       where
-      at_close : (m : List Token) → Takes false (type_tokens ty []) us m → Takes false (sign sign_of.RightParen ∷ expr_tokens e []) m q → Seen us ty e q
-      at_close [] a b = absurd b
-      at_close (c ∷ n) a b = record {
-        close = c; back = n; is_close = ap kind_code b.0.0; typed = (a, f);
-        operand = (subst (λ (x : Bool). Takes (x && c.touches) (expr_tokens e []) n q) (ap is_greater b.0.0) b.1, g);
-      }
+        at_close : (m : List Token) → Takes false (type_tokens ty []) us m → Takes false (sign sign_of.RightParen ∷ expr_tokens e []) m q → Seen us ty e q
+        at_close [] a b = absurd b
+        at_close (c ∷ n) a b = record {
+          close = c;
+          back = n;
+          is_close = ap kind_code b.0.0;
+          typed = (a, f);
+          operand = (subst (λ (x : Bool). Takes (x && c.touches) (expr_tokens e []) n q) (ap is_greater b.0.0) b.1, g);
+        }
 
     begun : (b : Bool) (n : List Token) (e : Expr) (q : List Token) → Stands (operand_form b) n e q → (one_of (starts_for b) n ≡ true) × (length q < length n)
     begun b n e q s = ⊎_elim (λ o. (o.0, o.1)) (λ o. absurd (false≢true o.1)) ((operand_laws b).opens n e q s)
@@ -241,13 +240,15 @@ module _ (k : ℕ) (unary plain post : Run Expr) where
     either_laws : Lawful (Either CastParts Expr) (formed Bare)
     either_laws = preferred_laws CastParts Expr bare_goes Cast Post cast_laws d.post_laws
         (record {
-          solid = refl; solid' = refl; goes_first = λ r e. e;
+          solid = refl;
+          solid' = refl;
+          goes_first = λ r e. e;
           goes_second = λ r e. outside post_goes bare_goes r refl e;
           longer = longer;
         })
       where
-      outside : (xs ys : List ℕ) (r : List Token) → all_in xs ys ≡ true → one_of ys r ≡ false → one_of xs r ≡ false
-      outside xs ys r a e = ⊎_elim (λ (t : one_of xs r ≡ true). absurd (false≢true (sym e ∙ within_sets xs ys a (front_code r) t))) (λ (f : one_of xs r ≡ false). f) (cases_Bool (one_of xs r))
+        outside : (xs ys : List ℕ) (r : List Token) → all_in xs ys ≡ true → one_of ys r ≡ false → one_of xs r ≡ false
+        outside xs ys r a e = ⊎_elim (λ (t : one_of xs r ≡ true). absurd (false≢true (sym e ∙ within_sets xs ys a (front_code r) t))) (λ (f : one_of xs r ≡ false). f) (cases_Bool (one_of xs r))
 
     told : (o : Either CastParts Expr) (r : List Told) → Bare.fits o ≡ true → expr_tokens (bare_made o) r ≡ Bare.tell o r
     told (This p) r g = expr_tokens-Cast p.0 p.1.0.0 p.1.1 r
@@ -275,10 +276,12 @@ module _ (k : ℕ) (unary plain post : Run Expr) where
     of_cast e w g s =
         let h = and_parts (nat_le (type_height w.ty) (suc k)) (nat_le (expr_height w.operand) (suc k)) (sym (high w.at w.ty w.operand) ∙ ap (λ (x : Expr). nat_le (expr_height x) (suc (suc k))) w.is_it ∙ g) in
         let z : stands 13 (expr_shape (expr_of.Cast w.at w.ty w.operand)) ≡ true = ap (λ (x : Expr). stands 13 (expr_shape x)) w.is_it ∙ s in
-        let c = and_parts (stands (operand_level (is_primitive w.ty)) (expr_shape w.operand)) true (subst (λ (y : Shape). stands 13 y ≡ true) (expr_shape-Cast w.at w.ty w.operand) z) in
-        (This (w.at, ((w.ty, tt), w.operand)), w.is_it,
-        and_from ((type_coded (suc k)).fits w.ty && true) ((operand_form (is_primitive w.ty)).fits w.operand) (and_from ((type_coded (suc k)).fits w.ty) true h.0 refl)
-        (and_from (nat_le (expr_height w.operand) (suc k)) (stands (operand_level (is_primitive w.ty)) (expr_shape w.operand)) h.1 c.0))
+        let c = and_parts (stands (operand_level (is_primitive w.ty)) (expr_shape w.operand)) true (subst (λ (y : Shape). stands 13 y ≡ true) (expr_shape-Cast w.at w.ty w.operand) z) in (
+          This (w.at, ((w.ty, tt), w.operand)),
+          w.is_it,
+          and_from ((type_coded (suc k)).fits w.ty && true) ((operand_form (is_primitive w.ty)).fits w.operand) (and_from ((type_coded (suc k)).fits w.ty) true h.0 refl)
+              (and_from (nat_le (expr_height w.operand) (suc k)) (stands (operand_level (is_primitive w.ty)) (expr_shape w.operand)) h.1 c.0),
+        )
 
     not_true : (b : Bool) → not b ≡ true → b ≡ false
     not_true true e = absurd (false≢true e)

@@ -1,5 +1,5 @@
 -- Cond: an expression of the loosest binary level, and behind one that is not too high two branches.
-use Rattle.std.proofs.Common.{◌≡◌, ℕ, zero, suc, ◌+◌, ◌<◌, ◌≤◌, max, Bool, true, false, List, [], ◌∷◌, ◌++◌, map, length, Option, Some, None, refl, sym, ap, ◌∙◌, subst, ⊎_elim, ◌⊎◌, inl, inr, arith}
+use Rattle.std.proofs.Common.{◌≡◌, ℕ, suc, ◌≤◌, max, Bool, true, false, List, [], ◌∷◌, Option, Some, None, refl, sym, ap, ◌∙◌, subst, ⊎_elim, arith}
 use Rattle.std.proofs.lemmas.Bool.{false≢true, and_parts, and_from, or_from, or_left, or_right, or_cases, cases_Bool, leb-true, le-leb}
 use Rattle.std.specs.Prelude.{◌&&◌, ◌||◌, nat_le, not, ◌==◌}
 use Rattle.jc_lexer.specs.declared.token.Sign.TheVariants as sign_of
@@ -16,17 +16,17 @@ use Rattle.jc_tree.specs.declared.expression.PrefixSign.{PrefixSign}
 use Rattle.jc_tree.specs.declared.expression.PrefixSign.TheVariants as prefix_of
 use Rattle.jc_tree.specs.Heights.{expr_height}
 use Rattle.jc_tree.proofs.HeightsOfExpressions.{expr_height-Conditional}
-use Rattle.jc_grammar.specs.Told.{Told, sign}
+use Rattle.jc_grammar.specs.Told.{Told}
 use Rattle.jc_grammar.specs.Expressions.{expr_tokens}
 use Rattle.jc_grammar.specs.Shapes.{Shape, CreationShape, OperandShape, stands, expr_shape, creation_shape, operand_shape, is_init, is_array, expr_shape_step, operand_shape_step, prefix_level, binary_level}
 use Rattle.jc_grammar.proofs.ShapesOfExpressions.{expr_shape-out, operand_shape-out, expr_shape-Conditional}
 use Rattle.jc_grammar.proofs.Stands.{stands_looser}
 use Rattle.jc_grammar.proofs.TokensOfExpressions.{expr_tokens-Conditional}
 use Rattle.jc_reading.specs.Kinds.{sign_code, is_in, front_code, one_of}
-use Rattle.jc_reading.specs.Reading.{Run, as_new, in_turn, perhaps, of_kind}
-use Rattle.jc_reading.proofs.Alikes.{alike, Alike, alike_laws}
+use Rattle.jc_reading.specs.Reading.{Run}
+use Rattle.jc_reading.proofs.Alikes.{alike_laws}
 use Rattle.jc_reading.proofs.Forms.{Form, Lawful, Stands}
-use Rattle.jc_reading.proofs.Options.{option, option_laws, tell_some, fits_some}
+use Rattle.jc_reading.proofs.Options.{option, option_laws}
 use Rattle.jc_reading.proofs.Pairs.{pair, pair_laws}
 use Rattle.jc_reading.proofs.Retests.{retested}
 use Rattle.jc_reading.proofs.Rooms.{room_suc, room_max}
@@ -34,7 +34,7 @@ use Rattle.jc_reading.proofs.Signs.{a_sign, sign_laws, none_common, apart_sets, 
 use Rattle.jc_parse_parts.proofs.ExprForms.{expr_codes}
 use Rattle.jc_parse_expr.specs.LevelReading.{is_tall, Branches, conditional_made, conditional_run}
 use Rattle.jc_parse_expr.proofs.LevelTests.{acts, leads, acts_lead}
-use Rattle.jc_parse_expr.proofs.LevelFollowed.{followed_form, Follow, followed_laws}
+use Rattle.jc_parse_expr.proofs.LevelFollowed.{followed_form, followed_laws}
 use Rattle.jc_parse_expr.proofs.LevelSpelled.{loosened_laws}
 use Rattle.jc_parse_expr.proofs.LevelShapes.{exactly}
 use Rattle.jc_parse_expr.proofs.LevelChains.{may_go, at_level}
@@ -163,7 +163,13 @@ module _ (k : ℕ) (test expr conditional : Run Expr) (codes goes : List ℕ) (o
     both_laws : Lawful (Expr × Branches) Both
     both_laws = followed_laws Expr Branches (is_tall (suc k)) None is_nothing Test (option (Unit {0} × (Expr × (Unit {0} × Expr))) Clean) d.test_laws tail_laws
         (record {
-          solid = refl; free = refl; bare = λ r. refl; none_fits = refl; none_is = refl; only = only_none; some = some_tail;
+          solid = refl;
+          free = refl;
+          bare = λ r. refl;
+          none_fits = refl;
+          none_is = refl;
+          only = only_none;
+          some = some_tail;
           whole = λ ts e r s c t. d.test_laws.exact ts e r s (stops r t);
         })
 
@@ -212,12 +218,14 @@ module _ (k : ℕ) (test expr conditional : Run Expr) (codes goes : List ℕ) (o
         let s = and_parts ((stands 2 (expr_shape test) && stands 0 (expr_shape chosen)) && stands 1 (expr_shape other)) true (subst (λ (z : Shape). stands 1 z ≡ true) (expr_shape-Conditional test chosen other) a.1) in
         let t = and_parts (stands 2 (expr_shape test) && stands 0 (expr_shape chosen)) (stands 1 (expr_shape other)) s.0 in
         let u = and_parts (stands 2 (expr_shape test)) (stands 0 (expr_shape chosen)) t.0 in
-        let low : nat_le (expr_height test) (suc (suc k)) ≡ true = let j : expr_height test ≤ suc k = leb-true (expr_height test) (suc k) i.0 in le-leb (expr_height test) (suc (suc k)) (omega (arith, j)) in
-        ((test, Some (tt, (chosen, (tt, other)))), refl,
-        and_from (Test.fits test) (Clean.fits (tt, (chosen, (tt, other))) && (false || not (is_tall (suc k) test))) (and_from (nat_le (expr_height test) (suc (suc k))) (stands 2 (expr_shape test)) low u.0)
-        (and_from (Clean.fits (tt, (chosen, (tt, other)))) (false || not (is_tall (suc k) test))
-        (and_from (any_form.fits chosen) (true && Other.fits other) (and_from (nat_le (expr_height chosen) (suc k)) (stands 0 (expr_shape chosen)) i.1 u.1) (and_from (nat_le (expr_height other) (suc k)) (stands 1 (expr_shape other)) h.1 t.1))
-        (ap (λ (b : Bool). not (not b)) i.0)))
+        let low : nat_le (expr_height test) (suc (suc k)) ≡ true = let j : expr_height test ≤ suc k = leb-true (expr_height test) (suc k) i.0 in le-leb (expr_height test) (suc (suc k)) (omega (arith, j)) in (
+          (test, Some (tt, (chosen, (tt, other)))),
+          refl,
+          and_from (Test.fits test) (Clean.fits (tt, (chosen, (tt, other))) && (false || not (is_tall (suc k) test))) (and_from (nat_le (expr_height test) (suc (suc k))) (stands 2 (expr_shape test)) low u.0)
+              (and_from (Clean.fits (tt, (chosen, (tt, other)))) (false || not (is_tall (suc k) test))
+              (and_from (any_form.fits chosen) (true && Other.fits other) (and_from (nat_le (expr_height chosen) (suc k)) (stands 0 (expr_shape chosen)) i.1 u.1) (and_from (nat_le (expr_height other) (suc k)) (stands 1 (expr_shape other)) h.1 t.1))
+              (ap (λ (b : Bool). not (not b)) i.0)),
+        )
 
     back : (e : Expr) → Fits e ≡ true → (p : Expr × Branches) × (conditional_made p ≡ e) × (Both.fits p ≡ true)
     back e g =

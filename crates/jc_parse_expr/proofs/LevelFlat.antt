@@ -1,7 +1,7 @@
 -- Tokens told with and without the rule that no `>` before an operator touches it.
-use Rattle.std.proofs.Common.{◌≡◌, ℕ, Bool, true, false, List, [], ◌∷◌, ◌++◌, refl, sym, ap, ◌∙◌, subst, ⊎_elim, ◌⊎◌, inl, inr}
-use Rattle.std.proofs.lemmas.Bool.{false≢true, and_parts, and_left, cases_Bool}
-use Rattle.std.specs.Prelude.{◌&&◌, ◌==◌, ◌+◌, nat_le}
+use Rattle.std.proofs.Common.{◌≡◌, Bool, true, false, List, [], ◌∷◌, ◌++◌, refl, sym, ◌∙◌, subst, ⊎_elim, ◌⊎◌, inl, inr}
+use Rattle.std.proofs.lemmas.Bool.{false≢true, and_parts}
+use Rattle.std.specs.Prelude.{◌&&◌}
 use Rattle.jc_lexer.specs.declared.token.Token.{Token}
 use Rattle.jc_lexer.specs.declared.token.TokenKind.{TokenKind}
 use Rattle.jc_tree.specs.declared.expression.BinaryOp.{BinaryOp}
@@ -10,7 +10,6 @@ use Rattle.jc_tree.specs.declared.expression.Expr.{Expr}
 use Rattle.jc_grammar.specs.Told.{Told}
 use Rattle.jc_grammar.specs.Spelling.{StandsAt, is_greater}
 use Rattle.jc_grammar.specs.Expressions.{binary_tokens, expr_tokens}
-use Rattle.jc_grammar.specs.Shapes.{binary_level}
 use Rattle.jc_grammar.proofs.FramedExpressions.{expr_frames}
 use Rattle.jc_reading.specs.Reading.{Takes}
 use Rattle.jc_reading.proofs.Lists.{tell_all, fits_all}
@@ -37,9 +36,10 @@ flat_forth touched b [] [] ts r w k s = s
 flat_forth touched b [] (e ∷ a) ts r w k s = absurd k
 flat_forth touched b (d ∷ f) [] ts r w k s = absurd k
 flat_forth touched b (d ∷ f) (e ∷ a) [] r w k s = absurd s
-flat_forth touched b (d ∷ f) (e ∷ a) (t ∷ ts) r w k s =
-    ((s.0.0 ∙ k.0, subst (λ o. StandsAt o t.from) k.1 s.0.1, λ j. s.0.2 (k.2 ∙ j), λ q. ⊎_elim (λ (p : d.apart ≡ true). s.0.3 p) (λ (p : b ≡ false). never_both touched b w p) (k.3 q)),
-    flat_forth (is_greater t.kind && t.touches) (is_greater d.kind) f a ts r (touched_next t.kind d.kind t.touches s.0.0) k.5 s.1)
+flat_forth touched b (d ∷ f) (e ∷ a) (t ∷ ts) r w k s = (
+  (s.0.0 ∙ k.0, subst (λ o. StandsAt o t.from) k.1 s.0.1, λ j. s.0.2 (k.2 ∙ j), λ q. ⊎_elim (λ (p : d.apart ≡ true). s.0.3 p) (λ (p : b ≡ false). never_both touched b w p) (k.3 q)),
+  flat_forth (is_greater t.kind && t.touches) (is_greater d.kind) f a ts r (touched_next t.kind d.kind t.touches s.0.0) k.5 s.1,
+)
 
 pub flat_back : (touched b : Bool) (f a : List Told) (ts r : List Token) → Flat b f a → Takes touched a ts r → Takes touched f ts r
 flat_back touched b [] [] ts r k s = s

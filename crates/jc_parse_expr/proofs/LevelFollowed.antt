@@ -1,12 +1,12 @@
 -- A value, and more behind it unless it is one that takes no more, where the tests look at more than the first token.
-use Rattle.std.proofs.Common.{◌≡◌, ℕ, zero, suc, ◌+◌, ◌<◌, ◌≤◌, min, Bool, true, false, cond, List, [], ◌∷◌, ◌++◌, length, length-append, append_assoc, refl, sym, ap, ◌∙◌, subst, ⊎_elim, ◌⊎◌, inl, inr, arith}
-use Rattle.std.proofs.lemmas.Bool.{false≢true, cond_both, cond-true, cond-false, cases_Bool, and_parts, and_from, or_parts, or_left, or_right, or_cases}
-use Rattle.std.specs.Prelude.{◌&&◌, ◌||◌, ◌==◌, not}
+use Rattle.std.proofs.Common.{◌≡◌, ℕ, ◌≤◌, min, Bool, true, false, cond, List, [], ◌∷◌, ◌++◌, length, append_assoc, refl, sym, ap, ◌∙◌, subst, ⊎_elim, inl, arith}
+use Rattle.std.proofs.lemmas.Bool.{false≢true, cond_both, cases_Bool, and_parts, and_from, or_parts, or_left, or_right, or_cases}
+use Rattle.std.specs.Prelude.{◌&&◌, ◌||◌, not}
 use Rattle.jc_lexer.specs.declared.token.Token.{Token}
 use Rattle.jc_grammar.specs.Told.{Told}
-use Rattle.jc_reading.specs.Reading.{Read, Found, Stopped, Run, found, noting, becoming, joined, ◌>>=◌, Takes}
-use Rattle.jc_reading.proofs.Steps.{Good, Within, Goes, IsFound, Refuses, reach, Moved, Moves, Plain, good_becoming, good_bind, within_becoming, within_bind, goes_becoming, goes_bind, goes_after, goes_more, found_becoming, found_bind, reach_becoming, reach_noting, moves_becoming, moves_bind, moves_found, takes_cut, takes_join, takes_front}
-use Rattle.jc_reading.proofs.Forms.{Form, Lawful, Stands, Begins, Least, Opens, begins_as, begins_full, begins_behind, begins_pick}
+use Rattle.jc_reading.specs.Reading.{Read, Found, Stopped, found, becoming, joined, ◌>>=◌, Takes}
+use Rattle.jc_reading.proofs.Steps.{Good, Within, Goes, IsFound, Refuses, reach, Moves, Plain, good_becoming, good_bind, within_becoming, within_bind, goes_becoming, goes_bind, goes_after, goes_more, found_becoming, found_bind, reach_becoming, reach_noting, moves_becoming, moves_bind, moves_found, takes_cut, takes_join, takes_front}
+use Rattle.jc_reading.proofs.Forms.{Form, Lawful, Stands, Begins, Opens, begins_as, begins_full, begins_behind, begins_pick}
 use Rattle.jc_parse_parts.specs.Reading.{unless, followed}
 
 module _ (A T : Type 0) (closes : A → Bool) (none : T) (nothing : T → Bool) (ca : Form A) (ct : Form T) where
@@ -15,7 +15,9 @@ module _ (A T : Type 0) (closes : A → Bool) (none : T) (nothing : T → Bool) 
     tell = λ p r. ca.tell p.0 (ct.tell p.1 r);
     fits = λ p. ca.fits p.0 && (ct.fits p.1 && (nothing p.1 || not (closes p.0)));
     run = followed closes none ca.run ct.run;
-    starts = ca.starts; goes_on = λ ts. ct.goes_on ts || ca.goes_on ts; empties = false;
+    starts = ca.starts;
+    goes_on = λ ts. ct.goes_on ts || ca.goes_on ts;
+    empties = false;
   }
 
   pub record Follow : Type 0 where
@@ -59,9 +61,10 @@ module _ (A T : Type 0) (closes : A → Bool) (none : T) (nothing : T → Bool) 
       record { m = w.0; first = (w.1, f.0); second = (w.2, g.0); which = g.1 }
 
   join : (ts m r : List Token) (a : A) (t : T) → Stands ca ts a m → Stands ct m t r → (nothing t || not (closes a)) ≡ true → Stands Both ts (a, t) r
-  join ts m r a t s u w =
-      (subst (λ (l : List Told). Takes false l ts r) (sym (la.appends a (ct.tell t []) s.1)) (takes_join false (ca.tell a []) (ct.tell t []) ts m r (lt.plain t u.1) s.0 u.0),
-      and_from (ca.fits a) (ct.fits t && (nothing t || not (closes a))) s.1 (and_from (ct.fits t) (nothing t || not (closes a)) u.1 w))
+  join ts m r a t s u w = (
+    subst (λ (l : List Told). Takes false l ts r) (sym (la.appends a (ct.tell t []) s.1)) (takes_join false (ca.tell a []) (ct.tell t []) ts m r (lt.plain t u.1) s.0 u.0),
+    and_from (ca.fits a) (ct.fits t && (nothing t || not (closes a))) s.1 (and_from (ct.fits t) (nothing t || not (closes a)) u.1 w),
+  )
 
   stands_none : (ts : List Token) → Stands ct ts none ts
   stands_none ts = (subst (λ (l : List Told). Takes false l ts ts) (sym (d.bare [])) refl, d.none_fits)
@@ -180,7 +183,13 @@ module _ (A T : Type 0) (closes : A → Bool) (none : T) (nothing : T → Bool) 
 
   pub followed_laws : Lawful (A × T) Both
   followed_laws = record {
-    appends = appends_both; plain = plain_both; within = within_both; sound = sound_both; longest = longest_both; exact = exact_both; opens = opens_both;
+    appends = appends_both;
+    plain = plain_both;
+    within = within_both;
+    sound = sound_both;
+    longest = longest_both;
+    exact = exact_both;
+    opens = opens_both;
     refuses = λ ts g. refuses_on ts (ca.run ts) (la.refuses ts g);
     total = λ e ts. absurd (false≢true e);
     local = λ p x y. moves_bind x y p (ca.run (p ++ x)) (ca.run (p ++ y)) After After (la.within (p ++ x)) (la.local p x y) (λ a q l. moves_after (closes a) a q x y);

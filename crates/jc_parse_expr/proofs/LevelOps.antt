@@ -1,5 +1,5 @@
 -- The operators of each level, told without the rule that no `>` before one touches it.
-use Rattle.std.proofs.Common.{◌≡◌, ℕ, ◌<◌, ◌≤◌, Bool, true, false, cond, List, [], ◌∷◌, ◌++◌, length, Option, Some, None, refl, sym, ap, ◌∙◌, subst, ⊎_elim, arith}
+use Rattle.std.proofs.Common.{◌≡◌, ℕ, ◌≤◌, Bool, true, false, List, [], ◌∷◌, length, Some, None, refl, sym, ap, ◌∙◌, subst, ⊎_elim, arith}
 use Rattle.std.proofs.lemmas.Bool.{false≢true, eqb-true, eq-eqb, or_left, or_right, or_cases, and_from, and_parts, cond-true, cond-false, cases_Bool}
 use Rattle.std.specs.Prelude.{◌==◌, ◌&&◌, ◌||◌}
 use Rattle.jc_lexer.specs.declared.token.Sign.{Sign}
@@ -9,19 +9,19 @@ use Rattle.jc_lexer.specs.declared.token.TokenKind.TheVariants as kind_of
 use Rattle.jc_tree.specs.declared.expression.BinaryOp.{BinaryOp}
 use Rattle.jc_tree.specs.declared.expression.BinaryOp.TheVariants as binary_of
 use Rattle.jc_grammar.specs.Told.{Told, Spelled, sign}
-use Rattle.jc_grammar.specs.Expressions.{inner, binary_tokens}
+use Rattle.jc_grammar.specs.Expressions.{inner}
 use Rattle.jc_grammar.specs.Shapes.{binary_level}
-use Rattle.jc_reading.specs.Kinds.{kind_code, sign_code, is_in, front_code, one_of}
-use Rattle.jc_reading.specs.Reading.{Run, Either, This, That, IsTold, Takes}
-use Rattle.jc_reading.proofs.Codes.{kind_is_sign, some_is, none_is}
-use Rattle.jc_reading.proofs.Forms.{Form, Lawful, Stands}
-use Rattle.jc_reading.proofs.Kindly.{token, Picks, token_laws}
+use Rattle.jc_reading.specs.Kinds.{kind_code, sign_code, is_in, one_of}
+use Rattle.jc_reading.specs.Reading.{Run, Either, This, That, Takes}
+use Rattle.jc_reading.proofs.Codes.{kind_is_sign, none_is}
+use Rattle.jc_reading.proofs.Forms.{Form, Lawful}
+use Rattle.jc_reading.proofs.Kindly.{token, token_laws}
 use Rattle.jc_reading.proofs.Signs.{sign_laws}
-use Rattle.jc_parse_parts.proofs.Coded.{Coded, formed, coded, in_order, in_order_laws, one_or, Apart, one_or_laws, made, Makes, made_laws}
-use Rattle.jc_parse_parts.proofs.Prefers.{preferred, Prefer, preferred_laws}
+use Rattle.jc_parse_parts.proofs.Coded.{Coded, formed, coded, in_order, in_order_laws, one_or, one_or_laws, made_laws}
+use Rattle.jc_parse_parts.proofs.Prefers.{preferred, preferred_laws}
 use Rattle.jc_parse_parts.proofs.PartForms.{sign_form}
 use Rattle.jc_parse_parts.proofs.ExprForms.{expr_codes}
-use Rattle.jc_parse_expr.specs.LevelReading.{picks_touching, touching_run, or_else_op, and_also_op, or_op, xor_op, and_op, equal_op, less_op, shift_op, plus_op, times_op, or_else_run, and_also_run, or_run, xor_run, and_run, equal_run, less_run, shift_run, plus_run, times_run}
+use Rattle.jc_parse_expr.specs.LevelReading.{picks_touching, or_else_op, and_also_op, or_op, xor_op, and_op, equal_op, less_op, shift_op, plus_op, times_op, or_else_run, and_also_run, or_run, xor_run, and_run, equal_run, less_run, shift_run, plus_run, times_run}
 use Rattle.jc_parse_expr.proofs.LevelTests.{matches, acts}
 
 -- a `>` that touches the next token
@@ -89,45 +89,45 @@ unfolding or_else_run
 or_else_laws = made_laws (Unit {0}) BinaryOp (sign_form sign_of.OrOr) or_else_op flat_tokens (λ op. binary_level op == 2) (sign_laws sign_of.OrOr)
     (record { told = λ u r g. refl; forth = λ u g. refl; back = back })
   where
-  back : (op : BinaryOp) → (binary_level op == 2) ≡ true → (u : Unit {0}) × (or_else_op u ≡ op) × (true ≡ true)
-  back binary_of.OrElse g = (tt, refl, refl)
-  back _ g = absurd (false≢true g)
+    back : (op : BinaryOp) → (binary_level op == 2) ≡ true → (u : Unit {0}) × (or_else_op u ≡ op) × (true ≡ true)
+    back binary_of.OrElse g = (tt, refl, refl)
+    back _ g = absurd (false≢true g)
 
 pub and_also_laws : Lawful BinaryOp (formed (op_coded 3 and_also_run (sign_code sign_of.AndAnd ∷ []) []))
 unfolding and_also_run
 and_also_laws = made_laws (Unit {0}) BinaryOp (sign_form sign_of.AndAnd) and_also_op flat_tokens (λ op. binary_level op == 3) (sign_laws sign_of.AndAnd)
     (record { told = λ u r g. refl; forth = λ u g. refl; back = back })
   where
-  back : (op : BinaryOp) → (binary_level op == 3) ≡ true → (u : Unit {0}) × (and_also_op u ≡ op) × (true ≡ true)
-  back binary_of.AndAlso g = (tt, refl, refl)
-  back _ g = absurd (false≢true g)
+    back : (op : BinaryOp) → (binary_level op == 3) ≡ true → (u : Unit {0}) × (and_also_op u ≡ op) × (true ≡ true)
+    back binary_of.AndAlso g = (tt, refl, refl)
+    back _ g = absurd (false≢true g)
 
 pub or_laws : Lawful BinaryOp (formed (op_coded 4 or_run (sign_code sign_of.Or ∷ []) []))
 unfolding or_run
 or_laws = made_laws (Unit {0}) BinaryOp (sign_form sign_of.Or) or_op flat_tokens (λ op. binary_level op == 4) (sign_laws sign_of.Or)
     (record { told = λ u r g. refl; forth = λ u g. refl; back = back })
   where
-  back : (op : BinaryOp) → (binary_level op == 4) ≡ true → (u : Unit {0}) × (or_op u ≡ op) × (true ≡ true)
-  back binary_of.Or g = (tt, refl, refl)
-  back _ g = absurd (false≢true g)
+    back : (op : BinaryOp) → (binary_level op == 4) ≡ true → (u : Unit {0}) × (or_op u ≡ op) × (true ≡ true)
+    back binary_of.Or g = (tt, refl, refl)
+    back _ g = absurd (false≢true g)
 
 pub xor_laws : Lawful BinaryOp (formed (op_coded 5 xor_run (sign_code sign_of.Caret ∷ []) []))
 unfolding xor_run
 xor_laws = made_laws (Unit {0}) BinaryOp (sign_form sign_of.Caret) xor_op flat_tokens (λ op. binary_level op == 5) (sign_laws sign_of.Caret)
     (record { told = λ u r g. refl; forth = λ u g. refl; back = back })
   where
-  back : (op : BinaryOp) → (binary_level op == 5) ≡ true → (u : Unit {0}) × (xor_op u ≡ op) × (true ≡ true)
-  back binary_of.Xor g = (tt, refl, refl)
-  back _ g = absurd (false≢true g)
+    back : (op : BinaryOp) → (binary_level op == 5) ≡ true → (u : Unit {0}) × (xor_op u ≡ op) × (true ≡ true)
+    back binary_of.Xor g = (tt, refl, refl)
+    back _ g = absurd (false≢true g)
 
 pub and_laws : Lawful BinaryOp (formed (op_coded 6 and_run (sign_code sign_of.And ∷ []) []))
 unfolding and_run
 and_laws = made_laws (Unit {0}) BinaryOp (sign_form sign_of.And) and_op flat_tokens (λ op. binary_level op == 6) (sign_laws sign_of.And)
     (record { told = λ u r g. refl; forth = λ u g. refl; back = back })
   where
-  back : (op : BinaryOp) → (binary_level op == 6) ≡ true → (u : Unit {0}) × (and_op u ≡ op) × (true ≡ true)
-  back binary_of.And g = (tt, refl, refl)
-  back _ g = absurd (false≢true g)
+    back : (op : BinaryOp) → (binary_level op == 6) ≡ true → (u : Unit {0}) × (and_op u ≡ op) × (true ≡ true)
+    back binary_of.And g = (tt, refl, refl)
+    back _ g = absurd (false≢true g)
 
 -- levels of two and of three
 
@@ -143,16 +143,18 @@ equal_laws = made_laws (Either One One) BinaryOp EqualForm equal_op flat_tokens 
     (one_or_laws One One (sign_code sign_of.Equal ∷ []) (sign_form sign_of.Equal) (sign_form sign_of.NotEqual) (sign_laws sign_of.Equal) (sign_laws sign_of.NotEqual) (record { solid = refl; solid' = refl; this = refl; that = refl }))
     (record { told = told; forth = forth; back = back })
   where
-  told : (o : Either One One) (r : List Told) → EqualForm.fits o ≡ true → flat_tokens (equal_op o) r ≡ EqualForm.tell o r
-  told (This u) r g = refl
-  told (That u) r g = refl
-  forth : (o : Either One One) → EqualForm.fits o ≡ true → (binary_level (equal_op o) == 7) ≡ true
-  forth (This u) g = refl
-  forth (That u) g = refl
-  back : (op : BinaryOp) → (binary_level op == 7) ≡ true → (o : Either One One) × (equal_op o ≡ op) × (EqualForm.fits o ≡ true)
-  back binary_of.Equal g = (This tt, refl, refl)
-  back binary_of.NotEqual g = (That tt, refl, refl)
-  back _ g = absurd (false≢true g)
+    told : (o : Either One One) (r : List Told) → EqualForm.fits o ≡ true → flat_tokens (equal_op o) r ≡ EqualForm.tell o r
+    told (This u) r g = refl
+    told (That u) r g = refl
+
+    forth : (o : Either One One) → EqualForm.fits o ≡ true → (binary_level (equal_op o) == 7) ≡ true
+    forth (This u) g = refl
+    forth (That u) g = refl
+
+    back : (op : BinaryOp) → (binary_level op == 7) ≡ true → (o : Either One One) × (equal_op o ≡ op) × (EqualForm.fits o ≡ true)
+    back binary_of.Equal g = (This tt, refl, refl)
+    back binary_of.NotEqual g = (That tt, refl, refl)
+    back _ g = absurd (false≢true g)
 
 abbrev PlusForm : Coded (Either One One)
 PlusForm = one_or (sign_code sign_of.Plus ∷ []) (sign_form sign_of.Plus) (sign_form sign_of.Minus)
@@ -163,16 +165,18 @@ plus_laws = made_laws (Either One One) BinaryOp PlusForm plus_op flat_tokens (λ
     (one_or_laws One One (sign_code sign_of.Plus ∷ []) (sign_form sign_of.Plus) (sign_form sign_of.Minus) (sign_laws sign_of.Plus) (sign_laws sign_of.Minus) (record { solid = refl; solid' = refl; this = refl; that = refl }))
     (record { told = told; forth = forth; back = back })
   where
-  told : (o : Either One One) (r : List Told) → PlusForm.fits o ≡ true → flat_tokens (plus_op o) r ≡ PlusForm.tell o r
-  told (This u) r g = refl
-  told (That u) r g = refl
-  forth : (o : Either One One) → PlusForm.fits o ≡ true → (binary_level (plus_op o) == 10) ≡ true
-  forth (This u) g = refl
-  forth (That u) g = refl
-  back : (op : BinaryOp) → (binary_level op == 10) ≡ true → (o : Either One One) × (plus_op o ≡ op) × (PlusForm.fits o ≡ true)
-  back binary_of.Plus g = (This tt, refl, refl)
-  back binary_of.Minus g = (That tt, refl, refl)
-  back _ g = absurd (false≢true g)
+    told : (o : Either One One) (r : List Told) → PlusForm.fits o ≡ true → flat_tokens (plus_op o) r ≡ PlusForm.tell o r
+    told (This u) r g = refl
+    told (That u) r g = refl
+
+    forth : (o : Either One One) → PlusForm.fits o ≡ true → (binary_level (plus_op o) == 10) ≡ true
+    forth (This u) g = refl
+    forth (That u) g = refl
+
+    back : (op : BinaryOp) → (binary_level op == 10) ≡ true → (o : Either One One) × (plus_op o ≡ op) × (PlusForm.fits o ≡ true)
+    back binary_of.Plus g = (This tt, refl, refl)
+    back binary_of.Minus g = (That tt, refl, refl)
+    back _ g = absurd (false≢true g)
 
 abbrev DivideForm : Coded (Either One One)
 DivideForm = one_or (sign_code sign_of.Slash ∷ []) (sign_form sign_of.Slash) (sign_form sign_of.Percent)
@@ -188,29 +192,32 @@ times_laws = made_laws (Either One (Either One One)) BinaryOp TimesForm times_op
     (record { solid = refl; solid' = refl; this = refl; that = refl }))
     (record { told = told; forth = forth; back = back })
   where
-  told : (o : Either One (Either One One)) (r : List Told) → TimesForm.fits o ≡ true → flat_tokens (times_op o) r ≡ TimesForm.tell o r
-  told (This u) r g = refl
-  told (That (This u)) r g = refl
-  told (That (That u)) r g = refl
-  forth : (o : Either One (Either One One)) → TimesForm.fits o ≡ true → (binary_level (times_op o) == 11) ≡ true
-  forth (This u) g = refl
-  forth (That (This u)) g = refl
-  forth (That (That u)) g = refl
-  back : (op : BinaryOp) → (binary_level op == 11) ≡ true → (o : Either One (Either One One)) × (times_op o ≡ op) × (TimesForm.fits o ≡ true)
-  back binary_of.Times g = (This tt, refl, refl)
-  back binary_of.Divide g = (That (This tt), refl, refl)
-  back binary_of.Remainder g = (That (That tt), refl, refl)
-  back _ g = absurd (false≢true g)
+    told : (o : Either One (Either One One)) (r : List Told) → TimesForm.fits o ≡ true → flat_tokens (times_op o) r ≡ TimesForm.tell o r
+    told (This u) r g = refl
+    told (That (This u)) r g = refl
+    told (That (That u)) r g = refl
+
+    forth : (o : Either One (Either One One)) → TimesForm.fits o ≡ true → (binary_level (times_op o) == 11) ≡ true
+    forth (This u) g = refl
+    forth (That (This u)) g = refl
+    forth (That (That u)) g = refl
+
+    back : (op : BinaryOp) → (binary_level op == 11) ≡ true → (o : Either One (Either One One)) × (times_op o ≡ op) × (TimesForm.fits o ≡ true)
+    back binary_of.Times g = (This tt, refl, refl)
+    back binary_of.Divide g = (That (This tt), refl, refl)
+    back binary_of.Remainder g = (That (That tt), refl, refl)
+    back _ g = absurd (false≢true g)
 
 -- runs of touching `>`: the longer one where both stand
 
 longer_run : (s : Sign) (ts q r : List Token) → Takes false (inner ∷ sign s ∷ []) ts q → Takes false (sign sign_of.Greater ∷ []) ts r → (length q ≤ length r) × (one_of (sign_code s ∷ []) r ≡ true)
 longer_run s [] q r f g = absurd f
 longer_run s (t ∷ []) q r f g = absurd f.1
-longer_run s (t ∷ u ∷ us) q r f g =
-    (omega (arith, ap length f.1.1, ap length g.1),
-    subst (λ (l : List Token). one_of (sign_code s ∷ []) l ≡ true) g.1
-    (or_left (sign_code s == kind_code u.kind) false (eq-eqb (sign_code s) (kind_code u.kind) (sym (ap kind_code f.1.0.0)))))
+longer_run s (t ∷ u ∷ us) q r f g = (
+  omega (arith, ap length f.1.1, ap length g.1),
+  subst (λ (l : List Token). one_of (sign_code s ∷ []) l ≡ true) g.1
+      (or_left (sign_code s == kind_code u.kind) false (eq-eqb (sign_code s) (kind_code u.kind) (sym (ap kind_code f.1.0.0)))),
+)
 
 abbrev pub run_form : Sign → Coded (Either (One × One) One)
 run_form s = preferred (One × One) One (sign_code s ∷ []) (in_order touching_form (sign_form s)) (sign_form sign_of.Greater)
@@ -219,7 +226,10 @@ run_laws : (s : Sign) → Lawful (Either (One × One) One) (formed (run_form s))
 run_laws s = preferred_laws (One × One) One (sign_code s ∷ []) (in_order touching_form (sign_form s)) (sign_form sign_of.Greater)
     (in_order_laws One One touching_form (sign_form s) touching_laws (sign_laws s) refl) (sign_laws sign_of.Greater)
     (record {
-      solid = refl; solid' = refl; goes_first = λ r g. refl; goes_second = λ r g. refl;
+      solid = refl;
+      solid' = refl;
+      goes_first = λ r g. refl;
+      goes_second = λ r g. refl;
       longer = λ ts a q b r f g. longer_run s ts q r f.0 g.0;
     })
 
@@ -234,19 +244,21 @@ shift_laws = made_laws (Either One (One × Either (One × One) One)) BinaryOp Sh
     (record { solid = refl; solid' = refl; this = refl; that = refl }))
     (record { told = told; forth = forth; back = back })
   where
-  told : (o : Either One (One × Either (One × One) One)) (r : List Told) → ShiftForm.fits o ≡ true → flat_tokens (shift_op o) r ≡ ShiftForm.tell o r
-  told (This u) r g = refl
-  told (That (u, This p)) r g = refl
-  told (That (u, That v)) r g = refl
-  forth : (o : Either One (One × Either (One × One) One)) → ShiftForm.fits o ≡ true → (binary_level (shift_op o) == 9) ≡ true
-  forth (This u) g = refl
-  forth (That (u, This p)) g = refl
-  forth (That (u, That v)) g = refl
-  back : (op : BinaryOp) → (binary_level op == 9) ≡ true → (o : Either One (One × Either (One × One) One)) × (shift_op o ≡ op) × (ShiftForm.fits o ≡ true)
-  back binary_of.ShiftLeft g = (This tt, refl, refl)
-  back binary_of.ShiftRightZero g = (That (tt, This (tt, tt)), refl, refl)
-  back binary_of.ShiftRight g = (That (tt, That tt), refl, refl)
-  back _ g = absurd (false≢true g)
+    told : (o : Either One (One × Either (One × One) One)) (r : List Told) → ShiftForm.fits o ≡ true → flat_tokens (shift_op o) r ≡ ShiftForm.tell o r
+    told (This u) r g = refl
+    told (That (u, This p)) r g = refl
+    told (That (u, That v)) r g = refl
+
+    forth : (o : Either One (One × Either (One × One) One)) → ShiftForm.fits o ≡ true → (binary_level (shift_op o) == 9) ≡ true
+    forth (This u) g = refl
+    forth (That (u, This p)) g = refl
+    forth (That (u, That v)) g = refl
+
+    back : (op : BinaryOp) → (binary_level op == 9) ≡ true → (o : Either One (One × Either (One × One) One)) × (shift_op o ≡ op) × (ShiftForm.fits o ≡ true)
+    back binary_of.ShiftLeft g = (This tt, refl, refl)
+    back binary_of.ShiftRightZero g = (That (tt, This (tt, tt)), refl, refl)
+    back binary_of.ShiftRight g = (That (tt, That tt), refl, refl)
+    back _ g = absurd (false≢true g)
 
 abbrev GreaterForm : Coded (Either One (Either (One × One) One))
 GreaterForm = one_or (sign_code sign_of.LessEqual ∷ []) (sign_form sign_of.LessEqual) (run_form sign_of.Assign)
@@ -263,22 +275,24 @@ less_laws = made_laws (Either One (Either One (Either (One × One) One))) Binary
     (record { solid = refl; solid' = refl; this = refl; that = refl }))
     (record { told = told; forth = forth; back = back })
   where
-  told : (o : Either One (Either One (Either (One × One) One))) (r : List Told) → LessForm.fits o ≡ true → flat_tokens (less_op o) r ≡ LessForm.tell o r
-  told (This u) r g = refl
-  told (That (This u)) r g = refl
-  told (That (That (This p))) r g = refl
-  told (That (That (That u))) r g = refl
-  forth : (o : Either One (Either One (Either (One × One) One))) → LessForm.fits o ≡ true → (binary_level (less_op o) == 8) ≡ true
-  forth (This u) g = refl
-  forth (That (This u)) g = refl
-  forth (That (That (This p))) g = refl
-  forth (That (That (That u))) g = refl
-  back : (op : BinaryOp) → (binary_level op == 8) ≡ true → (o : Either One (Either One (Either (One × One) One))) × (less_op o ≡ op) × (LessForm.fits o ≡ true)
-  back binary_of.Less g = (This tt, refl, refl)
-  back binary_of.LessEqual g = (That (This tt), refl, refl)
-  back binary_of.GreaterEqual g = (That (That (This (tt, tt))), refl, refl)
-  back binary_of.Greater g = (That (That (That tt)), refl, refl)
-  back _ g = absurd (false≢true g)
+    told : (o : Either One (Either One (Either (One × One) One))) (r : List Told) → LessForm.fits o ≡ true → flat_tokens (less_op o) r ≡ LessForm.tell o r
+    told (This u) r g = refl
+    told (That (This u)) r g = refl
+    told (That (That (This p))) r g = refl
+    told (That (That (That u))) r g = refl
+
+    forth : (o : Either One (Either One (Either (One × One) One))) → LessForm.fits o ≡ true → (binary_level (less_op o) == 8) ≡ true
+    forth (This u) g = refl
+    forth (That (This u)) g = refl
+    forth (That (That (This p))) g = refl
+    forth (That (That (That u))) g = refl
+
+    back : (op : BinaryOp) → (binary_level op == 8) ≡ true → (o : Either One (Either One (Either (One × One) One))) × (less_op o ≡ op) × (LessForm.fits o ≡ true)
+    back binary_of.Less g = (This tt, refl, refl)
+    back binary_of.LessEqual g = (That (This tt), refl, refl)
+    back binary_of.GreaterEqual g = (That (That (This (tt, tt))), refl, refl)
+    back binary_of.Greater g = (That (That (That tt)), refl, refl)
+    back _ g = absurd (false≢true g)
 
 -- the tokens of an operator as a test sees them
 

@@ -1,11 +1,10 @@
 -- Chains of prefix operators before what is none.
-use Rattle.std.proofs.Common.{◌≡◌, ℕ, zero, suc, ◌+◌, ◌<◌, ◌≤◌, max, Bool, true, false, List, [], ◌∷◌, ◌++◌, map, length, Option, Some, None, refl, sym, ap, ◌∙◌, subst, ⊎_elim, ◌⊎◌, inl, inr, arith}
-use Rattle.std.proofs.lemmas.Bool.{false≢true, and_parts, and_from, or_left, or_right, or_cases, cases_Bool, leb-true, le-leb, eqb-true}
-use Rattle.std.specs.Prelude.{◌&&◌, ◌||◌, nat_le, not, ◌==◌}
+use Rattle.std.proofs.Common.{◌≡◌, ℕ, suc, Bool, true, false, List, [], ◌∷◌, ◌++◌, map, Option, Some, None, refl, sym, ap, ◌∙◌, subst}
+use Rattle.std.proofs.lemmas.Bool.{false≢true, and_parts, and_from}
+use Rattle.std.specs.Prelude.{◌&&◌, nat_le, not}
 use Rattle.jc_lexer.specs.declared.token.Key.TheVariants as key_of
 use Rattle.jc_lexer.specs.declared.token.Sign.{Sign}
 use Rattle.jc_lexer.specs.declared.token.Sign.TheVariants as sign_of
-use Rattle.jc_lexer.specs.declared.token.Token.{Token}
 use Rattle.jc_lexer.specs.declared.token.TokenKind.{TokenKind}
 use Rattle.jc_lexer.specs.declared.token.TokenKind.TheVariants as kind_of
 use Rattle.jc_tree.specs.declared.expression.ArrayInit.{ArrayInit}
@@ -24,19 +23,17 @@ use Rattle.jc_grammar.specs.Expressions.{expr_tokens, prefix_sign, prefix_tokens
 use Rattle.jc_grammar.specs.Shapes.{Shape, CreationShape, OperandShape, stands, expr_shape, creation_shape, operand_shape, is_init, is_array, expr_shape_step, chain_shape, prefix_level}
 use Rattle.jc_grammar.proofs.ShapesOfExpressions.{expr_shape-out, expr_shape-Prefix}
 use Rattle.jc_grammar.proofs.TokensOfExpressions.{expr_tokens-Prefix}
-use Rattle.jc_reading.specs.Kinds.{kind_code, sign_code, key_code, word_code, is_in, front_code, one_of}
-use Rattle.jc_reading.specs.Reading.{Run, Either, This, That, as_new, either, IsTold}
+use Rattle.jc_reading.specs.Kinds.{kind_code, sign_code, key_code, word_code, is_in}
+use Rattle.jc_reading.specs.Reading.{Run, Either, This, That, as_new}
 use Rattle.jc_reading.proofs.Codes.{some_is, none_is}
-use Rattle.jc_reading.proofs.Forms.{Form, Lawful, Stands}
-use Rattle.jc_reading.proofs.Kindly.{token, Picks, token_laws}
+use Rattle.jc_reading.proofs.Forms.{Form, Lawful}
+use Rattle.jc_reading.proofs.Kindly.{token, token_laws}
 use Rattle.jc_reading.proofs.Lists.{tell_all}
 use Rattle.jc_reading.proofs.Rooms.{room_suc}
-use Rattle.jc_reading.proofs.Signs.{sign_at_laws, none_common, all_in}
-use Rattle.jc_parse_parts.specs.Reading.{either_one}
-use Rattle.jc_parse_parts.proofs.Coded.{Coded, formed, coded, in_order, in_order_laws, repeated, repeated_laws, one_or, Apart, one_or_laws, made, Makes, made_laws, widened, widened_laws}
+use Rattle.jc_reading.proofs.Signs.{sign_at_laws}
+use Rattle.jc_parse_parts.proofs.Coded.{Coded, formed, coded, in_order, in_order_laws, repeated, repeated_laws, one_or, one_or_laws, made_laws}
 use Rattle.jc_parse_parts.proofs.PartForms.{sign_at_form}
-use Rattle.jc_parse_parts.proofs.ExprForms.{expr_codes}
-use Rattle.jc_parse_expr.specs.LevelReading.{prefix_of_sign, prefix_of_kind, prefix_placed, picks_prefix, prefix_op_run, plain_op, plain_op_run, prefix_made, prefix_codes, prefix_run, plain_run, unary_run}
+use Rattle.jc_parse_expr.specs.LevelReading.{prefix_of_sign, prefix_of_kind, prefix_placed, picks_prefix, prefix_op_run, plain_op, plain_op_run, prefix_made, prefix_codes, prefix_run}
 
 -- where an expression may begin that is no chain of prefix operators
 abbrev pub bare_codes : List ℕ
@@ -144,16 +141,18 @@ plain_op_laws = made_laws (Either ℕ ℕ) PrefixOp PlainOp plain_op (λ op r. o
     (one_or_laws ℕ ℕ (sign_code sign_of.Not ∷ []) (sign_at_form sign_of.Not) (sign_at_form sign_of.Tilde) (sign_at_laws sign_of.Not) (sign_at_laws sign_of.Tilde) (record { solid = refl; solid' = refl; this = refl; that = refl }))
     (record { told = told; forth = forth; back = λ op g. back op.sign op.at g })
   where
-  told : (o : Either ℕ ℕ) (r : List Told) → PlainOp.fits o ≡ true → (op_told (plain_op o) ∷ r) ≡ PlainOp.tell o r
-  told (This at) r g = refl
-  told (That at) r g = refl
-  forth : (o : Either ℕ ℕ) → PlainOp.fits o ≡ true → nat_le 13 (prefix_level (plain_op o).sign) ≡ true
-  forth (This at) g = refl
-  forth (That at) g = refl
-  back : (s : PrefixSign) (at : ℕ) → nat_le 13 (prefix_level s) ≡ true → (o : Either ℕ ℕ) × (plain_op o ≡ record { at = at; sign = s }) × (PlainOp.fits o ≡ true)
-  back prefix_of.Not at g = (This at, refl, refl)
-  back prefix_of.Complement at g = (That at, refl, refl)
-  back _ at g = absurd (false≢true g)
+    told : (o : Either ℕ ℕ) (r : List Told) → PlainOp.fits o ≡ true → (op_told (plain_op o) ∷ r) ≡ PlainOp.tell o r
+    told (This at) r g = refl
+    told (That at) r g = refl
+
+    forth : (o : Either ℕ ℕ) → PlainOp.fits o ≡ true → nat_le 13 (prefix_level (plain_op o).sign) ≡ true
+    forth (This at) g = refl
+    forth (That at) g = refl
+
+    back : (s : PrefixSign) (at : ℕ) → nat_le 13 (prefix_level s) ≡ true → (o : Either ℕ ℕ) × (plain_op o ≡ record { at = at; sign = s }) × (PlainOp.fits o ≡ true)
+    back prefix_of.Not at g = (This at, refl, refl)
+    back prefix_of.Complement at g = (That at, refl, refl)
+    back _ at g = absurd (false≢true g)
 
 -- which expressions are chains of prefix operators
 
@@ -224,10 +223,12 @@ module _ (level h : ℕ) (first : Run PrefixOp) (starts : List ℕ) (lower : Run
       let k = subst (λ (s : Shape). (stands level s && s.prefix) ≡ true) (expr_shape-Prefix w.first w.more w.operand) a.1 in
       let b = and_parts ((stands 13 (expr_shape w.operand) && not (expr_shape w.operand).prefix) && nat_le level (prefix_level w.first.sign)) true k in
       let c = and_parts (stands 13 (expr_shape w.operand) && not (expr_shape w.operand).prefix) (nat_le level (prefix_level w.first.sign)) b.0 in
-      let n : nat_le (expr_height w.operand) h ≡ true = sym (ap (λ (n : ℕ). nat_le n (suc h)) (expr_height-Prefix w.first w.more w.operand) ∙ room_suc (expr_height w.operand) h) ∙ a.0 in
-      ((w.first, (w.more, w.operand)), w.is_it,
-      and_from (nat_le level (prefix_level w.first.sign)) ((repeated op_form).fits w.more && bare_fits h w.operand) c.1
-      (and_from ((repeated op_form).fits w.more) (bare_fits h w.operand) (all_ops w.more) (and_from (nat_le (expr_height w.operand) h) (stands 13 (expr_shape w.operand) && not (expr_shape w.operand).prefix) n c.0)))
+      let n : nat_le (expr_height w.operand) h ≡ true = sym (ap (λ (n : ℕ). nat_le n (suc h)) (expr_height-Prefix w.first w.more w.operand) ∙ room_suc (expr_height w.operand) h) ∙ a.0 in (
+        (w.first, (w.more, w.operand)),
+        w.is_it,
+        and_from (nat_le level (prefix_level w.first.sign)) ((repeated op_form).fits w.more && bare_fits h w.operand) c.1
+            (and_from ((repeated op_form).fits w.more) (bare_fits h w.operand) (all_ops w.more) (and_from (nat_le (expr_height w.operand) h) (stands 13 (expr_shape w.operand) && not (expr_shape w.operand).prefix) n c.0)),
+      )
 
   flag : (e : Expr) → prefix_fits e ≡ true → (expr_shape e).prefix ≡ true
   flag e g = (and_parts (stands level (expr_shape e)) (expr_shape e).prefix (and_parts (nat_le (expr_height e) (suc h)) (stands level (expr_shape e) && (expr_shape e).prefix) g).1).1

@@ -1,6 +1,6 @@
 -- Chains by their parts: their heights and levels, and which expressions are chains of a level.
-use Rattle.std.proofs.Common.{◌≡◌, ℕ, zero, suc, ◌+◌, ◌<◌, ◌≤◌, max, Bool, true, false, List, [], ◌∷◌, ◌++◌, map, refl, sym, ap, ◌∙◌, subst, ⊎_elim, arith}
-use Rattle.std.proofs.lemmas.Bool.{false≢true, and_parts, and_from, leb-true, le-leb, eqb-true, eq-eqb, cases_Bool, cases_lt}
+use Rattle.std.proofs.Common.{◌≡◌, ℕ, ◌+◌, ◌<◌, ◌≤◌, Bool, true, false, List, [], ◌∷◌, map, refl, sym, ap, ◌∙◌, subst, ⊎_elim, arith}
+use Rattle.std.proofs.lemmas.Bool.{false≢true, and_parts, and_from, leb-true, le-leb, eqb-true, cases_Bool, cases_lt}
 use Rattle.std.specs.Prelude.{◌&&◌, nat_le, not, ◌==◌}
 use Rattle.std.specs.List.{list_all}
 use Rattle.jc_tree.specs.declared.expression.ArrayInit.{ArrayInit}
@@ -105,13 +105,13 @@ operands_made level h (q ∷ list) g =
     let shape = operand_shape-Binary q.0 q.1 in
     record {
       shapes = and_from (of_level level (operand_shape (operand_made q))) (list_all (of_level level) (map operand_shape (map operand_made list)))
-        (subst (λ (z : OperandShape). of_level level z ≡ true) (sym shape)
-        (and_from (stands (binary_level q.0 + 1) (expr_shape q.1)) (binary_level q.0 == level) (subst (λ (n : ℕ). stands (n + 1) (expr_shape q.1) ≡ true) (sym e) b.1) a.0)) more.shapes;
+          (subst (λ (z : OperandShape). of_level level z ≡ true) (sym shape)
+          (and_from (stands (binary_level q.0 + 1) (expr_shape q.1)) (binary_level q.0 == level) (subst (λ (n : ℕ). stands (n + 1) (expr_shape q.1) ≡ true) (sym e) b.1) a.0)) more.shapes;
       heights = room_max (operand_height (operand_made q)) (most (map operand_height (map operand_made list))) h
-        ∙ and_from (nat_le (operand_height (operand_made q)) h) (nat_le (most (map operand_height (map operand_made list))) h) (ap (λ (n : ℕ). nat_le n h) (operand_height-Binary q.0 q.1) ∙ b.0) more.heights;
+          ∙ and_from (nat_le (operand_height (operand_made q)) h) (nat_le (most (map operand_height (map operand_made list))) h) (ap (λ (n : ℕ). nat_le n h) (operand_height-Binary q.0 q.1) ∙ b.0) more.heights;
       longest = λ o f. and_from (not (o.bare && (operand_shape (operand_made q)).less)) (longest_types (operand_shape (operand_made q)) (map operand_shape (map operand_made list)))
-        (ap (λ (c : Bool). not (c && (operand_shape (operand_made q)).less)) f)
-        (more.longest (operand_shape (operand_made q)) (ap (λ (z : OperandShape). z.bare) shape));
+          (ap (λ (c : Bool). not (c && (operand_shape (operand_made q)).less)) f)
+          (more.longest (operand_shape (operand_made q)) (ap (λ (z : OperandShape). z.bare) shape));
     }
 
 is_Binary : (o : Operand) (op : BinaryOp) (right : Expr) → out-Operand o ≡ Operand-F.Binary op right → operand_of.Binary op right ≡ o
@@ -135,10 +135,10 @@ module _ (level h : ℕ) (other : (8 == level) ≡ false) where
         list = (op, right) ∷ w.list;
         are = ap (λ (x : Operand). x ∷ map operand_made w.list) it ∙ ap (λ (l : List Operand). o ∷ l) w.are;
         fit = and_from ((binary_level op == level) && (nat_le (expr_height right) h && stands (level + 1) (expr_shape right))) (operands_fit level h w.list)
-          (and_from (binary_level op == level) (nat_le (expr_height right) h && stands (level + 1) (expr_shape right)) p.1
-          (and_from (nat_le (expr_height right) h) (stands (level + 1) (expr_shape right))
-          (ap (λ (n : ℕ). nat_le n h) (sym (operand_height-Binary op right) ∙ ap operand_height it) ∙ k)
-          (subst (λ (n : ℕ). stands (n + 1) (expr_shape right) ≡ true) e p.0))) w.fit;
+            (and_from (binary_level op == level) (nat_le (expr_height right) h && stands (level + 1) (expr_shape right)) p.1
+            (and_from (nat_le (expr_height right) h) (stands (level + 1) (expr_shape right))
+            (ap (λ (n : ℕ). nat_le n h) (sym (operand_height-Binary op right) ∙ ap operand_height it) ∙ k)
+            (subst (λ (n : ℕ). stands (n + 1) (expr_shape right) ≡ true) e p.0))) w.fit;
       }
   one_more o rest (Operand-F.InstanceOf ty) q g k w = absurd (false≢true (sym other ∙ (and_parts true (8 == level) g).1))
 

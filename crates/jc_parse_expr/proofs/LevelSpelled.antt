@@ -1,11 +1,11 @@
 -- The same values told in another way, where the same tokens are as told.
-use Rattle.std.proofs.Common.{◌≡◌, ◌<◌, Bool, true, false, List, [], ◌∷◌, ◌++◌, length, refl, sym, ap, ◌∙◌, ⊎_elim, inl, inr, arith}
+use Rattle.std.proofs.Common.{◌≡◌, ◌<◌, Bool, true, false, List, [], ◌++◌, length, refl, sym, ap, ◌∙◌, ⊎_elim, arith}
 use Rattle.std.proofs.lemmas.Bool.{false≢true}
 use Rattle.jc_lexer.specs.declared.token.Token.{Token}
 use Rattle.jc_grammar.specs.Told.{Told}
 use Rattle.jc_reading.specs.Reading.{Read, Found, Stopped, Takes}
 use Rattle.jc_reading.proofs.Steps.{Good, reach, Plain}
-use Rattle.jc_reading.proofs.Forms.{Form, Lawful, Stands, Begins, begins_as}
+use Rattle.jc_reading.proofs.Forms.{Form, Lawful, Stands, begins_as}
 use Rattle.jc_reading.proofs.Retests.{retested, retested_laws}
 
 module _ (A : Type 0) (fa : Form A) (tell : A → List Told → List Told) where
@@ -31,12 +31,16 @@ module _ (A : Type 0) (fa : Form A) (tell : A → List Told → List Told) where
 
     pub respelled_laws : Lawful A respelled
     respelled_laws = record {
-      appends = d.appends; plain = d.plain; within = la.within;
+      appends = d.appends;
+      plain = d.plain;
+      within = la.within;
       sound = λ ts. good_more ts (fa.run ts) (la.sound ts);
       longest = λ ts a r s. la.longest ts a r (stands_back ts a r s);
       exact = λ ts a r s g. la.exact ts a r (stands_back ts a r s) g;
       opens = λ ts a r s. la.opens ts a r (stands_back ts a r s);
-      refuses = la.refuses; total = la.total; local = la.local;
+      refuses = la.refuses;
+      total = la.total;
+      local = la.local;
       begins = λ ts. begins_as A A fa respelled (λ a. a) ts (reach (fa.run ts)) (λ us a z s. stands_forth us a z s) (la.begins ts);
       least = record { value = la.least.value; tokens = la.least.tokens; spelled = λ z. stands_forth (la.least.tokens ++ z) la.least.value z (la.least.spelled z) };
     }
@@ -51,8 +55,9 @@ loosened_laws A fa starts goes_on la s g =
       goes_too = g;
     })
   where
-  no_less : (ts r : List Token) → length r < length ts → ts ≡ r → ⊥
-  no_less ts r lt e = omega (arith, lt, ap length e)
-  not_then : (b c : Bool) → (b ≡ true → c ≡ true) → c ≡ false → b ≡ false
-  not_then true c f e = absurd (false≢true (sym e ∙ f refl))
-  not_then false c f e = refl
+    no_less : (ts r : List Token) → length r < length ts → ts ≡ r → ⊥
+    no_less ts r lt e = omega (arith, lt, ap length e)
+
+    not_then : (b c : Bool) → (b ≡ true → c ≡ true) → c ≡ false → b ≡ false
+    not_then true c f e = absurd (false≢true (sym e ∙ f refl))
+    not_then false c f e = refl

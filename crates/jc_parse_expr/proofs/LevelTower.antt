@@ -1,10 +1,9 @@
 -- The levels of one height, of those of one height less.
-use Rattle.std.proofs.Common.{◌≡◌, ℕ, zero, suc, ◌+◌, ◌≤◌, Bool, true, false, List, [], ◌∷◌, ◌++◌, refl, sym, ap, ◌∙◌, arith}
+use Rattle.std.proofs.Common.{ℕ, suc, false, List, [], ◌∷◌, ◌++◌, refl, arith}
 use Rattle.std.proofs.lemmas.Bool.{or_left}
-use Rattle.std.specs.Prelude.{◌&&◌, ◌||◌, nat_le}
+use Rattle.std.specs.Prelude.{◌&&◌, nat_le}
 use Rattle.jc_lexer.specs.declared.token.Key.TheVariants as key_of
 use Rattle.jc_lexer.specs.declared.token.Sign.TheVariants as sign_of
-use Rattle.jc_lexer.specs.declared.token.Token.{Token}
 use Rattle.jc_tree.specs.declared.expression.Expr.{Expr}
 use Rattle.jc_tree.specs.Heights.{expr_height}
 use Rattle.jc_grammar.specs.Expressions.{expr_tokens}
@@ -12,10 +11,9 @@ use Rattle.jc_grammar.specs.Shapes.{stands, expr_shape}
 use Rattle.jc_reading.specs.Kinds.{sign_code, key_code, one_of}
 use Rattle.jc_reading.specs.Reading.{Run}
 use Rattle.jc_reading.proofs.Forms.{Form, Lawful}
-use Rattle.jc_parse_parts.proofs.Coded.{Coded, formed}
+use Rattle.jc_parse_parts.proofs.Coded.{formed}
 use Rattle.jc_parse_parts.proofs.ExprForms.{expr_codes, assign_codes}
-use Rattle.jc_parse_expr.specs.LevelReading.{Levels, next_levels, bare_run, plain_run, unary_run, chain_run, conditional_run, expr_run, times_run, plus_run, shift_run, equal_run, and_run, xor_run, or_run, and_also_run, or_else_run}
-use Rattle.jc_parse_expr.proofs.LevelTests.{acts}
+use Rattle.jc_parse_expr.specs.LevelReading.{Levels, next_levels, bare_run, unary_run, chain_run, conditional_run, expr_run, times_run, plus_run, shift_run, equal_run, and_run, xor_run, or_run, and_also_run, or_else_run}
 use Rattle.jc_parse_expr.proofs.LevelSpelled.{loosened_laws}
 use Rattle.jc_parse_expr.proofs.LevelOps.{times_ops, plus_ops, shift_ops, less_ops, equal_ops, and_ops, xor_ops, or_ops, and_also_ops, or_else_ops}
 use Rattle.jc_parse_expr.proofs.LevelRanks.{times_rank, plus_rank, shift_rank, equal_rank, and_rank, xor_rank, or_rank, and_also_rank, or_else_rank, tight_tells, loose_tells}
@@ -182,6 +180,19 @@ module _ (compare : ℕ → Run Expr → Run Expr → Run Expr) (comparing : Com
   pub next_laws : LevelLaws (suc (suc k)) (next_levels compare (suc k) low post)
   unfolding next_levels
   next_laws = record {
-    bare = bare_law; plain = plain_laws k bare low.bare bare_law ll.bare; unary = unary_law; times = times_law; plus = plus_law; shift = shift_law; compared = compared_law; equal = equal_law;
-    bit_and = and_law; bit_xor = xor_law; bit_or = or_law; and_also = and_also_law; or_else = or_else_law; conditional = conditional_law; expr = expr_law;
+    bare = bare_law;
+    plain = plain_laws k bare low.bare bare_law ll.bare;
+    unary = unary_law;
+    times = times_law;
+    plus = plus_law;
+    shift = shift_law;
+    compared = compared_law;
+    equal = equal_law;
+    bit_and = and_law;
+    bit_xor = xor_law;
+    bit_or = or_law;
+    and_also = and_also_law;
+    or_else = or_else_law;
+    conditional = conditional_law;
+    expr = expr_law;
   }

@@ -1,10 +1,8 @@
 -- Plain and Unary: chains of prefix operators, or what is none.
-use Rattle.std.proofs.Common.{◌≡◌, ℕ, zero, suc, ◌+◌, ◌<◌, ◌≤◌, Bool, true, false, List, [], ◌∷◌, ◌++◌, map, refl, sym, ap, ◌∙◌, subst, ⊎_elim, ◌⊎◌, inl, inr, arith}
-use Rattle.std.proofs.Math.Path.{fun_ext}
-use Rattle.std.proofs.lemmas.Bool.{false≢true, and_parts, and_from, cases_Bool, leb-true}
+use Rattle.std.proofs.Common.{◌≡◌, ℕ, suc, ◌≤◌, Bool, true, false, List, [], ◌∷◌, ◌++◌, refl, sym, ap, ◌∙◌, subst, ⊎_elim, ◌⊎◌, inl, inr, arith}
+use Rattle.std.proofs.lemmas.Bool.{false≢true, and_parts, and_from, cases_Bool}
 use Rattle.std.specs.Prelude.{◌&&◌, nat_le, not}
 use Rattle.jc_lexer.specs.declared.token.Sign.TheVariants as sign_of
-use Rattle.jc_lexer.specs.declared.token.Token.{Token}
 use Rattle.jc_tree.specs.declared.expression.ArrayInit.{ArrayInit}
 use Rattle.jc_tree.specs.declared.expression.BinaryOp.{BinaryOp}
 use Rattle.jc_tree.specs.declared.expression.BinaryOp.TheVariants as binary_of
@@ -21,15 +19,13 @@ use Rattle.jc_grammar.proofs.ShapesOfExpressions.{expr_shape-out, operand_shape-
 use Rattle.jc_grammar.proofs.Stands.{stands_looser}
 use Rattle.jc_reading.specs.Kinds.{sign_code}
 use Rattle.jc_reading.specs.Reading.{Read, Found, Stopped, Run, becoming, as_new, Either, This, That, either}
-use Rattle.jc_reading.proofs.Choices.{tell_either, fits_either}
-use Rattle.jc_reading.proofs.Forms.{Form, Lawful}
-use Rattle.jc_reading.proofs.Signs.{all_in}
+use Rattle.jc_reading.proofs.Forms.{Lawful}
 use Rattle.jc_parse_parts.specs.Reading.{either_one}
-use Rattle.jc_parse_parts.proofs.Coded.{Coded, formed, one_or, Apart, one_or_laws, made, Makes, made_laws, widened, widened_laws}
-use Rattle.jc_parse_parts.proofs.Lowest.{rerun, rerun_laws}
+use Rattle.jc_parse_parts.proofs.Coded.{Coded, formed, one_or, Apart, one_or_laws, made_laws, widened_laws}
+use Rattle.jc_parse_parts.proofs.Lowest.{rerun_laws}
 use Rattle.jc_parse_parts.proofs.ExprForms.{expr_codes}
-use Rattle.jc_parse_expr.specs.LevelReading.{prefix_op_run, plain_op_run, prefix_codes, prefix_run, plain_run, unary_run}
-use Rattle.jc_parse_expr.proofs.LevelPrefixes.{bare_codes, plain_codes, bare_goes, ops_of, any_op_laws, plain_op_laws, bare_fits, bare_coded, prefix_coded, prefix_laws}
+use Rattle.jc_parse_expr.specs.LevelReading.{prefix_op_run, plain_op_run, prefix_codes, plain_run, unary_run}
+use Rattle.jc_parse_expr.proofs.LevelPrefixes.{plain_codes, bare_goes, ops_of, any_op_laws, plain_op_laws, bare_fits, bare_coded, prefix_coded, prefix_laws}
 use Rattle.jc_parse_expr.proofs.LevelShapes.{exactly}
 
 abbrev pub plain_coded : ℕ → Run Expr → Coded Expr
@@ -58,15 +54,17 @@ module _ (codes : List ℕ) (ca cb : Coded Expr) (fits : Expr → Bool) where
   both_laws la lb d h = made_laws (Either Expr Expr) Expr (one_or codes ca cb) either_one expr_tokens fits (one_or_laws Expr Expr codes ca cb la lb d)
       (record { told = told; forth = forth; back = λ e g. back e (h.which e g) })
     where
-    told : (o : Either Expr Expr) (r : List Told) → (one_or codes ca cb).fits o ≡ true → expr_tokens (either_one o) r ≡ (one_or codes ca cb).tell o r
-    told (This e) r g = h.told_first e r
-    told (That e) r g = h.told_second e r
-    forth : (o : Either Expr Expr) → (one_or codes ca cb).fits o ≡ true → fits (either_one o) ≡ true
-    forth (This e) g = h.first e g
-    forth (That e) g = h.second e g
-    back : (e : Expr) → (ca.fits e ≡ true) ⊎ (cb.fits e ≡ true) → (o : Either Expr Expr) × (either_one o ≡ e) × ((one_or codes ca cb).fits o ≡ true)
-    back e (inl t) = (This e, refl, t)
-    back e (inr t) = (That e, refl, t)
+      told : (o : Either Expr Expr) (r : List Told) → (one_or codes ca cb).fits o ≡ true → expr_tokens (either_one o) r ≡ (one_or codes ca cb).tell o r
+      told (This e) r g = h.told_first e r
+      told (That e) r g = h.told_second e r
+
+      forth : (o : Either Expr Expr) → (one_or codes ca cb).fits o ≡ true → fits (either_one o) ≡ true
+      forth (This e) g = h.first e g
+      forth (That e) g = h.second e g
+
+      back : (e : Expr) → (ca.fits e ≡ true) ⊎ (cb.fits e ≡ true) → (o : Either Expr Expr) × (either_one o ≡ e) × ((one_or codes ca cb).fits o ≡ true)
+      back e (inl t) = (This e, refl, t)
+      back e (inr t) = (That e, refl, t)
 
 -- what is no chain of prefix operators and no looser than one is Plain
 
@@ -160,7 +158,8 @@ module _ (k : ℕ) (bare lower : Run Expr) (lb : Lawful Expr (formed (bare_coded
       widened_laws Expr (both codes PlainChain (bare_coded (suc (suc k)) bare) fits) plain_codes bare_goes
       (both_laws codes PlainChain (bare_coded (suc (suc k)) bare) fits (prefix_laws 13 (suc k) plain_op_run codes lower plain_op_laws ll) lb (record { solid = refl; solid' = refl; this = refl; that = refl })
       (record {
-        told_first = λ e r. refl; told_second = λ e r. refl;
+        told_first = λ e r. refl;
+        told_second = λ e r. refl;
         first = from_prefixed 13 (suc (suc k)) (omega arith) same;
         second = from_bare 13 (suc (suc k)) (omega arith) same;
         which = which 13 (suc (suc k)) (omega arith) same;
@@ -180,7 +179,8 @@ module _ (k : ℕ) (bare lower : Run Expr) (lb : Lawful Expr (formed (bare_coded
       widened_laws Expr (both prefix_codes AnyChain (bare_coded (suc (suc k)) bare) fits) expr_codes bare_goes
       (both_laws prefix_codes AnyChain (bare_coded (suc (suc k)) bare) fits any_laws lb (record { solid = refl; solid' = refl; this = refl; that = refl })
       (record {
-        told_first = λ e r. refl; told_second = λ e r. refl;
+        told_first = λ e r. refl;
+        told_second = λ e r. refl;
         first = from_prefixed 12 (suc (suc k)) (omega arith) unprefixed;
         second = from_bare 12 (suc (suc k)) (omega arith) unprefixed;
         which = which 12 (suc (suc k)) (omega arith) unprefixed;

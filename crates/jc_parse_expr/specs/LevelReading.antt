@@ -1,7 +1,6 @@
 -- How the levels of expressions are read: casts, prefix operators, binary operators, conditionals and assignments (JLS 15.15 to 15.26).
 use Rattle.std.specs.Prelude.{ℕ, zero, suc, Bool, true, false, not, cond, ◌==◌, ◌&&◌, nat_le, List, [], ◌∷◌, map, length, Option, Some, None}
 use Rattle.jc_tree.specs.declared.expression.Init.{Init}
-use Rattle.jc_lexer.specs.declared.token.Key.TheVariants as key_of
 use Rattle.jc_lexer.specs.declared.token.Sign.{Sign}
 use Rattle.jc_lexer.specs.declared.token.Sign.TheVariants as sign_of
 use Rattle.jc_lexer.specs.declared.token.Token.{Token}
@@ -20,8 +19,8 @@ use Rattle.jc_tree.specs.declared.expression.Expr.TheVariants as expr_of
 use Rattle.jc_tree.specs.declared.expression.Operand.{Operand}
 use Rattle.jc_tree.specs.declared.expression.Operand.TheVariants as operand_of
 use Rattle.jc_tree.specs.Heights.{expr_height}
-use Rattle.jc_reading.specs.Kinds.{kind_code, sign_code, key_code, one_of}
-use Rattle.jc_reading.specs.Reading.{Read, Found, Stopped, Run, found, as_new, in_turn, perhaps, any_number, Either, This, That, either, picking, of_kind, at_kind}
+use Rattle.jc_reading.specs.Kinds.{kind_code, sign_code}
+use Rattle.jc_reading.specs.Reading.{Stopped, Run, as_new, in_turn, perhaps, any_number, Either, This, That, either, picking, of_kind, at_kind}
 use Rattle.jc_parse_type.specs.TypeReading.{type_run}
 use Rattle.jc_grammar.specs.Shapes.{is_primitive, stands, post_level, expr_shape}
 use Rattle.jc_parse_parts.specs.Reading.{either_one, followed, preferring, by_value}
@@ -294,8 +293,20 @@ next_levels compare h low post =
     let or_else : Run Expr = chain_run h or_else_run and_also low.and_also in
     let conditional : Run Expr = conditional_run h or_else low.expr low.conditional in
     record {
-      bare = bare; plain = plain_run h bare low.bare; unary = unary; times = times; plus = plus; shift = shift; compared = compared; equal = equal;
-      bit_and = bit_and; bit_xor = bit_xor; bit_or = bit_or; and_also = and_also; or_else = or_else; conditional = conditional;
+      bare = bare;
+      plain = plain_run h bare low.bare;
+      unary = unary;
+      times = times;
+      plus = plus;
+      shift = shift;
+      compared = compared;
+      equal = equal;
+      bit_and = bit_and;
+      bit_xor = bit_xor;
+      bit_or = bit_or;
+      and_also = and_also;
+      or_else = or_else;
+      conditional = conditional;
       expr = expr_run h conditional low.expr;
     }
 
@@ -304,8 +315,21 @@ none_at ts = Stopped (length ts)
 
 abbrev pub no_levels : Levels
 no_levels = record {
-  bare = none_at; plain = none_at; unary = none_at; times = none_at; plus = none_at; shift = none_at; compared = none_at; equal = none_at;
-  bit_and = none_at; bit_xor = none_at; bit_or = none_at; and_also = none_at; or_else = none_at; conditional = none_at; expr = none_at;
+  bare = none_at;
+  plain = none_at;
+  unary = none_at;
+  times = none_at;
+  plus = none_at;
+  shift = none_at;
+  compared = none_at;
+  equal = none_at;
+  bit_and = none_at;
+  bit_xor = none_at;
+  bit_or = none_at;
+  and_also = none_at;
+  or_else = none_at;
+  conditional = none_at;
+  expr = none_at;
 }
 
 -- the postfix level of height h + 1 is read by `post`, of expressions and initialisers of height h; initialisers of height h + 1 by `init`, of
