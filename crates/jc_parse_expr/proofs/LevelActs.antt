@@ -1,14 +1,14 @@
 -- An operator and an operand behind it, tested by the operator's tokens and one that begins an operand.
-use Rattle.std.proofs.Common.{◌≡◌, ℕ, ◌<◌, Bool, true, false, List, [], ◌∷◌, ◌++◌, length, refl, sym, ap, ◌∙◌, subst, ⊎_elim, arith}
+use Rattle.std.proofs.Common.{◌≡◌, ℕ, Bool, true, false, List, refl, sym, ◌∙◌, ⊎_elim}
 use Rattle.std.proofs.lemmas.Bool.{false≢true, cases_Bool}
 use Rattle.std.specs.Prelude.{◌&&◌, ◌||◌}
 use Rattle.jc_lexer.specs.declared.token.Token.{Token}
 use Rattle.jc_reading.specs.Kinds.{one_of}
-use Rattle.jc_reading.specs.Reading.{Read, Found, Stopped, Run, noting, ◌>>=◌, becoming, joined}
+use Rattle.jc_reading.specs.Reading.{Read, Found, Stopped, noting, ◌>>=◌, becoming, joined}
 use Rattle.jc_reading.proofs.Steps.{Good, Refuses}
 use Rattle.jc_reading.proofs.Forms.{Form, Lawful, Stands}
 use Rattle.jc_reading.proofs.Pairs.{pair, pair_laws, cut}
-use Rattle.jc_reading.proofs.Retests.{retested, Retests, retested_laws}
+use Rattle.jc_reading.proofs.Retests.{retested, retested_laws}
 use Rattle.jc_parse_parts.proofs.ExprForms.{expr_codes}
 use Rattle.jc_parse_expr.proofs.LevelTests.{acts}
 

@@ -1,11 +1,9 @@
 -- Bare: a cast, or an expression of the postfix level.
-use Rattle.std.proofs.Common.{◌≡◌, ℕ, zero, suc, ◌+◌, ◌<◌, ◌≤◌, max, Bool, true, false, cond, List, [], ◌∷◌, ◌++◌, map, length, Option, Some, None, refl, sym, ap, ◌∙◌, subst, ⊎_elim, ◌⊎◌, inl, inr, arith}
-use Rattle.std.proofs.lemmas.Bool.{false≢true, and_parts, and_from, cases_Bool, leb-true, le-leb}
+use Rattle.std.proofs.Common.{◌≡◌, ℕ, zero, suc, ◌<◌, ◌≤◌, max, Bool, true, false, cond, List, [], ◌∷◌, length, Option, Some, None, refl, sym, ap, ◌∙◌, subst, ⊎_elim, ◌⊎◌, inl, inr, arith}
+use Rattle.std.proofs.lemmas.Bool.{false≢true, and_parts, and_from, cases_Bool, leb-true}
 use Rattle.std.specs.Prelude.{◌&&◌, ◌||◌, nat_le, not, ◌==◌, if◌then◌else◌}
 use Rattle.jc_lexer.specs.declared.token.Sign.TheVariants as sign_of
 use Rattle.jc_lexer.specs.declared.token.Token.{Token}
-use Rattle.jc_lexer.specs.declared.token.TokenKind.{TokenKind}
-use Rattle.jc_lexer.specs.declared.token.TokenKind.TheVariants as kind_of
 use Rattle.jc_tree.specs.declared.types.TypeTree.{TypeTree}
 use Rattle.jc_tree.specs.declared.expression.ArrayInit.{ArrayInit}
 use Rattle.jc_tree.specs.declared.expression.Creation.{Creation}
@@ -17,7 +15,7 @@ use Rattle.jc_tree.specs.declared.expression.PrefixSign.{PrefixSign}
 use Rattle.jc_tree.specs.declared.expression.PrefixSign.TheVariants as prefix_of
 use Rattle.jc_tree.specs.Heights.{expr_height, type_height}
 use Rattle.jc_tree.proofs.HeightsOfExpressions.{expr_height-Cast}
-use Rattle.jc_grammar.specs.Told.{Told, sign, sign_at}
+use Rattle.jc_grammar.specs.Told.{Told, sign}
 use Rattle.jc_grammar.specs.Spelling.{is_greater}
 use Rattle.jc_grammar.specs.Types.{type_tokens}
 use Rattle.jc_grammar.specs.Expressions.{expr_tokens}
@@ -27,22 +25,20 @@ use Rattle.jc_grammar.proofs.ShapesOfExpressions.{expr_shape-out, expr_shape-Cas
 use Rattle.jc_grammar.proofs.Stands.{stands_looser}
 use Rattle.jc_grammar.proofs.TokensOfExpressions.{expr_tokens-Cast}
 use Rattle.jc_reading.specs.Kinds.{kind_code, sign_code, front_code, one_of}
-use Rattle.jc_reading.specs.Reading.{Run, Either, This, That, as_new, Takes}
+use Rattle.jc_reading.specs.Reading.{Run, Either, This, That, Takes}
 use Rattle.jc_reading.proofs.Steps.{takes_cut}
 use Rattle.jc_reading.proofs.Codes.{some_is}
-use Rattle.jc_reading.proofs.Choices.{tell_either, fits_either}
 use Rattle.jc_reading.proofs.Forms.{Form, Lawful, Stands}
 use Rattle.jc_reading.proofs.Rooms.{room_suc, room_max}
-use Rattle.jc_reading.proofs.Signs.{sign_laws, sign_at_laws, none_common, apart_sets, all_in, within_sets}
+use Rattle.jc_reading.proofs.Signs.{sign_laws, sign_at_laws, apart_sets, all_in, within_sets}
 use Rattle.jc_parse_type.proofs.TypeForms.{type_codes}
-use Rattle.jc_parse_parts.specs.Reading.{preferring}
-use Rattle.jc_parse_parts.proofs.Coded.{Coded, formed, coded, coded_laws, in_order, in_order_laws, made, Makes, made_laws, widened, widened_laws}
-use Rattle.jc_parse_parts.proofs.Depends.{depending, Depends, depending_laws}
-use Rattle.jc_parse_parts.proofs.Prefers.{preferred, Prefer, preferred_laws}
+use Rattle.jc_parse_parts.proofs.Coded.{Coded, formed, coded, coded_laws, in_order, in_order_laws, made, made_laws, widened_laws}
+use Rattle.jc_parse_parts.proofs.Depends.{depending, depending_laws}
+use Rattle.jc_parse_parts.proofs.Prefers.{preferred, preferred_laws}
 use Rattle.jc_parse_parts.proofs.PartForms.{sign_form, sign_at_form, type_coded, type_coded_laws}
 use Rattle.jc_parse_parts.proofs.ExprForms.{expr_codes}
-use Rattle.jc_parse_expr.specs.LevelReading.{operand_for, CastParts, cast_run, bare_made, bare_run}
-use Rattle.jc_parse_expr.proofs.LevelPrefixes.{bare_codes, plain_codes, post_goes, bare_goes, bare_fits, bare_coded, IsPrefix, prefix_only}
+use Rattle.jc_parse_expr.specs.LevelReading.{operand_for, CastParts, bare_made, bare_run}
+use Rattle.jc_parse_expr.proofs.LevelPrefixes.{bare_codes, plain_codes, post_goes, bare_goes, bare_fits, bare_coded}
 use Rattle.jc_parse_expr.proofs.LevelShapes.{exactly}
 use Rattle.jc_parse_expr.proofs.LevelUnaries.{plain_coded, unary_coded, operand_low}
 
@@ -129,7 +125,7 @@ flag_layer (Expr-F.Chain first []) g = refl
 flag_layer (Expr-F.Chain first (o ∷ rest)) g = refl
 flag_layer _ g = refl
 
-post_flag : (e : Expr) → stands 14 (expr_shape e) ≡ true → (expr_shape e).prefix ≡ false
+pub post_flag : (e : Expr) → stands 14 (expr_shape e) ≡ true → (expr_shape e).prefix ≡ false
 post_flag e s =
     let h : 14 ≤ (expr_shape e).level = leb-true 14 (expr_shape e).level (and_parts (expr_shape e).good (nat_le 14 (expr_shape e).level) s).1 in
     ap (λ (z : Shape). z.prefix) (expr_shape-out e) ∙ flag_layer (out-Expr e) (subst (λ (z : Shape). 14 ≤ z.level) (expr_shape-out e) h)

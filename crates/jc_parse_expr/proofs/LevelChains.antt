@@ -1,6 +1,6 @@
 -- One binary level: its first operand is of the next level, and behind it stand operators with operands.
-use Rattle.std.proofs.Common.{◌≡◌, ℕ, zero, suc, ◌+◌, ◌<◌, ◌≤◌, max, Bool, true, false, List, [], ◌∷◌, ◌++◌, map, length, refl, sym, ap, ◌∙◌, subst, ⊎_elim, ◌⊎◌, inl, inr, arith}
-use Rattle.std.proofs.lemmas.Bool.{false≢true, and_parts, and_from, and_left, or_from, or_parts, or_left, or_right, or_cases, cases_Bool, leb-true, le-leb, eqb-true}
+use Rattle.std.proofs.Common.{◌≡◌, ℕ, suc, ◌+◌, ◌≤◌, max, Bool, true, false, List, [], ◌∷◌, ◌++◌, map, length, refl, sym, ap, ◌∙◌, subst, ⊎_elim, arith}
+use Rattle.std.proofs.lemmas.Bool.{false≢true, and_parts, and_from, or_from, or_left, or_right, or_cases, cases_Bool, leb-true, le-leb, eqb-true}
 use Rattle.std.specs.Prelude.{◌&&◌, ◌||◌, nat_le, not, ◌==◌}
 use Rattle.std.specs.List.{list_all}
 use Rattle.jc_lexer.specs.declared.token.Token.{Token}
@@ -12,30 +12,30 @@ use Rattle.jc_tree.specs.Heights.{most, expr_height, operand_height}
 use Rattle.jc_tree.proofs.HeightsOfExpressions.{expr_height-Chain}
 use Rattle.jc_grammar.specs.Told.{Told, each}
 use Rattle.jc_grammar.specs.Expressions.{expr_tokens, operand_tokens, binary_tokens}
-use Rattle.jc_grammar.specs.Shapes.{Shape, OperandShape, stands, of_level, longest_types, expr_shape, operand_shape, chain_shape, binary_level, is_none}
+use Rattle.jc_grammar.specs.Shapes.{Shape, OperandShape, stands, of_level, longest_types, expr_shape, operand_shape, chain_shape, is_none}
 use Rattle.jc_grammar.proofs.FramedExpressions.{expr_frames}
 use Rattle.jc_grammar.proofs.ShapesOfExpressions.{expr_shape-Chain}
 use Rattle.jc_grammar.proofs.Stands.{stands_looser}
 use Rattle.jc_grammar.proofs.TokensOfExpressions.{expr_tokens-Chain, operand_tokens-Binary}
 use Rattle.jc_reading.specs.Kinds.{one_of}
-use Rattle.jc_reading.specs.Reading.{Run, as_new, any_number, in_turn, Takes}
-use Rattle.jc_reading.proofs.Steps.{IsFound, Plain, takes_cut}
+use Rattle.jc_reading.specs.Reading.{Run, Takes}
+use Rattle.jc_reading.proofs.Steps.{Plain, takes_cut}
 use Rattle.jc_reading.proofs.Forms.{Form, Lawful, Stands}
-use Rattle.jc_reading.proofs.Lists.{many, many_laws, fits_all}
-use Rattle.jc_reading.proofs.Alikes.{alike, Alike, alike_laws}
+use Rattle.jc_reading.proofs.Lists.{many, many_laws}
+use Rattle.jc_reading.proofs.Alikes.{alike_laws}
 use Rattle.jc_reading.proofs.Rooms.{room_suc, room_max}
 use Rattle.jc_reading.proofs.Signs.{none_common, apart_sets}
 use Rattle.jc_reading.specs.Kinds.{front_code}
-use Rattle.jc_parse_parts.proofs.Coded.{Coded, formed}
+use Rattle.jc_parse_parts.proofs.Coded.{formed}
 use Rattle.jc_parse_parts.proofs.ExprForms.{expr_codes}
 use Rattle.jc_parse_expr.specs.LevelReading.{is_tall, operand_made, chain_made, chain_run}
 use Rattle.jc_parse_expr.proofs.LevelTests.{acts, clashes, acts_apart, leads, acts_out, acts_first, acts_second}
-use Rattle.jc_parse_expr.proofs.LevelFollowed.{followed_form, Follow, followed_laws}
-use Rattle.jc_parse_expr.proofs.LevelActs.{acting, Acting, acting_laws}
-use Rattle.jc_parse_expr.proofs.LevelSpelled.{respelled, Respells, respelled_laws}
-use Rattle.jc_parse_expr.proofs.LevelOps.{flat_tokens, op_coded, HasAll, op_acts}
+use Rattle.jc_parse_expr.proofs.LevelFollowed.{followed_form, followed_laws}
+use Rattle.jc_parse_expr.proofs.LevelActs.{acting, acting_laws}
+use Rattle.jc_parse_expr.proofs.LevelSpelled.{respelled, respelled_laws}
+use Rattle.jc_parse_expr.proofs.LevelOps.{op_coded, HasAll, op_acts}
 use Rattle.jc_parse_expr.proofs.LevelFlat.{Flat, flat_forth, flat_back, flat_tail, real_tail}
-use Rattle.jc_parse_expr.proofs.LevelShapes.{IsChain, chain_only, exactly, operands_fit, Operands, operands_made, OfOperands, operands_back}
+use Rattle.jc_parse_expr.proofs.LevelShapes.{IsChain, chain_only, exactly, operands_fit, operands_made, OfOperands, operands_back}
 
 -- a token of one kind, or an operator before what begins an operand
 abbrev pub may_go : List ℕ → List (List ℕ) → List Token → Bool
@@ -45,7 +45,7 @@ may_go codes ops ts = one_of codes ts || acts ops ts
 abbrev pub at_level : ℕ → ℕ → Run Expr → List ℕ → List (List ℕ) → Form Expr
 at_level level h run codes ops = record { tell = expr_tokens; fits = λ e. nat_le (expr_height e) h && stands level (expr_shape e); run = run; starts = one_of expr_codes; goes_on = may_go codes ops; empties = false }
 
-plain_front : (x y : List Told) → (x ≡ [] → ⊥) → Plain x → Plain (x ++ y)
+pub plain_front : (x y : List Told) → (x ≡ [] → ⊥) → Plain x → Plain (x ++ y)
 plain_front [] y b p = absurd (b refl)
 plain_front (d ∷ x) y b p = p
 

@@ -1,7 +1,7 @@
 -- Tokens told with and without the rule that no `>` before an operator touches it.
-use Rattle.std.proofs.Common.{◌≡◌, ℕ, Bool, true, false, List, [], ◌∷◌, ◌++◌, refl, sym, ap, ◌∙◌, subst, ⊎_elim, ◌⊎◌, inl, inr}
-use Rattle.std.proofs.lemmas.Bool.{false≢true, and_parts, and_left, cases_Bool}
-use Rattle.std.specs.Prelude.{◌&&◌, ◌==◌, ◌+◌, nat_le}
+use Rattle.std.proofs.Common.{◌≡◌, Bool, true, false, List, [], ◌∷◌, ◌++◌, refl, sym, ◌∙◌, subst, ⊎_elim, ◌⊎◌, inl, inr}
+use Rattle.std.proofs.lemmas.Bool.{false≢true, and_parts}
+use Rattle.std.specs.Prelude.{◌&&◌}
 use Rattle.jc_lexer.specs.declared.token.Token.{Token}
 use Rattle.jc_lexer.specs.declared.token.TokenKind.{TokenKind}
 use Rattle.jc_tree.specs.declared.expression.BinaryOp.{BinaryOp}
@@ -10,7 +10,6 @@ use Rattle.jc_tree.specs.declared.expression.Expr.{Expr}
 use Rattle.jc_grammar.specs.Told.{Told}
 use Rattle.jc_grammar.specs.Spelling.{StandsAt, is_greater}
 use Rattle.jc_grammar.specs.Expressions.{binary_tokens, expr_tokens}
-use Rattle.jc_grammar.specs.Shapes.{binary_level}
 use Rattle.jc_grammar.proofs.FramedExpressions.{expr_frames}
 use Rattle.jc_reading.specs.Reading.{Takes}
 use Rattle.jc_reading.proofs.Lists.{tell_all, fits_all}

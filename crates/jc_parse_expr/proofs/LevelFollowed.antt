@@ -1,12 +1,12 @@
 -- A value, and more behind it unless it is one that takes no more, where the tests look at more than the first token.
-use Rattle.std.proofs.Common.{◌≡◌, ℕ, zero, suc, ◌+◌, ◌<◌, ◌≤◌, min, Bool, true, false, cond, List, [], ◌∷◌, ◌++◌, length, length-append, append_assoc, refl, sym, ap, ◌∙◌, subst, ⊎_elim, ◌⊎◌, inl, inr, arith}
-use Rattle.std.proofs.lemmas.Bool.{false≢true, cond_both, cond-true, cond-false, cases_Bool, and_parts, and_from, or_parts, or_left, or_right, or_cases}
-use Rattle.std.specs.Prelude.{◌&&◌, ◌||◌, ◌==◌, not}
+use Rattle.std.proofs.Common.{◌≡◌, ℕ, ◌≤◌, min, Bool, true, false, cond, List, [], ◌∷◌, ◌++◌, length, append_assoc, refl, sym, ap, ◌∙◌, subst, ⊎_elim, inl, arith}
+use Rattle.std.proofs.lemmas.Bool.{false≢true, cond_both, cases_Bool, and_parts, and_from, or_parts, or_left, or_right, or_cases}
+use Rattle.std.specs.Prelude.{◌&&◌, ◌||◌, not}
 use Rattle.jc_lexer.specs.declared.token.Token.{Token}
 use Rattle.jc_grammar.specs.Told.{Told}
-use Rattle.jc_reading.specs.Reading.{Read, Found, Stopped, Run, found, noting, becoming, joined, ◌>>=◌, Takes}
-use Rattle.jc_reading.proofs.Steps.{Good, Within, Goes, IsFound, Refuses, reach, Moved, Moves, Plain, good_becoming, good_bind, within_becoming, within_bind, goes_becoming, goes_bind, goes_after, goes_more, found_becoming, found_bind, reach_becoming, reach_noting, moves_becoming, moves_bind, moves_found, takes_cut, takes_join, takes_front}
-use Rattle.jc_reading.proofs.Forms.{Form, Lawful, Stands, Begins, Least, Opens, begins_as, begins_full, begins_behind, begins_pick}
+use Rattle.jc_reading.specs.Reading.{Read, Found, Stopped, found, becoming, joined, ◌>>=◌, Takes}
+use Rattle.jc_reading.proofs.Steps.{Good, Within, Goes, IsFound, Refuses, reach, Moves, Plain, good_becoming, good_bind, within_becoming, within_bind, goes_becoming, goes_bind, goes_after, goes_more, found_becoming, found_bind, reach_becoming, reach_noting, moves_becoming, moves_bind, moves_found, takes_cut, takes_join, takes_front}
+use Rattle.jc_reading.proofs.Forms.{Form, Lawful, Stands, Begins, Opens, begins_as, begins_full, begins_behind, begins_pick}
 use Rattle.jc_parse_parts.specs.Reading.{unless, followed}
 
 module _ (A T : Type 0) (closes : A → Bool) (none : T) (nothing : T → Bool) (ca : Form A) (ct : Form T) where

@@ -1,12 +1,10 @@
 -- What stands at the level of shifts or tighter doesn't end with a `>`, so behind it an operator may begin with one.
-use Rattle.std.proofs.Common.{◌≡◌, ℕ, zero, suc, ◌+◌, ◌<◌, ◌≤◌, max, Bool, true, false, List, [], ◌∷◌, ◌++◌, map, Option, Some, None, refl, sym, ap, ◌∙◌, subst, arith}
+use Rattle.std.proofs.Common.{◌≡◌, ℕ, zero, suc, ◌+◌, ◌<◌, ◌≤◌, Bool, true, false, List, [], ◌∷◌, ◌++◌, map, Some, refl, ap, ◌∙◌, subst, arith}
 use Rattle.std.proofs.lemmas.Bool.{false≢true, and_parts, leb-true, eqb-true}
 use Rattle.std.specs.Prelude.{◌&&◌, nat_le, not, ◌==◌, if◌then◌else◌}
 use Rattle.std.specs.List.{list_all}
 use Rattle.jc_lexer.specs.declared.token.Key.TheVariants as key_of
 use Rattle.jc_lexer.specs.declared.token.Sign.TheVariants as sign_of
-use Rattle.jc_lexer.specs.declared.token.TokenKind.TheVariants as kind_of
-use Rattle.jc_tree.specs.declared.name.Ident.{Ident}
 use Rattle.jc_tree.specs.declared.expression.ArrayInit.{ArrayInit, out-ArrayInit}
 use Rattle.jc_tree.specs.declared.expression.BinaryOp.{BinaryOp}
 use Rattle.jc_tree.specs.declared.expression.BinaryOp.TheVariants as binary_of
@@ -19,8 +17,6 @@ use Rattle.jc_tree.specs.declared.expression.Operand.{Operand, Operand-F, out-Op
 use Rattle.jc_tree.specs.declared.expression.PostfixOp.{PostfixOp}
 use Rattle.jc_tree.specs.declared.expression.PostfixOp.TheVariants as postfix_of
 use Rattle.jc_tree.specs.declared.expression.PrefixOp.{PrefixOp}
-use Rattle.jc_tree.specs.declared.expression.PrefixSign.{PrefixSign}
-use Rattle.jc_tree.specs.declared.expression.PrefixSign.TheVariants as prefix_of
 use Rattle.jc_tree.specs.declared.expression.Skip.{Skip, out-Skip}
 use Rattle.jc_tree.specs.Heights.{most, expr_step, operand_step, creation_height, expr_height, init_height, operand_height, array_height}
 use Rattle.jc_tree.proofs.HeightsOfExpressions.{expr_height-out, operand_height-out}
@@ -31,10 +27,10 @@ use Rattle.jc_grammar.specs.Types.{type_tokens, base_tokens, class_tokens, args_
 use Rattle.jc_grammar.specs.Shapes.{Shape, CreationShape, OperandShape, stands, of_level, longest_types, expr_shape, creation_shape, operand_shape, is_init, is_array, expr_shape_step, operand_shape_step, is_primitive, prefix_level, binary_level, unary_level, plain_level}
 use Rattle.jc_grammar.proofs.TokensOfExpressions.{creation_tokens-out, expr_tokens-out, operand_tokens-out, array_tokens-parts, skip_tokens-parts}
 use Rattle.jc_grammar.proofs.ShapesOfExpressions.{expr_shape-out, operand_shape-out}
-use Rattle.jc_grammar.proofs.Stands.{stands_looser, stands_good, stands_level}
-use Rattle.jc_grammar.proofs.Framed.{Frames, AllFrame, all_frame, each_frames, commas_frames, names_frame, brackets_frame, all_in_brackets, in_brackets_frame, if_there_frames}
+use Rattle.jc_grammar.proofs.Stands.{stands_looser}
+use Rattle.jc_grammar.proofs.Framed.{Frames, all_frame, each_frames, commas_frames, names_frame, brackets_frame, if_there_frames}
 use Rattle.jc_grammar.proofs.FramedTypes.{type_frames, base_frames, class_frames, args_frames}
-use Rattle.jc_grammar.proofs.FramedExpressions.{skip_frames, skip_part_frames, expr_frames, creation_frames, init_frames, array_frames, operand_frames}
+use Rattle.jc_grammar.proofs.FramedExpressions.{skip_frames, skip_part_frames, expr_frames, init_frames, operand_frames}
 
 -- whether the last token may touch what follows as a `>`
 abbrev pub ends_open : Bool → List Told → Bool

@@ -1,5 +1,5 @@
 -- The operators of each level, told without the rule that no `>` before one touches it.
-use Rattle.std.proofs.Common.{◌≡◌, ℕ, ◌<◌, ◌≤◌, Bool, true, false, cond, List, [], ◌∷◌, ◌++◌, length, Option, Some, None, refl, sym, ap, ◌∙◌, subst, ⊎_elim, arith}
+use Rattle.std.proofs.Common.{◌≡◌, ℕ, ◌≤◌, Bool, true, false, List, [], ◌∷◌, length, Some, None, refl, sym, ap, ◌∙◌, subst, ⊎_elim, arith}
 use Rattle.std.proofs.lemmas.Bool.{false≢true, eqb-true, eq-eqb, or_left, or_right, or_cases, and_from, and_parts, cond-true, cond-false, cases_Bool}
 use Rattle.std.specs.Prelude.{◌==◌, ◌&&◌, ◌||◌}
 use Rattle.jc_lexer.specs.declared.token.Sign.{Sign}
@@ -9,19 +9,19 @@ use Rattle.jc_lexer.specs.declared.token.TokenKind.TheVariants as kind_of
 use Rattle.jc_tree.specs.declared.expression.BinaryOp.{BinaryOp}
 use Rattle.jc_tree.specs.declared.expression.BinaryOp.TheVariants as binary_of
 use Rattle.jc_grammar.specs.Told.{Told, Spelled, sign}
-use Rattle.jc_grammar.specs.Expressions.{inner, binary_tokens}
+use Rattle.jc_grammar.specs.Expressions.{inner}
 use Rattle.jc_grammar.specs.Shapes.{binary_level}
-use Rattle.jc_reading.specs.Kinds.{kind_code, sign_code, is_in, front_code, one_of}
-use Rattle.jc_reading.specs.Reading.{Run, Either, This, That, IsTold, Takes}
-use Rattle.jc_reading.proofs.Codes.{kind_is_sign, some_is, none_is}
-use Rattle.jc_reading.proofs.Forms.{Form, Lawful, Stands}
-use Rattle.jc_reading.proofs.Kindly.{token, Picks, token_laws}
+use Rattle.jc_reading.specs.Kinds.{kind_code, sign_code, is_in, one_of}
+use Rattle.jc_reading.specs.Reading.{Run, Either, This, That, Takes}
+use Rattle.jc_reading.proofs.Codes.{kind_is_sign, none_is}
+use Rattle.jc_reading.proofs.Forms.{Form, Lawful}
+use Rattle.jc_reading.proofs.Kindly.{token, token_laws}
 use Rattle.jc_reading.proofs.Signs.{sign_laws}
-use Rattle.jc_parse_parts.proofs.Coded.{Coded, formed, coded, in_order, in_order_laws, one_or, Apart, one_or_laws, made, Makes, made_laws}
-use Rattle.jc_parse_parts.proofs.Prefers.{preferred, Prefer, preferred_laws}
+use Rattle.jc_parse_parts.proofs.Coded.{Coded, formed, coded, in_order, in_order_laws, one_or, one_or_laws, made_laws}
+use Rattle.jc_parse_parts.proofs.Prefers.{preferred, preferred_laws}
 use Rattle.jc_parse_parts.proofs.PartForms.{sign_form}
 use Rattle.jc_parse_parts.proofs.ExprForms.{expr_codes}
-use Rattle.jc_parse_expr.specs.LevelReading.{picks_touching, touching_run, or_else_op, and_also_op, or_op, xor_op, and_op, equal_op, less_op, shift_op, plus_op, times_op, or_else_run, and_also_run, or_run, xor_run, and_run, equal_run, less_run, shift_run, plus_run, times_run}
+use Rattle.jc_parse_expr.specs.LevelReading.{picks_touching, or_else_op, and_also_op, or_op, xor_op, and_op, equal_op, less_op, shift_op, plus_op, times_op, or_else_run, and_also_run, or_run, xor_run, and_run, equal_run, less_run, shift_run, plus_run, times_run}
 use Rattle.jc_parse_expr.proofs.LevelTests.{matches, acts}
 
 -- a `>` that touches the next token
@@ -300,7 +300,7 @@ abbrev pub told_codes : List Told → List ℕ
 told_codes [] = []
 told_codes (d ∷ told) = kind_code d.kind ∷ told_codes told
 
-told_match : (b : Bool) (told : List Told) (ts m : List Token) → Takes b told ts m → one_of expr_codes m ≡ true → matches (told_codes told) ts ≡ true
+pub told_match : (b : Bool) (told : List Told) (ts m : List Token) → Takes b told ts m → one_of expr_codes m ≡ true → matches (told_codes told) ts ≡ true
 told_match b [] ts m s e = subst (λ (l : List Token). one_of expr_codes l ≡ true) (sym s) e
 told_match b (d ∷ told) [] m s e = absurd s
 told_match b (d ∷ told) (t ∷ ts) m s e =
@@ -324,7 +324,7 @@ abbrev pub has : List ℕ → List (List ℕ) → Bool
 has op [] = false
 has op (other ∷ ops) = same_codes op other || has op ops
 
-has_acts : (op : List ℕ) (ops : List (List ℕ)) (ts : List Token) → has op ops ≡ true → matches op ts ≡ true → acts ops ts ≡ true
+pub has_acts : (op : List ℕ) (ops : List (List ℕ)) (ts : List Token) → has op ops ≡ true → matches op ts ≡ true → acts ops ts ≡ true
 has_acts op [] ts h m = absurd (false≢true h)
 has_acts op (other ∷ ops) ts h m =
     ⊎_elim (λ (e : same_codes op other ≡ true). or_left (matches other ts) (acts ops ts) (subst (λ (l : List ℕ). matches l ts ≡ true) (are_same op other e) m))

@@ -1,11 +1,10 @@
 -- Chains of prefix operators before what is none.
-use Rattle.std.proofs.Common.{◌≡◌, ℕ, zero, suc, ◌+◌, ◌<◌, ◌≤◌, max, Bool, true, false, List, [], ◌∷◌, ◌++◌, map, length, Option, Some, None, refl, sym, ap, ◌∙◌, subst, ⊎_elim, ◌⊎◌, inl, inr, arith}
-use Rattle.std.proofs.lemmas.Bool.{false≢true, and_parts, and_from, or_left, or_right, or_cases, cases_Bool, leb-true, le-leb, eqb-true}
-use Rattle.std.specs.Prelude.{◌&&◌, ◌||◌, nat_le, not, ◌==◌}
+use Rattle.std.proofs.Common.{◌≡◌, ℕ, suc, Bool, true, false, List, [], ◌∷◌, ◌++◌, map, Option, Some, None, refl, sym, ap, ◌∙◌, subst}
+use Rattle.std.proofs.lemmas.Bool.{false≢true, and_parts, and_from}
+use Rattle.std.specs.Prelude.{◌&&◌, nat_le, not}
 use Rattle.jc_lexer.specs.declared.token.Key.TheVariants as key_of
 use Rattle.jc_lexer.specs.declared.token.Sign.{Sign}
 use Rattle.jc_lexer.specs.declared.token.Sign.TheVariants as sign_of
-use Rattle.jc_lexer.specs.declared.token.Token.{Token}
 use Rattle.jc_lexer.specs.declared.token.TokenKind.{TokenKind}
 use Rattle.jc_lexer.specs.declared.token.TokenKind.TheVariants as kind_of
 use Rattle.jc_tree.specs.declared.expression.ArrayInit.{ArrayInit}
@@ -24,19 +23,17 @@ use Rattle.jc_grammar.specs.Expressions.{expr_tokens, prefix_sign, prefix_tokens
 use Rattle.jc_grammar.specs.Shapes.{Shape, CreationShape, OperandShape, stands, expr_shape, creation_shape, operand_shape, is_init, is_array, expr_shape_step, chain_shape, prefix_level}
 use Rattle.jc_grammar.proofs.ShapesOfExpressions.{expr_shape-out, expr_shape-Prefix}
 use Rattle.jc_grammar.proofs.TokensOfExpressions.{expr_tokens-Prefix}
-use Rattle.jc_reading.specs.Kinds.{kind_code, sign_code, key_code, word_code, is_in, front_code, one_of}
-use Rattle.jc_reading.specs.Reading.{Run, Either, This, That, as_new, either, IsTold}
+use Rattle.jc_reading.specs.Kinds.{kind_code, sign_code, key_code, word_code, is_in}
+use Rattle.jc_reading.specs.Reading.{Run, Either, This, That, as_new}
 use Rattle.jc_reading.proofs.Codes.{some_is, none_is}
-use Rattle.jc_reading.proofs.Forms.{Form, Lawful, Stands}
-use Rattle.jc_reading.proofs.Kindly.{token, Picks, token_laws}
+use Rattle.jc_reading.proofs.Forms.{Form, Lawful}
+use Rattle.jc_reading.proofs.Kindly.{token, token_laws}
 use Rattle.jc_reading.proofs.Lists.{tell_all}
 use Rattle.jc_reading.proofs.Rooms.{room_suc}
-use Rattle.jc_reading.proofs.Signs.{sign_at_laws, none_common, all_in}
-use Rattle.jc_parse_parts.specs.Reading.{either_one}
-use Rattle.jc_parse_parts.proofs.Coded.{Coded, formed, coded, in_order, in_order_laws, repeated, repeated_laws, one_or, Apart, one_or_laws, made, Makes, made_laws, widened, widened_laws}
+use Rattle.jc_reading.proofs.Signs.{sign_at_laws}
+use Rattle.jc_parse_parts.proofs.Coded.{Coded, formed, coded, in_order, in_order_laws, repeated, repeated_laws, one_or, one_or_laws, made_laws}
 use Rattle.jc_parse_parts.proofs.PartForms.{sign_at_form}
-use Rattle.jc_parse_parts.proofs.ExprForms.{expr_codes}
-use Rattle.jc_parse_expr.specs.LevelReading.{prefix_of_sign, prefix_of_kind, prefix_placed, picks_prefix, prefix_op_run, plain_op, plain_op_run, prefix_made, prefix_codes, prefix_run, plain_run, unary_run}
+use Rattle.jc_parse_expr.specs.LevelReading.{prefix_of_sign, prefix_of_kind, prefix_placed, picks_prefix, prefix_op_run, plain_op, plain_op_run, prefix_made, prefix_codes, prefix_run}
 
 -- where an expression may begin that is no chain of prefix operators
 abbrev pub bare_codes : List ℕ

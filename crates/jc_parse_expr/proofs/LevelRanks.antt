@@ -1,24 +1,22 @@
 -- The operators of the binary levels, but for the one of `<` and `instanceof`.
-use Rattle.std.proofs.Common.{◌≡◌, ℕ, suc, ◌+◌, ◌≤◌, Bool, true, false, List, [], ◌∷◌, refl, sym, ap, ◌∙◌, subst, arith}
-use Rattle.std.proofs.lemmas.Bool.{false≢true, and_parts, eqb-true, eq-eqb}
+use Rattle.std.proofs.Common.{◌≡◌, ℕ, suc, ◌+◌, ◌≤◌, Bool, true, false, [], ◌∷◌, refl, sym, ◌∙◌, subst, arith}
+use Rattle.std.proofs.lemmas.Bool.{false≢true, and_parts}
 use Rattle.std.specs.Prelude.{◌&&◌, ◌||◌, nat_le, not, ◌==◌}
 use Rattle.jc_lexer.specs.declared.token.Sign.TheVariants as sign_of
 use Rattle.jc_tree.specs.declared.expression.BinaryOp.{BinaryOp}
 use Rattle.jc_tree.specs.declared.expression.BinaryOp.TheVariants as binary_of
 use Rattle.jc_tree.specs.declared.expression.Expr.{Expr}
 use Rattle.jc_tree.specs.Heights.{expr_height}
-use Rattle.jc_grammar.specs.Told.{Told}
 use Rattle.jc_grammar.specs.Expressions.{expr_tokens}
 use Rattle.jc_grammar.specs.Shapes.{stands, expr_shape, binary_level, is_none}
 use Rattle.jc_grammar.proofs.Stands.{stands_looser}
 use Rattle.jc_reading.specs.Kinds.{sign_code}
-use Rattle.jc_reading.proofs.Lists.{fits_all}
 use Rattle.jc_parse_expr.specs.LevelReading.{is_tall, or_else_run, and_also_run, or_run, xor_run, and_run, equal_run, shift_run, plus_run, times_run}
 use Rattle.jc_parse_expr.proofs.LevelOps.{or_else_laws, and_also_laws, or_laws, xor_laws, and_laws, equal_laws, shift_laws, plus_laws, times_laws, or_else_ops, and_also_ops, or_ops, xor_ops, and_ops, equal_ops, shift_ops, plus_ops, times_ops, has_or_else, has_and_also, has_or, has_xor, has_and, has_equal, has_shift, has_plus, has_times}
 use Rattle.jc_parse_expr.proofs.LevelLasts.{ends_open, Silent, expr_silent}
 use Rattle.jc_parse_expr.proofs.LevelFlat.{Flat, flat_expr, flat_list, flat_anywhere, is_flat, flat_tail, real_tail}
 use Rattle.jc_parse_expr.proofs.LevelShapes.{operands_fit}
-use Rattle.jc_parse_expr.proofs.LevelChains.{Ranked, Tells, fit_chain}
+use Rattle.jc_parse_expr.proofs.LevelChains.{Ranked, Tells}
 
 pub or_else_rank : Ranked 2 or_else_run or_else_ops
 or_else_rank = record { lo = omega arith; hi = omega arith; other = refl; starts = sign_code sign_of.OrOr ∷ []; goes = []; laws = or_else_laws; all = has_or_else; met = refl }

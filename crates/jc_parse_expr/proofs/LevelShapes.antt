@@ -1,6 +1,6 @@
 -- Chains by their parts: their heights and levels, and which expressions are chains of a level.
-use Rattle.std.proofs.Common.{◌≡◌, ℕ, zero, suc, ◌+◌, ◌<◌, ◌≤◌, max, Bool, true, false, List, [], ◌∷◌, ◌++◌, map, refl, sym, ap, ◌∙◌, subst, ⊎_elim, arith}
-use Rattle.std.proofs.lemmas.Bool.{false≢true, and_parts, and_from, leb-true, le-leb, eqb-true, eq-eqb, cases_Bool, cases_lt}
+use Rattle.std.proofs.Common.{◌≡◌, ℕ, ◌+◌, ◌<◌, ◌≤◌, Bool, true, false, List, [], ◌∷◌, map, refl, sym, ap, ◌∙◌, subst, ⊎_elim, arith}
+use Rattle.std.proofs.lemmas.Bool.{false≢true, and_parts, and_from, leb-true, le-leb, eqb-true, cases_Bool, cases_lt}
 use Rattle.std.specs.Prelude.{◌&&◌, nat_le, not, ◌==◌}
 use Rattle.std.specs.List.{list_all}
 use Rattle.jc_tree.specs.declared.expression.ArrayInit.{ArrayInit}

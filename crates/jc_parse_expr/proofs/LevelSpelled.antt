@@ -1,10 +1,12 @@
 -- The same values told in another way, where the same tokens are as told.
-use Rattle.std.proofs.Common.{◌≡◌, Bool, true, false, List, [], ◌∷◌, ◌++◌, length, refl, sym, ⊎_elim, inl, inr}
+use Rattle.std.proofs.Common.{◌≡◌, ◌<◌, Bool, true, false, List, [], ◌++◌, length, refl, sym, ap, ◌∙◌, ⊎_elim, arith}
+use Rattle.std.proofs.lemmas.Bool.{false≢true}
 use Rattle.jc_lexer.specs.declared.token.Token.{Token}
 use Rattle.jc_grammar.specs.Told.{Told}
 use Rattle.jc_reading.specs.Reading.{Read, Found, Stopped, Takes}
 use Rattle.jc_reading.proofs.Steps.{Good, reach, Plain}
-use Rattle.jc_reading.proofs.Forms.{Form, Lawful, Stands, Begins, begins_as}
+use Rattle.jc_reading.proofs.Forms.{Form, Lawful, Stands, begins_as}
+use Rattle.jc_reading.proofs.Retests.{retested, retested_laws}
 
 module _ (A : Type 0) (fa : Form A) (tell : A → List Told → List Told) where
   abbrev pub respelled : Form A
@@ -42,3 +44,20 @@ module _ (A : Type 0) (fa : Form A) (tell : A → List Told → List Told) where
       begins = λ ts. begins_as A A fa respelled (λ a. a) ts (reach (fa.run ts)) (λ us a z s. stands_forth us a z s) (la.begins ts);
       least = record { value = la.least.value; tokens = la.least.tokens; spelled = λ z. stands_forth (la.least.tokens ++ z) la.least.value z (la.least.spelled z) };
     }
+
+-- with tests that are no stricter
+pub loosened_laws : (A : Type 0) (fa : Form A) (starts goes_on : List Token → Bool) → Lawful A fa → ((ts : List Token) → fa.starts ts ≡ true → starts ts ≡ true) → ((ts : List Token) → fa.goes_on ts ≡ true → goes_on ts ≡ true) → Lawful A (retested A fa starts goes_on)
+loosened_laws A fa starts goes_on la s g =
+    retested_laws A fa starts goes_on la
+    (record {
+      opens = λ ts a r t lt. ⊎_elim (λ o. s ts o.0) (λ o. absurd (no_less ts r lt o.0)) (la.opens ts a r t);
+      refuses = λ ts e. la.refuses ts (not_then (fa.starts ts) (starts ts) (s ts) e);
+      goes_too = g;
+    })
+  where
+    no_less : (ts r : List Token) → length r < length ts → ts ≡ r → ⊥
+    no_less ts r lt e = omega (arith, lt, ap length e)
+
+    not_then : (b c : Bool) → (b ≡ true → c ≡ true) → c ≡ false → b ≡ false
+    not_then true c f e = absurd (false≢true (sym e ∙ f refl))
+    not_then false c f e = refl

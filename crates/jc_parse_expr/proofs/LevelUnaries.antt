@@ -1,10 +1,8 @@
 -- Plain and Unary: chains of prefix operators, or what is none.
-use Rattle.std.proofs.Common.{◌≡◌, ℕ, zero, suc, ◌+◌, ◌<◌, ◌≤◌, Bool, true, false, List, [], ◌∷◌, ◌++◌, map, refl, sym, ap, ◌∙◌, subst, ⊎_elim, ◌⊎◌, inl, inr, arith}
-use Rattle.std.proofs.Math.Path.{fun_ext}
-use Rattle.std.proofs.lemmas.Bool.{false≢true, and_parts, and_from, cases_Bool, leb-true}
+use Rattle.std.proofs.Common.{◌≡◌, ℕ, suc, ◌≤◌, Bool, true, false, List, [], ◌∷◌, ◌++◌, refl, sym, ap, ◌∙◌, subst, ⊎_elim, ◌⊎◌, inl, inr, arith}
+use Rattle.std.proofs.lemmas.Bool.{false≢true, and_parts, and_from, cases_Bool}
 use Rattle.std.specs.Prelude.{◌&&◌, nat_le, not}
 use Rattle.jc_lexer.specs.declared.token.Sign.TheVariants as sign_of
-use Rattle.jc_lexer.specs.declared.token.Token.{Token}
 use Rattle.jc_tree.specs.declared.expression.ArrayInit.{ArrayInit}
 use Rattle.jc_tree.specs.declared.expression.BinaryOp.{BinaryOp}
 use Rattle.jc_tree.specs.declared.expression.BinaryOp.TheVariants as binary_of
@@ -21,15 +19,13 @@ use Rattle.jc_grammar.proofs.ShapesOfExpressions.{expr_shape-out, operand_shape-
 use Rattle.jc_grammar.proofs.Stands.{stands_looser}
 use Rattle.jc_reading.specs.Kinds.{sign_code}
 use Rattle.jc_reading.specs.Reading.{Read, Found, Stopped, Run, becoming, as_new, Either, This, That, either}
-use Rattle.jc_reading.proofs.Choices.{tell_either, fits_either}
-use Rattle.jc_reading.proofs.Forms.{Form, Lawful}
-use Rattle.jc_reading.proofs.Signs.{all_in}
+use Rattle.jc_reading.proofs.Forms.{Lawful}
 use Rattle.jc_parse_parts.specs.Reading.{either_one}
-use Rattle.jc_parse_parts.proofs.Coded.{Coded, formed, one_or, Apart, one_or_laws, made, Makes, made_laws, widened, widened_laws}
-use Rattle.jc_parse_parts.proofs.Lowest.{rerun, rerun_laws}
+use Rattle.jc_parse_parts.proofs.Coded.{Coded, formed, one_or, Apart, one_or_laws, made_laws, widened_laws}
+use Rattle.jc_parse_parts.proofs.Lowest.{rerun_laws}
 use Rattle.jc_parse_parts.proofs.ExprForms.{expr_codes}
-use Rattle.jc_parse_expr.specs.LevelReading.{prefix_op_run, plain_op_run, prefix_codes, prefix_run, plain_run, unary_run}
-use Rattle.jc_parse_expr.proofs.LevelPrefixes.{bare_codes, plain_codes, bare_goes, ops_of, any_op_laws, plain_op_laws, bare_fits, bare_coded, prefix_coded, prefix_laws}
+use Rattle.jc_parse_expr.specs.LevelReading.{prefix_op_run, plain_op_run, prefix_codes, plain_run, unary_run}
+use Rattle.jc_parse_expr.proofs.LevelPrefixes.{plain_codes, bare_goes, ops_of, any_op_laws, plain_op_laws, bare_fits, bare_coded, prefix_coded, prefix_laws}
 use Rattle.jc_parse_expr.proofs.LevelShapes.{exactly}
 
 abbrev pub plain_coded : ℕ → Run Expr → Coded Expr

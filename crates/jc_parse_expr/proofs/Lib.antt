@@ -4,10 +4,15 @@ pub mod CreationRooms
 pub mod CreationSkips
 pub mod CreationTails
 pub mod LevelActs
+pub mod LevelAssignOps
+pub mod LevelAssigns
+pub mod LevelBase
 pub mod LevelCasts
 pub mod LevelChains
+pub mod LevelConditionals
 pub mod LevelFlat
 pub mod LevelFollowed
+pub mod LevelKnot
 pub mod LevelLasts
 pub mod LevelOps
 pub mod LevelPrefixes
@@ -15,6 +20,7 @@ pub mod LevelRanks
 pub mod LevelShapes
 pub mod LevelSpelled
 pub mod LevelTests
+pub mod LevelTower
 pub mod LevelUnaries
 pub mod PrimeForms
 pub mod PrimeGrowing

@@ -1,6 +1,6 @@
 -- How the levels of expressions are read: casts, prefix operators, binary operators, conditionals and assignments (JLS 15.15 to 15.26).
-use Rattle.std.specs.Prelude.{ℕ, zero, suc, Bool, true, false, not, cond, ◌==◌, ◌&&◌, nat_le, List, [], ◌∷◌, map, Option, Some, None}
-use Rattle.jc_lexer.specs.declared.token.Key.TheVariants as key_of
+use Rattle.std.specs.Prelude.{ℕ, zero, suc, Bool, true, false, not, cond, ◌==◌, ◌&&◌, nat_le, List, [], ◌∷◌, map, length, Option, Some, None}
+use Rattle.jc_tree.specs.declared.expression.Init.{Init}
 use Rattle.jc_lexer.specs.declared.token.Sign.{Sign}
 use Rattle.jc_lexer.specs.declared.token.Sign.TheVariants as sign_of
 use Rattle.jc_lexer.specs.declared.token.Token.{Token}
@@ -19,10 +19,10 @@ use Rattle.jc_tree.specs.declared.expression.Expr.TheVariants as expr_of
 use Rattle.jc_tree.specs.declared.expression.Operand.{Operand}
 use Rattle.jc_tree.specs.declared.expression.Operand.TheVariants as operand_of
 use Rattle.jc_tree.specs.Heights.{expr_height}
-use Rattle.jc_reading.specs.Kinds.{kind_code, sign_code, key_code, one_of}
-use Rattle.jc_reading.specs.Reading.{Read, Found, Stopped, Run, found, as_new, in_turn, perhaps, any_number, Either, This, That, either, picking, of_kind, at_kind}
+use Rattle.jc_reading.specs.Kinds.{kind_code, sign_code}
+use Rattle.jc_reading.specs.Reading.{Stopped, Run, as_new, in_turn, perhaps, any_number, Either, This, That, either, picking, of_kind, at_kind}
 use Rattle.jc_parse_type.specs.TypeReading.{type_run}
-use Rattle.jc_grammar.specs.Shapes.{is_primitive}
+use Rattle.jc_grammar.specs.Shapes.{is_primitive, stands, post_level, expr_shape}
 use Rattle.jc_parse_parts.specs.Reading.{either_one, followed, preferring, by_value}
 
 -- a `>` that touches the next token
@@ -218,15 +218,127 @@ conditional_run zero test expr conditional = test
 conditional_run (suc k) test expr conditional =
     as_new conditional_made (followed (is_tall (suc k)) None test (perhaps (in_turn (of_kind (sign_code sign_of.Question)) (in_turn expr (in_turn (of_kind (sign_code sign_of.Colon)) conditional)))))
 
-abbrev pub assign_of_sign : Sign → Option AssignOp
-assign_of_sign sign_of.Assign = Some assign_of.Plain
-assign_of_sign sign_of.PlusAssign = Some assign_of.Plus
-assign_of_sign sign_of.MinusAssign = Some assign_of.Minus
-assign_of_sign sign_of.StarAssign = Some assign_of.Times
-assign_of_sign sign_of.SlashAssign = Some assign_of.Divide
-assign_of_sign sign_of.PercentAssign = Some assign_of.Remainder
-assign_of_sign sign_of.AndAssign = Some assign_of.And
-assign_of_sign sign_of.OrAssign = Some assign_of.Or
-assign_of_sign sign_of.CaretAssign = Some assign_of.Xor
-assign_of_sign sign_of.ShiftLeftAssign = Some assign_of.ShiftLeft
-assign_of_sign _ = None
+-- `>>=` or `>>>=`: runs of tokens that touch
+abbrev pub Touched : Type 0
+Touched = Unit {0} × (Unit {0} × Either (Unit {0}) (Unit {0} × Unit {0}))
+
+abbrev pub touched_assign_run : Run Touched
+touched_assign_run = in_turn touching_run (in_turn touching_run (either (sign_code sign_of.Assign ∷ []) (of_kind (sign_code sign_of.Assign)) (in_turn touching_run (of_kind (sign_code sign_of.Assign)))))
+
+abbrev pub AssignSign : Type 0
+AssignSign = Either (Unit {0}) (Either (Unit {0}) (Either (Unit {0}) (Either (Unit {0}) (Either (Unit {0}) (Either (Unit {0}) (Either (Unit {0}) (Either (Unit {0}) (Either (Unit {0}) (Either (Unit {0}) Touched)))))))))
+
+abbrev pub assign_op : AssignSign → AssignOp
+assign_op (This u) = assign_of.Plain
+assign_op (That (This u)) = assign_of.Plus
+assign_op (That (That (This u))) = assign_of.Minus
+assign_op (That (That (That (This u)))) = assign_of.Times
+assign_op (That (That (That (That (This u))))) = assign_of.Divide
+assign_op (That (That (That (That (That (This u)))))) = assign_of.Remainder
+assign_op (That (That (That (That (That (That (This u))))))) = assign_of.And
+assign_op (That (That (That (That (That (That (That (This u)))))))) = assign_of.Or
+assign_op (That (That (That (That (That (That (That (That (This u))))))))) = assign_of.Xor
+assign_op (That (That (That (That (That (That (That (That (That (This u)))))))))) = assign_of.ShiftLeft
+assign_op (That (That (That (That (That (That (That (That (That (That ((u, (v, This w))))))))))))) = assign_of.ShiftRight
+assign_op (That (That (That (That (That (That (That (That (That (That ((u, (v, That p))))))))))))) = assign_of.ShiftRightZero
+
+unfoldable pub assign_run : Run AssignOp
+assign_run = as_new assign_op (either (sign_code sign_of.Assign ∷ []) (of_kind (sign_code sign_of.Assign)) (either (sign_code sign_of.PlusAssign ∷ []) (of_kind (sign_code sign_of.PlusAssign)) (either (sign_code sign_of.MinusAssign ∷ []) (of_kind (sign_code sign_of.MinusAssign)) (either (sign_code sign_of.StarAssign ∷ []) (of_kind (sign_code sign_of.StarAssign)) (either (sign_code sign_of.SlashAssign ∷ []) (of_kind (sign_code sign_of.SlashAssign)) (either (sign_code sign_of.PercentAssign ∷ []) (of_kind (sign_code sign_of.PercentAssign)) (either (sign_code sign_of.AndAssign ∷ []) (of_kind (sign_code sign_of.AndAssign)) (either (sign_code sign_of.OrAssign ∷ []) (of_kind (sign_code sign_of.OrAssign)) (either (sign_code sign_of.CaretAssign ∷ []) (of_kind (sign_code sign_of.CaretAssign)) (either (sign_code sign_of.ShiftLeftAssign ∷ []) (of_kind (sign_code sign_of.ShiftLeftAssign)) (touched_assign_run)))))))))))
+
+-- an assignment needs a target of the postfix level that is not too high
+abbrev pub no_target : ℕ → Expr → Bool
+no_target h e = not (nat_le (expr_height e) h && stands post_level (expr_shape e))
+
+abbrev pub assign_made : (Expr × Option (AssignOp × Expr)) → Expr
+assign_made (target, None) = target
+assign_made (target, Some p) = expr_of.Assign target p.0 p.1
+
+-- Expr of height h + 1, of Cond of height h + 1 and Expr of height h
+unfoldable pub expr_run : ℕ → Run Expr → Run Expr → Run Expr
+expr_run zero conditional expr = conditional
+expr_run (suc k) conditional expr = as_new assign_made (followed (no_target (suc k)) None conditional (perhaps (in_turn assign_run expr)))
+
+-- the readers of all levels, of one height
+pub record Levels : Type 0 where
+  pub bare : Run Expr
+  pub plain : Run Expr
+  pub unary : Run Expr
+  pub times : Run Expr
+  pub plus : Run Expr
+  pub shift : Run Expr
+  pub compared : Run Expr
+  pub equal : Run Expr
+  pub bit_and : Run Expr
+  pub bit_xor : Run Expr
+  pub bit_or : Run Expr
+  pub and_also : Run Expr
+  pub or_else : Run Expr
+  pub conditional : Run Expr
+  pub expr : Run Expr
+
+-- those of height h + 1, of those of height h and of the postfix level of height h + 1; the level of `<` and `instanceof` is read by `compare`
+unfoldable pub next_levels : (ℕ → Run Expr → Run Expr → Run Expr) → ℕ → Levels → Run Expr → Levels
+next_levels compare h low post =
+    let bare : Run Expr = bare_run h low.unary low.plain post in
+    let unary : Run Expr = unary_run h bare low.bare in
+    let times : Run Expr = chain_run h times_run unary low.unary in
+    let plus : Run Expr = chain_run h plus_run times low.times in
+    let shift : Run Expr = chain_run h shift_run plus low.plus in
+    let compared : Run Expr = compare h shift low.shift in
+    let equal : Run Expr = chain_run h equal_run compared low.compared in
+    let bit_and : Run Expr = chain_run h and_run equal low.equal in
+    let bit_xor : Run Expr = chain_run h xor_run bit_and low.bit_and in
+    let bit_or : Run Expr = chain_run h or_run bit_xor low.bit_xor in
+    let and_also : Run Expr = chain_run h and_also_run bit_or low.bit_or in
+    let or_else : Run Expr = chain_run h or_else_run and_also low.and_also in
+    let conditional : Run Expr = conditional_run h or_else low.expr low.conditional in
+    record {
+      bare = bare;
+      plain = plain_run h bare low.bare;
+      unary = unary;
+      times = times;
+      plus = plus;
+      shift = shift;
+      compared = compared;
+      equal = equal;
+      bit_and = bit_and;
+      bit_xor = bit_xor;
+      bit_or = bit_or;
+      and_also = and_also;
+      or_else = or_else;
+      conditional = conditional;
+      expr = expr_run h conditional low.expr;
+    }
+
+abbrev pub none_at : {A : Type 0} → Run A
+none_at ts = Stopped (length ts)
+
+abbrev pub no_levels : Levels
+no_levels = record {
+  bare = none_at;
+  plain = none_at;
+  unary = none_at;
+  times = none_at;
+  plus = none_at;
+  shift = none_at;
+  compared = none_at;
+  equal = none_at;
+  bit_and = none_at;
+  bit_xor = none_at;
+  bit_or = none_at;
+  and_also = none_at;
+  or_else = none_at;
+  conditional = none_at;
+  expr = none_at;
+}
+
+-- the postfix level of height h + 1 is read by `post`, of expressions and initialisers of height h; initialisers of height h + 1 by `init`, of
+-- expressions of height h + 1 and initialisers of height h
+module _ (compare : ℕ → Run Expr → Run Expr → Run Expr) (post : ℕ → Run Expr → Run Init → Run Expr) (init : ℕ → Run Expr → Run Init → Run Init) where
+  abbrev pub tied : ℕ → Levels → Run Init → Levels × Run Init
+  tied h low inits =
+      let levels : Levels = next_levels compare h low (post h low.expr inits) in (levels, init h levels.expr inits)
+
+  unfoldable pub readers : ℕ → Levels × Run Init
+  readers zero = (no_levels, none_at)
+  readers (suc h) = tied h (readers h).0 (readers h).1
