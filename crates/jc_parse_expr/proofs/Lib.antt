@@ -13,3 +13,5 @@ pub mod PrimeSpecials
 pub mod PrimeParts
 pub mod PrimeForms
 pub mod PrimePrefers
+pub mod PrimeWhole
+pub mod PrimePosts

@@ -1,3 +1,4 @@
 pub mod Growing
 pub mod PrimeReading
 pub mod StartReading
+pub mod PostReading
