@@ -15,3 +15,7 @@ pub mod PrimeForms
 pub mod PrimePrefers
 pub mod PrimeWhole
 pub mod PrimePosts
+pub mod PrimeClosed
+pub mod PrimeClosedTypes
+pub mod PrimeClosedTrees
+pub mod PrimeFacts

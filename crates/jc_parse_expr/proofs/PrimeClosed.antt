@@ -117,8 +117,8 @@ pub also_inside : {f : Spelled} → Closed f → Inside f
 also_inside c = record { at = λ d e r b ts q t. c.at (d, suc e) r b ts q t }
 
 -- two tokens round others, which are open in between
-pub round : {f : Spelled} (d e : Told) (s n : Open) (r : List Told) (b : Bool) (ts q : List Token) → kind_step d.kind s ≡ On n → kind_step e.kind n ≡ On s → ((c : Bool) (us : List Token) → Takes c (f (e ∷ r)) us q → Passes n n (e ∷ r) us q) → Takes b (d ∷ f (e ∷ r)) ts q → Passes s s r ts q
-round {f} d e s n r b ts q x y go t =
+pub round : (f : Spelled) (d e : Told) (s n : Open) (r : List Told) (b : Bool) (ts q : List Token) → kind_step d.kind s ≡ On n → kind_step e.kind n ≡ On s → ((c : Bool) (us : List Token) → Takes c (f (e ∷ r)) us q → Passes n n (e ∷ r) us q) → Takes b (d ∷ f (e ∷ r)) ts q → Passes s s r ts q
+round f d e s n r b ts q x y go t =
     let p = one_passes d s n (f (e ∷ r)) b ts q x t in
     let i = go p.flag p.mid p.rest in
     let o = one_passes e n s r i.flag i.mid q y i.rest in
@@ -128,12 +128,12 @@ pub in_parens : {f : Spelled} (d e : Told) → Closed f → d.kind ≡ kind_of.S
 in_parens {f} d e c x y = record { at = around }
   where
   around : (s : Open) (r : List Told) (b : Bool) (ts q : List Token) → Takes b (d ∷ f (e ∷ r)) ts q → Passes s s r ts q
-  around (a, zero) r b ts q t = round {f} d e (a, zero) (suc a, zero) r b ts q (ap (λ (k : TokenKind). kind_step k (a, zero)) x) (ap (λ (k : TokenKind). kind_step k (suc a, zero)) y) (λ g us w. c.at (suc a, zero) (e ∷ r) g us q w) t
-  around (a, suc m) r b ts q t = round {f} d e (a, suc m) (a, suc m) r b ts q (ap (λ (k : TokenKind). kind_step k (a, suc m)) x) (ap (λ (k : TokenKind). kind_step k (a, suc m)) y) (λ g us w. c.at (a, suc m) (e ∷ r) g us q w) t
+  around (a, zero) r b ts q t = round f d e (a, zero) (suc a, zero) r b ts q (ap (λ (k : TokenKind). kind_step k (a, zero)) x) (ap (λ (k : TokenKind). kind_step k (suc a, zero)) y) (λ g us w. c.at (suc a, zero) (e ∷ r) g us q w) t
+  around (a, suc m) r b ts q t = round f d e (a, suc m) (a, suc m) r b ts q (ap (λ (k : TokenKind). kind_step k (a, suc m)) x) (ap (λ (k : TokenKind). kind_step k (a, suc m)) y) (λ g us w. c.at (a, suc m) (e ∷ r) g us q w) t
 
 pub in_braces : {f : Spelled} (d e : Told) → Inside f → d.kind ≡ kind_of.Sign sign_of.LeftBrace → e.kind ≡ kind_of.Sign sign_of.RightBrace → Closed (λ r. d ∷ f (e ∷ r))
 in_braces {f} d e c x y = record {
-  at = λ s r b ts q t. round {f} d e s (s.0, suc s.1) r b ts q (ap (λ (k : TokenKind). kind_step k s) x) (ap (λ (k : TokenKind). kind_step k (s.0, suc s.1)) y) (λ g us w. c.at s.0 s.1 (e ∷ r) g us q w) t;
+  at = λ s r b ts q t. round f d e s (s.0, suc s.1) r b ts q (ap (λ (k : TokenKind). kind_step k s) x) (ap (λ (k : TokenKind). kind_step k (s.0, suc s.1)) y) (λ g us w. c.at s.0 s.1 (e ∷ r) g us q w) t;
 }
 
 brace_sign : (g : Sign) (a c : ℕ) → is_brace (kind_of.Sign g) ≡ false → sign_step g (a, suc c) ≡ On (a, suc c)
@@ -173,7 +173,7 @@ commas_closed ended = nothing
 commas_closed (joined f all) = seq f (after_commas_closed all)
 
 pub actuals_closed : {l : List Spelled} → AllClosed l → Closed (actuals l)
-actuals_closed {l} all = in_parens {commas l} (sign sign_of.LeftParen) (sign sign_of.RightParen) (commas_closed all) refl refl
+actuals_closed {l} all = in_parens {f = commas l} (sign sign_of.LeftParen) (sign sign_of.RightParen) (commas_closed all) refl refl
 
 pub after_dots_closed : {l : List Spelled} → AllClosed l → Closed (after_dots l)
 after_dots_closed ended = nothing

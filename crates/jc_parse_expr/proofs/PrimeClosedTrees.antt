@@ -1,10 +1,9 @@
 -- The tokens of expressions of the grammar have no parentheses that stay open.
 use Rattle.std.proofs.Common.{◌≡◌, ℕ, map, length, refl, sym, ap, ◌∙◌, subst}
 use Rattle.std.proofs.lemmas.Bool.{false≢true, and_parts}
-use Rattle.std.specs.Prelude.{◌&&◌, ◌||◌, ◌==◌, ◌+◌, not, nat_le}
+use Rattle.std.specs.Prelude.{◌&&◌, ◌||◌, ◌==◌, ◌+◌, not, nat_le, [], ◌∷◌, Bool, List, None, Some, false, true}
 use Rattle.std.specs.List.{list_all}
 use Rattle.jc_lexer.specs.declared.token.TokenKind.{TokenKind}
-use Rattle.std.specs.Prelude.{[], ◌∷◌, Bool, List, None, Some, false, true}
 use Rattle.jc_tree.specs.declared.expression.AssignOp.TheVariants as assign_of
 use Rattle.jc_tree.specs.declared.expression.BinaryOp.TheVariants as binary_of
 use Rattle.jc_lexer.specs.declared.token.Key.TheVariants as key_of
@@ -20,14 +19,11 @@ use Rattle.jc_tree.specs.declared.expression.PrefixOp.{PrefixOp}
 use Rattle.jc_tree.specs.declared.expression.Skip.{Skip, Skip-F, fold-roll-Skip, ind-Skip, map-Skip, roll-Skip}
 use Rattle.jc_tree.specs.declared.expression.SkipPart.{SkipPart, SkipPart-F, fold-roll-SkipPart, ind-SkipPart, map-SkipPart, roll-SkipPart}
 use Rattle.jc_parse_expr.proofs.PrimeClosedTypes.{args_closed, base_closed, class_closed, type_closed}
-use Rattle.jc_grammar.specs.Expressions.{array_tokens, array_told, assign_tokens, binary_tokens, creation_tokens, creation_told, diamond_tokens, expr_tokens, expr_told, init_tokens, init_told, literal_kind, operand_tokens, operand_told, postfix_sign, prefix_sign, prefix_tokens, skip_part_tokens, skip_part_told, skip_tokens, skip_told}
+use Rattle.jc_grammar.specs.Expressions.{array_tokens, array_told, assign_tokens, binary_tokens, creation_tokens, creation_told, diamond_tokens, expr_tokens, expr_told, init_tokens, init_told, literal_kind, operand_tokens, operand_told, postfix_sign, prefix_sign, prefix_tokens, skip_part_tokens, skip_part_told, skip_tokens, skip_told, if_there, opening, inner}
 use Rattle.jc_grammar.specs.Told.{Told, Spelled, each, commas, ident, key, key_at, sign, sign_at, told}
 use Rattle.jc_grammar.specs.Types.{type_tokens}
-use Rattle.jc_grammar.specs.Expressions.{if_there}
-
 use Rattle.jc_grammar.specs.Shapes.{is_brace, Shape, CreationShape, OperandShape, stands, all_stand, all_true, any_level, binary_level, of_level, longest_types, chain_shape, ends_bare, skip_part_step, skip_step, is_skip, is_skip_part, creation_shape_step, expr_shape_step, init_step, operand_shape_step, array_step, expr_shape, creation_shape, operand_shape, is_init, is_array}
 use Rattle.jc_parse_expr.proofs.PrimeClosed.{Closed, Inside, AllClosed, ended, joined, actuals_closed, all_given, all_closed, all_in_brackets, brackets_closed, commas_closed, each_closed, closed_along, inside_along, if_there_closed, in_brackets_closed, names_closed, nothing, nothing_inside, seq, seq_inside, token, token_inside, also_inside, in_parens, in_braces, no_brace}
-use Rattle.jc_grammar.specs.Expressions.{opening, inner}
 use Rattle.jc_tree.specs.declared.expression.Literal.{Literal}
 use Rattle.jc_tree.specs.declared.expression.Literal.TheVariants as literal_of
 use Rattle.jc_tree.specs.declared.expression.PrefixSign.{PrefixSign}
@@ -136,7 +132,7 @@ parts_inside [] g = nothing_inside
 parts_inside (z ∷ zs) g = let f = and_parts (is_skip_part z.0) (all_true (map is_skip_part (map (λ z. z.0) zs))) g in seq_inside (z.1 f.0) (parts_inside zs f.1)
 
 skip_layer : (y : Skip-F SomeSkipPart SomeSkip) → skip_step (map-Skip SkipPart Skip Bool Bool is_skip_part is_skip (plain_skip y)) ≡ true → Closed (skip_told (map-Skip SkipPart Skip Spelled Spelled skip_part_tokens skip_tokens (plain_skip y)))
-skip_layer y g = in_braces {each (map skip_part_tokens (map (λ z. z.0) y.parts))} (sign sign_of.LeftBrace) (sign sign_of.RightBrace) (parts_inside y.parts g) refl refl
+skip_layer y g = in_braces {f = each (map skip_part_tokens (map (λ z. z.0) y.parts))} (sign sign_of.LeftBrace) (sign sign_of.RightBrace) (parts_inside y.parts g) refl refl
 
 skip_rolled : (y : Skip-F SomeSkipPart SomeSkip) → SkipClosed (roll-Skip (plain_skip y))
 unfolding skip_part_tokens skip_tokens is_skip_part is_skip
@@ -241,7 +237,7 @@ expr_layer (Expr-F.Chain first (o ∷ rest)) g =
     let k = and_parts (stands (level + 1) (expr_shape first.0)) all f.0 in
     seq (at_level (level + 1) first k.0) (each_closed (all_operands level (o ∷ rest) k.1))
 expr_layer (Expr-F.Prefix first more operand) g = let f = and_parts (stands 13 (expr_shape operand.0)) (not (expr_shape operand.0).prefix) g in seq (prefix_closed (first ∷ more)) (at_level 13 operand f.0)
-expr_layer (Expr-F.Cast at ty operand) g = seq (in_parens {type_tokens ty} (sign_at sign_of.LeftParen at) (sign sign_of.RightParen) (type_closed ty) refl refl) (at_level _ operand g)
+expr_layer (Expr-F.Cast at ty operand) g = seq (in_parens {f = type_tokens ty} (sign_at sign_of.LeftParen at) (sign sign_of.RightParen) (type_closed ty) refl refl) (at_level _ operand g)
 expr_layer (Expr-F.Postfix of_it op) g = seq (at_level 14 of_it g) (postfix_closed op)
 expr_layer (Expr-F.Field of_it name) g = seq (at_level 15 of_it g) (seq (token (sign sign_of.Dot) (λ s. refl)) (token (ident name) (λ s. refl)))
 expr_layer (Expr-F.Call of_it type_args name args) g =
@@ -258,7 +254,7 @@ expr_layer (Expr-F.Literal at value) g = literal_closed value at
 expr_layer (Expr-F.This at) g = token (key_at key_of.This at) (λ s. refl)
 expr_layer (Expr-F.SuperField at name) g = seq (token (key_at key_of.Super at) (λ s. refl)) (seq (token (sign sign_of.Dot) (λ s. refl)) (token (ident name) (λ s. refl)))
 expr_layer (Expr-F.SuperCall at type_args name args) g = seq (token (key_at key_of.Super at) (λ s. refl)) (seq (token (sign sign_of.Dot) (λ s. refl)) (seq (args_closed type_args) (seq (token (ident name) (λ s. refl)) (actuals_closed (all_standing args g)))))
-expr_layer (Expr-F.Paren at inside) g = in_parens {expr_tokens inside.0} (sign_at sign_of.LeftParen at) (sign sign_of.RightParen) (at_level any_level inside g) refl refl
+expr_layer (Expr-F.Paren at inside) g = in_parens {f = expr_tokens inside.0} (sign_at sign_of.LeftParen at) (sign sign_of.RightParen) (at_level any_level inside g) refl refl
 expr_layer (Expr-F.Name name) g = token (ident name) (λ s. refl)
 expr_layer (Expr-F.Invoke name args) g = seq (token (ident name) (λ s. refl)) (actuals_closed (all_standing args g))
 expr_layer (Expr-F.New at creation) g = seq (token (key_at key_of.New at) (λ s. refl)) (creation.1 g)
@@ -276,7 +272,7 @@ operand_layer (Operand-F.InstanceOf ty) g = seq (token (key key_of.Instanceof) (
 
 array_layer : (y : ArrayInit-F SomeCreation SomeExpr SomeInit SomeOperand SomeArrayInit) → array_step (map-ArrayInit Creation Expr Init Operand ArrayInit CreationShape Shape Bool OperandShape Bool creation_shape expr_shape is_init operand_shape is_array (plain_array y)) ≡ true → Closed (array_told (map-ArrayInit Creation Expr Init Operand ArrayInit Spelled Spelled Spelled Spelled Spelled creation_tokens expr_tokens init_tokens operand_tokens array_tokens (plain_array y)))
 array_layer y g =
-    in_braces {λ r. commas (map init_tokens (map (λ z. z.0) y.inits)) (if_there y.trailing sign_of.Comma r)} (sign_at sign_of.LeftBrace y.at) (sign sign_of.RightBrace)
+    in_braces {f = λ r. commas (map init_tokens (map (λ z. z.0) y.inits)) (if_there y.trailing sign_of.Comma r)} (sign_at sign_of.LeftBrace y.at) (sign sign_of.RightBrace)
     (also_inside (seq (commas_closed (all_inits y.inits g)) (if_there_closed y.trailing sign_of.Comma (λ s. refl)))) refl refl
 
 creation_rolled : (y : Creation-F SomeCreation SomeExpr SomeInit SomeOperand SomeArrayInit) → CreationClosed (roll-Creation (plain_creation y))
