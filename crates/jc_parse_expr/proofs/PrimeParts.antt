@@ -43,6 +43,13 @@ shuffle_call n a m s g = grind (arith, common_steps)
 shuffle_field : (n s : Bool) → (n && (s && true)) ≡ (s && (n && true))
 shuffle_field n s = grind (arith, common_steps)
 
+abbrev pub select_layer : Expr-F Creation Expr Init Operand ArrayInit → Bool
+select_layer (Expr-F.Field of_it name) = true
+select_layer (Expr-F.Call of_it args name list) = true
+select_layer (Expr-F.Index of_it index) = true
+select_layer (Expr-F.InnerNew of_it creation) = true
+select_layer _ = false
+
 module _ (h : ℕ) (expr : Run Expr) (array : Run ArrayInit) (below : Below h expr array) where
   abbrev Fits : Selector → Bool
   Fits = (selector h expr array below).fits
@@ -146,13 +153,6 @@ module _ (h : ℕ) (expr : Run Expr) (array : Run ArrayInit) (below : Below h ex
 
   under : (e d : Expr) (n m : ℕ) → d ≡ e → expr_height d ≡ suc m → n ≤ m → suc n ≤ expr_height e
   under e d n m same t le = let k : expr_height e ≡ suc m = ap expr_height (sym same) ∙ t in omega (arith, k, le)
-
-  abbrev pub select_layer : Expr-F Creation Expr Init Operand ArrayInit → Bool
-  select_layer (Expr-F.Field of_it name) = true
-  select_layer (Expr-F.Call of_it args name list) = true
-  select_layer (Expr-F.Index of_it index) = true
-  select_layer (Expr-F.InnerNew of_it creation) = true
-  select_layer _ = false
 
   pub selects : (e : Expr) (l : Expr-F Creation Expr Init Operand ArrayInit) → out-Expr e ≡ l → select_layer l ≡ true → Selects e
   selects e (Expr-F.Field of_it name) q k =

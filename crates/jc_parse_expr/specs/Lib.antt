@@ -2,3 +2,4 @@ pub mod Growing
 pub mod LevelReading
 pub mod PrimeReading
 pub mod StartReading
+pub mod PostReading
