@@ -63,8 +63,8 @@ shuffle_sized b e m g s = grind (arith, common_steps)
 shuffle_object : (c a s d g k l : Bool) → (((c && a) && s) && (((d && g) && k) && l)) ≡ (c && (d && ((a && g) && (s && (k && l)))))
 shuffle_object true a s true g k l = ap (λ b. b) (shuffle_four a s g k l)
   where
-  shuffle_four : (a s g k l : Bool) → ((a && s) && ((g && k) && l)) ≡ ((a && g) && (s && (k && l)))
-  shuffle_four a s g k l = grind (arith, common_steps)
+    shuffle_four : (a s g k l : Bool) → ((a && s) && ((g && k) && l)) ≡ ((a && g) && (s && (k && l)))
+    shuffle_four a s g k l = grind (arith, common_steps)
 shuffle_object true a s false g k l = grind (arith, common_steps)
 shuffle_object false a s d g k l = refl
 
@@ -96,15 +96,16 @@ module _ (h : ℕ) (expr : Run Expr) (array : Run ArrayInit) (below : Below h ex
       (λ l. ⊎_elim (λ la. inl (lawful_room ((ℕ × PrimitiveWord) × ArrayTail) WordArray h l.0 (in_order_laws (ℕ × PrimitiveWord) ArrayTail Word ATail word_laws la refl))) (λ w. absurd (a_tail l.1.1 w)) (array_tail_law h expr array below))
       below
     where
-    -- at height 0 no array is made
-    no_tail : h ≡ 0 → Lawful ArrayTail (formed ATail) → ⊥
-    no_tail e la = ⊎_elim (λ v. no_value v.1.0 v.1.1 la.least.value (la.least.spelled []).1) (λ l. l.0 e) below
-      where
-      no_value : Void Expr (any_expr h expr) → Void ArrayInit (array_coded h array) → (t : ArrayTail) → ATail.fits t ≡ true → ⊥
-      no_value ve va (u, This p) g = false≢true (sym (va.never p.1.1) ∙ g)
-      no_value ve va (u, That p) g = false≢true (sym (and_left ((any_expr h expr).fits p.0) _ (ve.never p.0)) ∙ g)
-    a_tail : Lawful ArrayInit (formed (array_coded h array)) → Void ArrayTail ATail → ⊥
-    a_tail la w = false≢true (sym (w.never (tt, This (tt, (0, la.least.value)))) ∙ (la.least.spelled []).1)
+      -- at height 0 no array is made
+      no_tail : h ≡ 0 → Lawful ArrayTail (formed ATail) → ⊥
+      no_tail e la = ⊎_elim (λ v. no_value v.1.0 v.1.1 la.least.value (la.least.spelled []).1) (λ l. l.0 e) below
+        where
+          no_value : Void Expr (any_expr h expr) → Void ArrayInit (array_coded h array) → (t : ArrayTail) → ATail.fits t ≡ true → ⊥
+          no_value ve va (u, This p) g = false≢true (sym (va.never p.1.1) ∙ g)
+          no_value ve va (u, That p) g = false≢true (sym (and_left ((any_expr h expr).fits p.0) _ (ve.never p.0)) ∙ g)
+
+      a_tail : Lawful ArrayInit (formed (array_coded h array)) → Void ArrayTail ATail → ⊥
+      a_tail la w = false≢true (sym (w.never (tt, This (tt, (0, la.least.value)))) ∙ (la.least.spelled []).1)
 
   -- a class type, and what makes an object of it, or an array
   abbrev of_class : Form (ClassTree × ClassTail)
@@ -182,7 +183,7 @@ module _ (h : ℕ) (expr : Run Expr) (array : Run ArrayInit) (below : Below h ex
       ∙ ap (λ b. b && (is_expr p.0 && all_stand any_level (map expr_shape more))) (room_max (max (base_height el) (expr_height p.0)) (most (map expr_height more)) h ∙ ap (λ b. b && nat_le (most (map expr_height more)) h) (room_max (base_height el) (expr_height p.0) h))
       ∙ shuffle_sized (nat_le (base_height el) h) (nat_le (expr_height p.0) h) (nat_le (most (map expr_height more)) h) (is_expr p.0) (all_stand any_level (map expr_shape more))
       ∙ ap (λ b. nat_le (base_height el) h && ((any_expr h expr).fits p.0 && b))
-        (ap (λ b. nat_le (most (map expr_height more)) h && b) (all_standing more) ∙ room_and expr_height is_expr h more ∙ sym (fit_sizes p.1.1.0) ∙ sym (and-true (fits_all (λ (q : Unit {0} × (Expr × Unit {0})). true && ((any_expr h expr).fits q.1.0 && true)) p.1.1.0)))
+      (ap (λ b. nat_le (most (map expr_height more)) h && b) (all_standing more) ∙ room_and expr_height is_expr h more ∙ sym (fit_sizes p.1.1.0) ∙ sym (and-true (fits_all (λ (q : Unit {0} × (Expr × Unit {0})). true && ((any_expr h expr).fits q.1.0 && true)) p.1.1.0)))
 
   fit_class : (class : ClassTree) (t : ClassTail) → creation_fits (class_creation class t) ≡ (nat_le (class_height class) h && (class_tail h expr array below class).fits t)
   fit_class class (This t) = fit_array (base_of.Class class) t ∙ ap (λ n. nat_le n h && ATail.fits t) (base_height-Class class)
@@ -191,7 +192,7 @@ module _ (h : ℕ) (expr : Run Expr) (array : Run ArrayInit) (below : Below h ex
       let body : List Skip = p.1.1 in
       good_of (creation_of.Object class p.0 args body) _ _ (creation_height-Object class p.0 args body) (creation_shape-Object class p.0 args body)
       ∙ ap (λ b. b && ((((not p.0 || ends_bare class) && all_stand any_level (map expr_shape args)) && list_all is_skip body) && nat_le (length body) 1))
-        (room_max (max (class_height class) (most (map expr_height args))) (most (map skip_height body)) h ∙ ap (λ b. b && nat_le (most (map skip_height body)) h) (room_max (class_height class) (most (map expr_height args)) h))
+      (room_max (max (class_height class) (most (map expr_height args))) (most (map skip_height body)) h ∙ ap (λ b. b && nat_le (most (map skip_height body)) h) (room_max (class_height class) (most (map expr_height args)) h))
       ∙ shuffle_object (nat_le (class_height class) h) (nat_le (most (map expr_height args)) h) (nat_le (most (map skip_height body)) h) (not p.0 || ends_bare class) (all_stand any_level (map expr_shape args)) (list_all is_skip body) (nat_le (length body) 1)
       ∙ ap (λ b. nat_le (class_height class) h && b) (sym (fits_object h expr array below (ends_bare class) p))
 
@@ -240,15 +241,16 @@ module _ (h : ℕ) (expr : Run Expr) (array : Run ArrayInit) (below : Below h ex
       ⊎_elim
       (λ v. absurd (false≢true (sym (v.1.1.never p.1.1) ∙ s.1)))
       (λ l.
-        let li = initial_laws h expr array below l.1.1 in
-        let lb = one_or_laws Initial Lengths (sign_code sign_of.RightBracket ∷ []) (initial h expr array below) (lengths h expr array below) li (lengths_laws h expr array below l.1.0) (record { solid = refl; solid' = refl; this = refl; that = refl }) in
-        let c = cut (Unit {0}) (Either Initial Lengths) (formed (sign_form sign_of.LeftBracket)) (formed Brackets) (sign_laws sign_of.LeftBracket) lb (λ ts e. refl) m (u, This p) r s in
-        let first = (sign_laws sign_of.LeftBracket).exact m u c.0 c.1 refl in
-        let second = found_this (sign_code sign_of.RightBracket ∷ []) (initial h expr array below).run (lengths h expr array below).run c.0 p r
-          (⊎_elim (λ o. o.0) (λ o. absurd (false≢true o.1)) (li.opens c.0 p r c.2)) (li.exact c.0 p r c.2 refl) in
-        let whole = found_bind u c.0 (u, This p) r ((sign_form sign_of.LeftBracket).run m) (λ a q. becoming (joined a) (Brackets.run q)) first (found_becoming (joined u) (This p) r (Brackets.run c.0) second) in
-        (⊎_elim (λ o. o.0) (λ o. absurd (false≢true o.1)) ((sign_laws sign_of.LeftBracket).opens m u c.0 c.1),
-        subst (λ (w : Read ArrayTail). IsFound (u, This p) r w) (room_same h (brackets_coded h expr array below).run l.0 m) whole))
+      let li = initial_laws h expr array below l.1.1 in
+      let lb = one_or_laws Initial Lengths (sign_code sign_of.RightBracket ∷ []) (initial h expr array below) (lengths h expr array below) li (lengths_laws h expr array below l.1.0) (record { solid = refl; solid' = refl; this = refl; that = refl }) in
+      let c = cut (Unit {0}) (Either Initial Lengths) (formed (sign_form sign_of.LeftBracket)) (formed Brackets) (sign_laws sign_of.LeftBracket) lb (λ ts e. refl) m (u, This p) r s in
+      let first = (sign_laws sign_of.LeftBracket).exact m u c.0 c.1 refl in
+      let second = found_this (sign_code sign_of.RightBracket ∷ []) (initial h expr array below).run (lengths h expr array below).run c.0 p r
+      (⊎_elim (λ o. o.0) (λ o. absurd (false≢true o.1)) (li.opens c.0 p r c.2)) (li.exact c.0 p r c.2 refl) in
+      let whole = found_bind u c.0 (u, This p) r ((sign_form sign_of.LeftBracket).run m) (λ a q. becoming (joined a) (Brackets.run q)) first (found_becoming (joined u) (This p) r (Brackets.run c.0) second) in (
+        ⊎_elim (λ o. o.0) (λ o. absurd (false≢true o.1)) ((sign_laws sign_of.LeftBracket).opens m u c.0 c.1),
+        subst (λ (w : Read ArrayTail). IsFound (u, This p) r w) (room_same h (brackets_coded h expr array below).run l.0 m) whole,
+      ))
       below
 
   abbrev Sized_tail : ArrayTail → Bool
@@ -279,11 +281,12 @@ module _ (h : ℕ) (expr : Run Expr) (array : Run ArrayInit) (below : Below h ex
       (λ v. absurd (false≢true (sym (v.1.1.never p.1.1) ∙ s.1)))
       (λ l. ⊎_elim
       (λ la.
-        let c = cut (ℕ × PrimitiveWord) ArrayTail (formed Word) (formed ATail) word_laws la (λ ts e. refl) ts (w, (u, This p)) r s in
-        let e = array_exact c.0 u p r c.2 in
-        let whole = found_bind w c.0 (w, (u, This p)) r (Word.run ts) (λ a q. becoming (joined a) (ATail.run q)) (word_laws.exact ts w c.0 c.1 refl) (found_becoming (joined w) (u, This p) r (ATail.run c.0) e.1) in
-        (⊎_elim (λ o. o.0) (λ o. absurd (false≢true o.1)) (word_laws.opens ts w c.0 c.1),
-        subst (λ (v : Read ((ℕ × PrimitiveWord) × ArrayTail)). IsFound (w, (u, This p)) r v) (room_same h WordArray.run l.0 ts) whole))
+      let c = cut (ℕ × PrimitiveWord) ArrayTail (formed Word) (formed ATail) word_laws la (λ ts e. refl) ts (w, (u, This p)) r s in
+      let e = array_exact c.0 u p r c.2 in
+      let whole = found_bind w c.0 (w, (u, This p)) r (Word.run ts) (λ a q. becoming (joined a) (ATail.run q)) (word_laws.exact ts w c.0 c.1 refl) (found_becoming (joined w) (u, This p) r (ATail.run c.0) e.1) in (
+        ⊎_elim (λ o. o.0) (λ o. absurd (false≢true o.1)) (word_laws.opens ts w c.0 c.1),
+        subst (λ (v : Read ((ℕ × PrimitiveWord) × ArrayTail)). IsFound (w, (u, This p)) r v) (room_same h WordArray.run l.0 ts) whole,
+      ))
       (λ v. absurd (false≢true (sym (v.never (u, This p)) ∙ s.1))) (array_tail_law h expr array below))
       below
 

@@ -283,7 +283,9 @@ module _ (h : ℕ) (expr : Run Expr) (array : Run ArrayInit) (below : Below h ex
   object_form_laws false =
       alike_laws (List Expr × List Skip) ObjectTail (formed object_coded) no_diamond object_tell (object_fits false) object_starts (one_of (sign_code sign_of.LeftBrace ∷ [])) object_laws
       (record {
-        told = λ p r g. refl; forth = λ p g. g; back = back_plain;
+        told = λ p r g. refl;
+        forth = λ p g. g;
+        back = back_plain;
         starts_too = λ ts e. or_right (less_greater ts) (one_of (sign_code sign_of.LeftParen ∷ []) ts) e;
         goes_too = λ ts e. e;
       })
@@ -340,11 +342,11 @@ module _ (h : ℕ) (expr : Run Expr) (array : Run ArrayInit) (below : Below h ex
       ⊎_elim (λ t. neither (apart_sets (sign_code sign_of.LeftBracket ∷ []) (sign_code sign_of.Less ∷ []) refl (front_code ts) t) (apart_sets (sign_code sign_of.LeftBracket ∷ []) (sign_code sign_of.Dot ∷ []) refl (front_code ts) t))
       (λ t. ⊎_elim
       (λ d. let p = and_parts (one_of (sign_code sign_of.Less ∷ []) ts) (one_of (sign_code sign_of.Greater ∷ []) (rest_of ts)) d in
-        or_from _ _ (and_right (one_of (sign_code sign_of.Less ∷ []) ts) (one_of arg_codes (rest_of ts)) (apart_sets (sign_code sign_of.Greater ∷ []) arg_codes refl (front_code (rest_of ts)) p.1))
-        (and_left (one_of (sign_code sign_of.Dot ∷ []) ts) _ (apart_sets (sign_code sign_of.Less ∷ []) (sign_code sign_of.Dot ∷ []) refl (front_code ts) p.0)))
+      or_from _ _ (and_right (one_of (sign_code sign_of.Less ∷ []) ts) (one_of arg_codes (rest_of ts)) (apart_sets (sign_code sign_of.Greater ∷ []) arg_codes refl (front_code (rest_of ts)) p.1))
+      (and_left (one_of (sign_code sign_of.Dot ∷ []) ts) _ (apart_sets (sign_code sign_of.Less ∷ []) (sign_code sign_of.Dot ∷ []) refl (front_code ts) p.0)))
       (λ d. neither (apart_sets (sign_code sign_of.LeftParen ∷ []) (sign_code sign_of.Less ∷ []) refl (front_code ts) d) (apart_sets (sign_code sign_of.LeftParen ∷ []) (sign_code sign_of.Dot ∷ []) refl (front_code ts) d))
       (or_cases (less_greater ts) (one_of (sign_code sign_of.LeftParen ∷ []) ts) t))
       (or_cases (one_of (sign_code sign_of.LeftBracket ∷ []) ts) (object_starts ts) e)
     where
-    neither : one_of (sign_code sign_of.Less ∷ []) ts ≡ false → one_of (sign_code sign_of.Dot ∷ []) ts ≡ false → goes_on_class ts ≡ false
-    neither l d = or_from _ _ (and_left (one_of (sign_code sign_of.Less ∷ []) ts) _ l) (and_left (one_of (sign_code sign_of.Dot ∷ []) ts) _ d)
+      neither : one_of (sign_code sign_of.Less ∷ []) ts ≡ false → one_of (sign_code sign_of.Dot ∷ []) ts ≡ false → goes_on_class ts ≡ false
+      neither l d = or_from _ _ (and_left (one_of (sign_code sign_of.Less ∷ []) ts) _ l) (and_left (one_of (sign_code sign_of.Dot ∷ []) ts) _ d)

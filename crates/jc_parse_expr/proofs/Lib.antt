@@ -19,3 +19,4 @@ pub mod PrimeClosed
 pub mod PrimeClosedTypes
 pub mod PrimeClosedTrees
 pub mod PrimeFacts
+pub mod PrimeLeft

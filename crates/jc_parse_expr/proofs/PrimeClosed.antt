@@ -86,9 +86,9 @@ nothing = record { at = λ s r b ts q t. record { mid = ts; flag = b; rest = t; 
 pub seq : {f g : Spelled} → Closed f → Closed g → Closed (λ r. f (g r))
 seq {f} {g} first second = record {
   at = λ s r b ts q t.
-    let p = first.at s (g r) b ts q t in
-    let n = second.at s r p.flag p.mid q p.rest in
-    record { mid = n.mid; flag = n.flag; rest = n.rest; same = p.same ∙ n.same };
+      let p = first.at s (g r) b ts q t in
+      let n = second.at s r p.flag p.mid q p.rest in
+      record { mid = n.mid; flag = n.flag; rest = n.rest; same = p.same ∙ n.same };
 }
 
 pub nothing_inside : Inside (λ r. r)
@@ -97,9 +97,9 @@ nothing_inside = record { at = λ d c r b ts q t. record { mid = ts; flag = b; r
 pub seq_inside : {f g : Spelled} → Inside f → Inside g → Inside (λ r. f (g r))
 seq_inside {f} {g} first second = record {
   at = λ d c r b ts q t.
-    let p = first.at d c (g r) b ts q t in
-    let n = second.at d c r p.flag p.mid q p.rest in
-    record { mid = n.mid; flag = n.flag; rest = n.rest; same = p.same ∙ n.same };
+      let p = first.at d c (g r) b ts q t in
+      let n = second.at d c r p.flag p.mid q p.rest in
+      record { mid = n.mid; flag = n.flag; rest = n.rest; same = p.same ∙ n.same };
 }
 
 pub one_passes : (d : Told) (s n : Open) (r : List Told) (b : Bool) (ts q : List Token) → kind_step d.kind s ≡ On n → Takes b (d ∷ r) ts q → Passes s n r ts q
@@ -127,9 +127,9 @@ round f d e s n r b ts q x y go t =
 pub in_parens : {f : Spelled} (d e : Told) → Closed f → d.kind ≡ kind_of.Sign sign_of.LeftParen → e.kind ≡ kind_of.Sign sign_of.RightParen → Closed (λ r. d ∷ f (e ∷ r))
 in_parens {f} d e c x y = record { at = around }
   where
-  around : (s : Open) (r : List Told) (b : Bool) (ts q : List Token) → Takes b (d ∷ f (e ∷ r)) ts q → Passes s s r ts q
-  around (a, zero) r b ts q t = round f d e (a, zero) (suc a, zero) r b ts q (ap (λ (k : TokenKind). kind_step k (a, zero)) x) (ap (λ (k : TokenKind). kind_step k (suc a, zero)) y) (λ g us w. c.at (suc a, zero) (e ∷ r) g us q w) t
-  around (a, suc m) r b ts q t = round f d e (a, suc m) (a, suc m) r b ts q (ap (λ (k : TokenKind). kind_step k (a, suc m)) x) (ap (λ (k : TokenKind). kind_step k (a, suc m)) y) (λ g us w. c.at (a, suc m) (e ∷ r) g us q w) t
+    around : (s : Open) (r : List Told) (b : Bool) (ts q : List Token) → Takes b (d ∷ f (e ∷ r)) ts q → Passes s s r ts q
+    around (a, zero) r b ts q t = round f d e (a, zero) (suc a, zero) r b ts q (ap (λ (k : TokenKind). kind_step k (a, zero)) x) (ap (λ (k : TokenKind). kind_step k (suc a, zero)) y) (λ g us w. c.at (suc a, zero) (e ∷ r) g us q w) t
+    around (a, suc m) r b ts q t = round f d e (a, suc m) (a, suc m) r b ts q (ap (λ (k : TokenKind). kind_step k (a, suc m)) x) (ap (λ (k : TokenKind). kind_step k (a, suc m)) y) (λ g us w. c.at (a, suc m) (e ∷ r) g us q w) t
 
 pub in_braces : {f : Spelled} (d e : Told) → Inside f → d.kind ≡ kind_of.Sign sign_of.LeftBrace → e.kind ≡ kind_of.Sign sign_of.RightBrace → Closed (λ r. d ∷ f (e ∷ r))
 in_braces {f} d e c x y = record {

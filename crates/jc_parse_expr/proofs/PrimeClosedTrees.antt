@@ -69,13 +69,13 @@ binary_closed binary_of.ShiftRightZero = seq (token (opening true) (λ s. refl))
 prefix_one : (op : PrefixOp) → Closed (λ r. sign_at (prefix_sign op.sign) op.at ∷ r)
 prefix_one op = of_sign op.sign op.at
   where
-  of_sign : (s : PrefixSign) (at : ℕ) → Closed (λ r. sign_at (prefix_sign s) at ∷ r)
-  of_sign prefix_of.Plus at = token (sign_at sign_of.Plus at) (λ s. refl)
-  of_sign prefix_of.Minus at = token (sign_at sign_of.Minus at) (λ s. refl)
-  of_sign prefix_of.Increment at = token (sign_at sign_of.Increment at) (λ s. refl)
-  of_sign prefix_of.Decrement at = token (sign_at sign_of.Decrement at) (λ s. refl)
-  of_sign prefix_of.Not at = token (sign_at sign_of.Not at) (λ s. refl)
-  of_sign prefix_of.Complement at = token (sign_at sign_of.Tilde at) (λ s. refl)
+    of_sign : (s : PrefixSign) (at : ℕ) → Closed (λ r. sign_at (prefix_sign s) at ∷ r)
+    of_sign prefix_of.Plus at = token (sign_at sign_of.Plus at) (λ s. refl)
+    of_sign prefix_of.Minus at = token (sign_at sign_of.Minus at) (λ s. refl)
+    of_sign prefix_of.Increment at = token (sign_at sign_of.Increment at) (λ s. refl)
+    of_sign prefix_of.Decrement at = token (sign_at sign_of.Decrement at) (λ s. refl)
+    of_sign prefix_of.Not at = token (sign_at sign_of.Not at) (λ s. refl)
+    of_sign prefix_of.Complement at = token (sign_at sign_of.Tilde at) (λ s. refl)
 
 prefix_closed : (ops : List PrefixOp) → Closed (prefix_tokens ops)
 prefix_closed [] = nothing

@@ -67,13 +67,15 @@ other_first r told d b t us q e f s = absurd (false≢true (sym f ∙ ap (λ (k 
 -- more behind one that is shut
 more_behind : (r : List Told) (d : Told) (us q : List Token) → is_in more_codes (kind_code d.kind) ≡ true → Shut (d ∷ r) us q → (w : List Told) → Shut w us q
 more_behind r d us q e s w = record {
-  rest = s.rest; flag = s.flag; same = s.same;
+  rest = s.rest;
+  flag = s.flag;
+  same = s.same;
   which = inr (⊎_elim (λ t. first s.rest t) (λ o. o) s.which);
 }
   where
-  first : (m : List Token) → Takes s.flag (d ∷ r) m q → one_of more_codes m ≡ true
-  first [] t = absurd t
-  first (k ∷ m) t = subst (λ (j : TokenKind). is_in more_codes (kind_code j) ≡ true) (sym t.0.0) e
+    first : (m : List Token) → Takes s.flag (d ∷ r) m q → one_of more_codes m ≡ true
+    first [] t = absurd t
+    first (k ∷ m) t = subst (λ (j : TokenKind). is_in more_codes (kind_code j) ≡ true) (sym t.0.0) e
 
 -- a type is no parenthesis
 
@@ -113,9 +115,9 @@ paren_shut at inner g r b t us q s =
     let p = (expr_closed inner g).at none_open (sign sign_of.RightParen ∷ r) _ us q s.1 in
     ends p.mid p.flag p.rest p.same
   where
-  ends : (mid : List Token) (flag : Bool) → Takes flag (sign sign_of.RightParen ∷ r) mid q → after_close us none_open ≡ after_close mid none_open → Shut r us q
-  ends [] flag m e = absurd m
-  ends (k ∷ mid) flag m e = record { rest = mid; flag = _; same = e ∙ closes_at k mid (kind_of.Sign sign_of.RightParen) none_open m.0.0 refl; which = inl m.1 }
+    ends : (mid : List Token) (flag : Bool) → Takes flag (sign sign_of.RightParen ∷ r) mid q → after_close us none_open ≡ after_close mid none_open → Shut r us q
+    ends [] flag m e = absurd m
+    ends (k ∷ mid) flag m e = record { rest = mid; flag = _; same = e ∙ closes_at k mid (kind_of.Sign sign_of.RightParen) none_open m.0.0 refl; which = inl m.1 }
 
 op_more : (op : PostfixOp) → is_in more_codes (sign_code (postfix_sign op)) ≡ true
 op_more postfix_of.Increment = refl

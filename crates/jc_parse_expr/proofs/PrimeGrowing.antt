@@ -17,7 +17,9 @@ module _ (V P : Type 0) (make : V → P → V) (tell : P → List Told → List 
     tell = λ g r. fv.tell g.0 (tell_all tell g.1 r);
     fits = λ g. fv.fits g.0 && fits_from V P make tell fits run starts ends g.0 g.1;
     run = growing fv.run make run;
-    starts = fv.starts; goes_on = ends; empties = false;
+    starts = fv.starts;
+    goes_on = ends;
+    empties = false;
   }
 
   pub record Growing : Type 0 where
@@ -128,7 +130,13 @@ module _ (V P : Type 0) (make : V → P → V) (tell : P → List Told → List 
 
   pub growing_laws : Lawful (V × List P) Whole
   growing_laws = record {
-    appends = appends_whole; plain = plain_whole; within = within_whole; sound = sound_whole; longest = longest_whole; exact = exact_whole; opens = opens_whole;
+    appends = appends_whole;
+    plain = plain_whole;
+    within = within_whole;
+    sound = sound_whole;
+    longest = longest_whole;
+    exact = exact_whole;
+    opens = opens_whole;
     refuses = λ ts g. refuses_on ts (fv.run ts) (h.lawful.refuses ts g);
     total = λ e ts. absurd (false≢true e);
     local = λ p x y. moves_bind x y p (fv.run (p ++ x)) (fv.run (p ++ y)) After After (h.lawful.within (p ++ x)) (h.lawful.local p x y) (λ v q l. moves_becoming x y (joined v) ((Parts v).run (q ++ x)) ((Parts v).run (q ++ y)) ((lp v).local q x y));

@@ -84,7 +84,7 @@ module _ (h : ℕ) (expr : Run Expr) (array : Run ArrayInit) (below : Below h ex
   fit_selected v (That (u, That (This ((w, (a ∷ args, x)), p)))) g =
       fits_at h (expr_of.Call v (a ∷ args) p.0 p.1) _ _ (expr_height-Call v (a ∷ args) p.0 p.1) (expr_shape-Call v (a ∷ args) p.0 p.1)
       ∙ ap (λ b. b && ((stands prime_level (expr_shape v) && all_stand any_level (map expr_shape p.1)) && true))
-        (room_max (max (expr_height v) (most (map arg_height (a ∷ args)))) (most (map expr_height p.1)) h ∙ ap (λ b. b && nat_le (most (map expr_height p.1)) h) (room_max (expr_height v) (most (map arg_height (a ∷ args))) h))
+      (room_max (max (expr_height v) (most (map arg_height (a ∷ args)))) (most (map expr_height p.1)) h ∙ ap (λ b. b && nat_le (most (map expr_height p.1)) h) (room_max (expr_height v) (most (map arg_height (a ∷ args))) h))
       ∙ shuffle_call (nat_le (expr_height v) h) (nat_le (most (map arg_height (a ∷ args))) h) (nat_le (most (map expr_height p.1)) h) (stands prime_level (expr_shape v)) (all_stand any_level (map expr_shape p.1))
       ∙ ap (λ b. stands prime_level (expr_shape v) && (nat_le (expr_height v) h && ((b && true) && (nat_le (most (map expr_height p.1)) h && all_stand any_level (map expr_shape p.1))))) (room_all arg_height h (a ∷ args))
   fit_selected v (That (u, That (That (name, None)))) g =
@@ -92,7 +92,7 @@ module _ (h : ℕ) (expr : Run Expr) (array : Run ArrayInit) (below : Below h ex
   fit_selected v (That (u, That (That (name, Some list)))) g =
       fits_at h (expr_of.Call v [] name list) _ _ (expr_height-Call v [] name list) (expr_shape-Call v [] name list)
       ∙ ap (λ b. b && ((stands prime_level (expr_shape v) && all_stand any_level (map expr_shape list)) && true))
-        (room_max (max (expr_height v) 0) (most (map expr_height list)) h ∙ ap (λ b. b && nat_le (most (map expr_height list)) h) (room_max (expr_height v) 0 h ∙ ap (λ b. nat_le (expr_height v) h && b) (room_above h)))
+      (room_max (max (expr_height v) 0) (most (map expr_height list)) h ∙ ap (λ b. b && nat_le (most (map expr_height list)) h) (room_max (expr_height v) 0 h ∙ ap (λ b. nat_le (expr_height v) h && b) (room_above h)))
       ∙ shuffle_call (nat_le (expr_height v) h) true (nat_le (most (map expr_height list)) h) (stands prime_level (expr_shape v)) (all_stand any_level (map expr_shape list))
 
   fits_proper : (v : Expr) (p : Selector) → sel_fits h expr array below v p ≡ true → proper p ≡ true

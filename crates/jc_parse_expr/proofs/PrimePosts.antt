@@ -210,14 +210,14 @@ module _ (h : ℕ) (expr : Run Expr) (array : Run ArrayInit) (below : Below h ex
       ⊎_elim
       (λ k. record { start = e; list = acc; same = refl; fits = and_from (nat_le (expr_height e) (suc h)) (stands prime_level (expr_shape e)) p.0 k; rest = g })
       (λ k.
-        let c = changes e (out-Expr e) refl k in
-        let w = and_parts (nat_le (expr_height c.of_it) h) (stands post_level (expr_shape c.of_it)) (sym (fits_changed c.of_it c.op) ∙ ap post_fits c.same ∙ f) in
-        let le1 : expr_height c.of_it ≤ h = leb-true (expr_height c.of_it) h w.0 in
-        let k1 : expr_height e ≡ suc (expr_height c.of_it) = ap expr_height (sym c.same) ∙ expr_height-Postfix c.of_it c.op in
-        let fit = and_from (nat_le (expr_height c.of_it) (suc h)) (stands post_level (expr_shape c.of_it)) (le-leb (expr_height c.of_it) (suc h) (omega (arith, le1))) w.1 in
-        let t = and_from (Fits c.of_it c.op) (From (changed c.of_it c.op) acc) (fits_room (nat_le (expr_height c.of_it) h) c.op ∙ w.0) (subst (λ (d : Expr). From d acc ≡ true) (sym c.same) g) in
-        let u = unwind n c.of_it (c.op ∷ acc) (omega (arith, k1, le)) fit t in
-        record { start = u.start; list = u.list; same = u.same ∙ ap (λ (d : Expr). grown changed d acc) c.same; fits = u.fits; rest = u.rest })
+      let c = changes e (out-Expr e) refl k in
+      let w = and_parts (nat_le (expr_height c.of_it) h) (stands post_level (expr_shape c.of_it)) (sym (fits_changed c.of_it c.op) ∙ ap post_fits c.same ∙ f) in
+      let le1 : expr_height c.of_it ≤ h = leb-true (expr_height c.of_it) h w.0 in
+      let k1 : expr_height e ≡ suc (expr_height c.of_it) = ap expr_height (sym c.same) ∙ expr_height-Postfix c.of_it c.op in
+      let fit = and_from (nat_le (expr_height c.of_it) (suc h)) (stands post_level (expr_shape c.of_it)) (le-leb (expr_height c.of_it) (suc h) (omega (arith, le1))) w.1 in
+      let t = and_from (Fits c.of_it c.op) (From (changed c.of_it c.op) acc) (fits_room (nat_le (expr_height c.of_it) h) c.op ∙ w.0) (subst (λ (d : Expr). From d acc ≡ true) (sym c.same) g) in
+      let u = unwind n c.of_it (c.op ∷ acc) (omega (arith, k1, le)) fit t in
+      record { start = u.start; list = u.list; same = u.same ∙ ap (λ (d : Expr). grown changed d acc) c.same; fits = u.fits; rest = u.rest })
       (prime_of_kind e p.1)
 
   -- a primary with postfix operators
@@ -232,5 +232,5 @@ module _ (h : ℕ) (expr : Run Expr) (array : Run ArrayInit) (below : Below h ex
         told = λ g r e. told_changed g.0 g.1 r;
         forth = λ g e. let f = and_parts (prime_fits h g.0) (From g.0 g.1) e in fits_grown g.0 g.1 (prime_post g.0 f.0) f.1;
         back = λ e g. let u = unwind (expr_height e) e [] (omega arith) g refl in
-          ((u.start, u.list), u.same, and_from (prime_fits h u.start) (From u.start u.list) u.fits u.rest);
+            ((u.start, u.list), u.same, and_from (prime_fits h u.start) (From u.start u.list) u.fits u.rest);
       })

@@ -100,13 +100,14 @@ module _ (h : ℕ) (expr : Run Expr) (array : Run ArrayInit) (below : Below h ex
   -- behind a point stands what it says
   dot_rest : (ts : List Token) (u : Unit {0}) (o : Either (Unit {0} × Creation) Member) (r : List Token) → Stands (formed Sel) ts (u, o) r → (one_of dot_codes ts ≡ true) × Stands (formed (behind_dot h expr array below)) (rest_of ts) o r
   dot_rest ts u o r s =
-      let w = cut (Unit {0}) (Either (Unit {0} × Creation) Member) (formed (sign_form sign_of.Dot)) (formed (behind_dot h expr array below)) (sign_laws sign_of.Dot) (behind_dot_laws h expr array below) (λ us q. refl) ts (u, o) r s in
-      (⊎_elim (λ e. e.0) (λ e. absurd (false≢true e.1)) ((sign_laws sign_of.Dot).opens ts u w.0 w.1),
-      subst (λ (l : List Token). Stands (formed (behind_dot h expr array below)) l o r) (rest_is ts w.0 w.1) w.2)
+      let w = cut (Unit {0}) (Either (Unit {0} × Creation) Member) (formed (sign_form sign_of.Dot)) (formed (behind_dot h expr array below)) (sign_laws sign_of.Dot) (behind_dot_laws h expr array below) (λ us q. refl) ts (u, o) r s in (
+        ⊎_elim (λ e. e.0) (λ e. absurd (false≢true e.1)) ((sign_laws sign_of.Dot).opens ts u w.0 w.1),
+        subst (λ (l : List Token). Stands (formed (behind_dot h expr array below)) l o r) (rest_is ts w.0 w.1) w.2,
+      )
     where
-    rest_is : (ts m : List Token) → Stands (a_sign sign_of.Dot) ts u m → m ≡ rest_of ts
-    rest_is [] m t = absurd t.0
-    rest_is (k ∷ ts) m t = sym t.0.1
+      rest_is : (ts m : List Token) → Stands (a_sign sign_of.Dot) ts u m → m ≡ rest_of ts
+      rest_is [] m t = absurd t.0
+      rest_is (k ∷ ts) m t = sym t.0.1
 
   -- what fits as a part is a selector
   as_selector : (room sized : Bool) (ts : List Token) (p : Selector) (r : List Token) → Stands (part_form h expr array below room sized) ts p r → Stands (formed (one_or bracket (indexed h expr array below) Sel)) ts p r
@@ -137,9 +138,9 @@ module _ (h : ℕ) (expr : Run Expr) (array : Run ArrayInit) (below : Below h ex
       let w = cut Ident (Option (List Expr)) (formed ident_form) (formed (optional (Actuals h expr array below))) ident_laws (optional_laws (List Expr) (Actuals h expr array below) (la h expr array below) refl) (λ us q. refl) ts (name, o) r s in
       subst (λ (l : List Token). Stands (formed (optional (Actuals h expr array below))) l o r) (rest_is ts w.0 w.1) w.2
     where
-    rest_is : (ts m : List Token) → Stands an_ident ts name m → m ≡ rest_of ts
-    rest_is [] m t = absurd t.0
-    rest_is (k ∷ ts) m t = sym t.0.1
+      rest_is : (ts m : List Token) → Stands an_ident ts name m → m ≡ rest_of ts
+      rest_is [] m t = absurd t.0
+      rest_is (k ∷ ts) m t = sym t.0.1
 
   actuals_front : (ts : List Token) (list : List Expr) (r : List Token) → Stands (formed (optional (Actuals h expr array below))) ts (Some list) r → one_of (sign_code sign_of.LeftParen ∷ []) ts ≡ true
   actuals_front ts list r s = ⊎_elim (λ e. e.0) (λ e. absurd (false≢true e.1)) ((la h expr array below).opens ts list r s)
@@ -150,9 +151,10 @@ module _ (h : ℕ) (expr : Run Expr) (array : Run ArrayInit) (below : Below h ex
 
   walk : (more : List Ident) (b : Bool) (t : SpecialTail) (ts m : List Token) (v : Expr) (list : List Selector) (r : List Token) → Takes b (names_after more (tail_tell t [])) ts m → Stands (Parts v) ts list r → On m r
   unfolding On
-  walk more b t ts m v [] r s k =
-      (subst (λ (l : List Token). length m ≤ length l) k.0 (omega (arith, takes_length b (names_after more (tail_tell t [])) ts m s)),
-      subst (λ (l : List Token). one_of prime_goes l ≡ true) k.0 (within_sets selector_codes prime_goes refl (front_code ts) (front_names b more t ts m s)))
+  walk more b t ts m v [] r s k = (
+    subst (λ (l : List Token). length m ≤ length l) k.0 (omega (arith, takes_length b (names_after more (tail_tell t [])) ts m s)),
+    subst (λ (l : List Token). one_of prime_goes l ≡ true) k.0 (within_sets selector_codes prime_goes refl (front_code ts) (front_names b more t ts m s)),
+  )
   walk [] b t ts m v (p ∷ list) r s k =
       let c = cut_part Expr Selector selected (Sel_tell h expr array below) (sel_fits h expr array below) (selectors_run h expr array) (sel_starts h expr array below) (one_of prime_goes) (selecting h expr array below) v ts p list r k in
       absurd (no_part b t ts m p c.0 s (of_part v ts p c.0 c.1))
@@ -208,22 +210,25 @@ module _ (h : ℕ) (expr : Run Expr) (array : Run ArrayInit) (below : Below h ex
   longer_special ts (This w) m a e list n r s k l =
       ⊎_elim
       (λ (lw : Lawful _ (formed (word_class h))). clash primitive_codes (Plains h expr array below).starts ts refl (⊎_elim (λ o. o.0) (λ o. absurd (false≢true o.1)) (lw.opens ts w m s))
-        (⊎_elim (λ o. o.0) (λ o. absurd (false≢true o.1)) ((plains_laws h expr array below).opens ts a n k)))
+      (⊎_elim (λ o. o.0) (λ o. absurd (false≢true o.1)) ((plains_laws h expr array below).opens ts a n k)))
       (λ v. absurd (false≢true (sym (v.never w) ∙ s.1))) (word_class_law h)
   longer_special ts (That (first, (more, t))) m a e list n r s k l = longer_names ts first more t m a e list n r s k l
 
   pub prefer_special : Prefer (Expr × List Selector) (Expr × List Selector) prime_goes (special_grown h expr array below) (plain_grown h expr array below)
   unfolding On
   prefer_special = record {
-    solid = refl; solid' = refl; goes_first = λ r e. e; goes_second = λ r e. e;
+    solid = refl;
+    solid' = refl;
+    goes_first = λ r e. e;
+    goes_second = λ r e. e;
     longer = longer;
   }
     where
-    longer : (ts : List Token) (a : Expr × List Selector) (q : List Token) (b : Expr × List Selector) (r : List Token) → Stands (formed (special_grown h expr array below)) ts a q → Stands (formed (plain_grown h expr array below)) ts b r → (length q ≤ length r) × (one_of prime_goes r ≡ true)
-    longer ts a q b r s k =
-        let c = cut_first Expr Selector selected (Sel_tell h expr array below) (sel_fits h expr array below) (selectors_run h expr array) (sel_starts h expr array below) (one_of prime_goes) (formed (Special_first h expr array below)) (special_growing h expr array below) ts a q s in
-        let d = cut_first Expr Selector selected (Sel_tell h expr array below) (sel_fits h expr array below) (selectors_run h expr array) (sel_starts h expr array below) (one_of prime_goes) (formed (Plain_first h expr array below)) (plain_growing h expr array below) ts b r k in
-        let x = special_of h ts a.0 c.0 c.1 in
-        let y = plain_of h expr array below ts b.0 d.0 d.1 in
-        let o = longer_special ts x.0 c.0 y.0 b.0 b.1 d.0 r x.2 y.2 d.2 in
-        (omega (arith, o.0, takes_length false ((Parts a.0).tell a.1 []) c.0 q c.2.0), o.1)
+      longer : (ts : List Token) (a : Expr × List Selector) (q : List Token) (b : Expr × List Selector) (r : List Token) → Stands (formed (special_grown h expr array below)) ts a q → Stands (formed (plain_grown h expr array below)) ts b r → (length q ≤ length r) × (one_of prime_goes r ≡ true)
+      longer ts a q b r s k =
+          let c = cut_first Expr Selector selected (Sel_tell h expr array below) (sel_fits h expr array below) (selectors_run h expr array) (sel_starts h expr array below) (one_of prime_goes) (formed (Special_first h expr array below)) (special_growing h expr array below) ts a q s in
+          let d = cut_first Expr Selector selected (Sel_tell h expr array below) (sel_fits h expr array below) (selectors_run h expr array) (sel_starts h expr array below) (one_of prime_goes) (formed (Plain_first h expr array below)) (plain_growing h expr array below) ts b r k in
+          let x = special_of h ts a.0 c.0 c.1 in
+          let y = plain_of h expr array below ts b.0 d.0 d.1 in
+          let o = longer_special ts x.0 c.0 y.0 b.0 b.1 d.0 r x.2 y.2 d.2 in
+          (omega (arith, o.0, takes_length false ((Parts a.0).tell a.1 []) c.0 q c.2.0), o.1)

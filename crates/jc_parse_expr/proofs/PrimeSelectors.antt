@@ -251,8 +251,8 @@ module _ (h : ℕ) (expr : Run Expr) (array : Run ArrayInit) (below : Below h ex
     steady = λ v. part_steady (nat_le (expr_height v) h) (expr_shape v).sized;
     over = λ v ts e. part_over (nat_le (expr_height v) h) (expr_shape v).sized ts e;
     next = λ v ts p m q r s t.
-      let f = first_selector (selected v p) m q r t in
-      part_next (nat_le (expr_height v) h) (expr_shape v).sized ts p m s f.0 (λ e. f.1 (sized_selected v p ∙ e));
+        let f = first_selector (selected v p) m q r t in
+        part_next (nat_le (expr_height v) h) (expr_shape v).sized ts p m s f.0 (λ e. f.1 (sized_selected v p ∙ e));
   }
 
   -- a bracket, and behind it an expression
@@ -261,12 +261,13 @@ module _ (h : ℕ) (expr : Run Expr) (array : Run ArrayInit) (below : Below h ex
       ⊎_elim
       (λ v. absurd (false≢true (sym (and_left ((any_expr h expr).fits p.1.0) true (v.1.0.never p.1.0)) ∙ s.1)))
       (λ l.
-        let lr = in_order_laws Expr (Unit {0}) (any_expr h expr) (sign_form sign_of.RightBracket) l.1.0 (sign_laws sign_of.RightBracket) refl in
-        let w = cut (Unit {0}) (Expr × Unit {0}) (formed (sign_form sign_of.LeftBracket)) (formed (in_order (any_expr h expr) (sign_form sign_of.RightBracket))) (sign_laws sign_of.LeftBracket) lr (λ us q. refl) ts p r s in
-        (⊎_elim (λ o. o.0) (λ o. absurd (false≢true o.1)) ((sign_laws sign_of.LeftBracket).opens ts p.0 w.0 w.1),
-        subst (λ (m : List Token). one_of expr_codes m ≡ true) (rest_is ts w.0 w.1) (⊎_elim (λ o. o.0) (λ o. absurd (false≢true o.1)) (lr.opens w.0 p.1 r w.2))))
+      let lr = in_order_laws Expr (Unit {0}) (any_expr h expr) (sign_form sign_of.RightBracket) l.1.0 (sign_laws sign_of.RightBracket) refl in
+      let w = cut (Unit {0}) (Expr × Unit {0}) (formed (sign_form sign_of.LeftBracket)) (formed (in_order (any_expr h expr) (sign_form sign_of.RightBracket))) (sign_laws sign_of.LeftBracket) lr (λ us q. refl) ts p r s in (
+        ⊎_elim (λ o. o.0) (λ o. absurd (false≢true o.1)) ((sign_laws sign_of.LeftBracket).opens ts p.0 w.0 w.1),
+        subst (λ (m : List Token). one_of expr_codes m ≡ true) (rest_is ts w.0 w.1) (⊎_elim (λ o. o.0) (λ o. absurd (false≢true o.1)) (lr.opens w.0 p.1 r w.2)),
+      ))
       below
     where
-    rest_is : (ts m : List Token) → Stands (a_sign sign_of.LeftBracket) ts p.0 m → m ≡ rest_of ts
-    rest_is [] m t = absurd t.0
-    rest_is (k ∷ ts) m t = sym t.0.1
+      rest_is : (ts m : List Token) → Stands (a_sign sign_of.LeftBracket) ts p.0 m → m ≡ rest_of ts
+      rest_is [] m t = absurd t.0
+      rest_is (k ∷ ts) m t = sym t.0.1

@@ -25,7 +25,12 @@ pub record Steady (A : Type 0) (form : Form A) : Type 0 where
 
 pub steady_from : (A : Type 0) (form : Form A) → Lawful A form → form.empties ≡ false → Steady A form
 steady_from A form la solid = record {
-  appends = la.appends; plain = la.plain; within = la.within; sound = la.sound; longest = la.longest; exact = la.exact;
+  appends = la.appends;
+  plain = la.plain;
+  within = la.within;
+  sound = la.sound;
+  longest = la.longest;
+  exact = la.exact;
   opens = λ ts a r s. ⊎_elim (λ o. o) (λ o. absurd (false≢true (sym solid ∙ o.1))) (la.opens ts a r s);
   refuses = λ ts g. subst (λ b. Refuses b ts (form.run ts)) solid (la.refuses ts g);
   local = la.local;

@@ -149,11 +149,11 @@ module _ (h : ℕ) (expr : Run Expr) (array : Run ArrayInit) (below : Below h ex
       ⊎_elim
       (λ k. record { start = e; list = acc; same = refl; kind = k; fits = f; rest = g })
       (λ k.
-        let s = selects h expr array below e (out-Expr e) refl k in
-        let w = selects_fit h expr array below e s f in
-        let t = and_from (sel_fits h expr array below s.of_it s.by_it) (From h expr array below (selected s.of_it s.by_it) acc) w.1 (subst (λ (d : Expr). From h expr array below d acc ≡ true) (sym s.same) g) in
-        let u = unwind n s.of_it (s.by_it ∷ acc) (omega (arith, s.lower, le)) w.0 t in
-        record { start = u.start; list = u.list; same = u.same ∙ ap (λ (d : Expr). grown selected d acc) s.same; kind = u.kind; fits = u.fits; rest = u.rest })
+      let s = selects h expr array below e (out-Expr e) refl k in
+      let w = selects_fit h expr array below e s f in
+      let t = and_from (sel_fits h expr array below s.of_it s.by_it) (From h expr array below (selected s.of_it s.by_it) acc) w.1 (subst (λ (d : Expr). From h expr array below d acc ≡ true) (sym s.same) g) in
+      let u = unwind n s.of_it (s.by_it ∷ acc) (omega (arith, s.lower, le)) w.0 t in
+      record { start = u.start; list = u.list; same = u.same ∙ ap (λ (d : Expr). grown selected d acc) s.same; kind = u.kind; fits = u.fits; rest = u.rest })
       (kind_of_prime e (and_parts (nat_le (expr_height e) (suc h)) (stands prime_level (expr_shape e)) f).1)
 
   abbrev Primes : Coded (Either (Expr × List Selector) (Expr × List Selector))
