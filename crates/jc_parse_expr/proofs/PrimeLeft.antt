@@ -116,7 +116,7 @@ module _ (n : ℕ) (b : Bool) (t : Token) (us q : List Token) (k : one_of primit
   node (Expr-F.InnerNew v c) = rolled (sym (expr_of.rolls-InnerNew v c)) (behind v (λ r. sign sign_of.Dot ∷ key key_of.New ∷ creation_tokens c r) (expr_of.InnerNew v c) _ (expr_tokens-InnerNew v c) (expr_height-InnerNew v c) (omega arith))
   node (Expr-F.Postfix v op) = rolled (sym (expr_of.rolls-Postfix v op)) (behind v (λ r. sign (postfix_sign op) ∷ r) (expr_of.Postfix v op) _ (expr_tokens-Postfix v op) (expr_height-Postfix v op) (omega arith))
   node (Expr-F.Assign v op value) = rolled (sym (expr_of.rolls-Assign v op value)) (behind v (λ r. assign_tokens op (expr_tokens value r)) (expr_of.Assign v op value) _ (expr_tokens-Assign v op value) (expr_height-Assign v op value) (omega arith))
-  node (Expr-F.Conditional v yes no_it) = rolled (sym (expr_of.rolls-Conditional v yes no_it)) (behind v (λ r. sign sign_of.Question ∷ expr_tokens yes (sign sign_of.Colon ∷ expr_tokens no_it r)) (expr_of.Conditional v yes no_it) _ (expr_tokens-Conditional v yes no_it) (expr_height-Conditional v yes no_it) (omega arith))
+  node (Expr-F.Conditional v then_it else_it) = rolled (sym (expr_of.rolls-Conditional v then_it else_it)) (behind v (λ r. sign sign_of.Question ∷ expr_tokens then_it (sign sign_of.Colon ∷ expr_tokens else_it r)) (expr_of.Conditional v then_it else_it) _ (expr_tokens-Conditional v then_it else_it) (expr_height-Conditional v then_it else_it) (omega arith))
   node (Expr-F.Chain v rest) = rolled (sym (expr_of.rolls-Chain v rest)) (behind v (λ r. each (map operand_tokens rest) r) (expr_of.Chain v rest) _ (expr_tokens-Chain v rest) (expr_height-Chain v rest) (omega arith))
   node (Expr-F.Prefix first more operand) = rolled (sym (expr_of.rolls-Prefix first more operand)) (other (sign_at (prefix_sign first.sign) first.at) (λ r. prefix_tokens more (expr_tokens operand r)) (expr_of.Prefix first more operand) (expr_tokens-Prefix first more operand) (prefix_other first.sign))
   node (Expr-F.Cast at ty operand) = rolled (sym (expr_of.rolls-Cast at ty operand)) (other (sign_at sign_of.LeftParen at) (λ r. type_tokens ty (sign sign_of.RightParen ∷ expr_tokens operand r)) (expr_of.Cast at ty operand) (expr_tokens-Cast at ty operand) refl)
