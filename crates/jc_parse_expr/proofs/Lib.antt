@@ -29,6 +29,7 @@ pub mod PrimeFacts
 pub mod PrimeForms
 pub mod PrimeGrowing
 pub mod PrimeKinds
+pub mod PrimeLeft
 pub mod PrimeParts
 pub mod PrimePosts
 pub mod PrimePrefers

@@ -1,6 +1,6 @@
 -- What is known of expressions of the level of postfix operators that begin with a parenthesis.
 use Rattle.std.proofs.Common.{◌≡◌, ℕ, zero, suc, ◌<◌, ◌≤◌, Bool, true, false, List, [], ◌∷◌, ◌++◌, map, length, Option, Some, None, refl, sym, ap, ◌∙◌, subst, ⊎_elim, ◌⊎◌, inl, inr, arith}
-use Rattle.std.proofs.lemmas.Bool.{false≢true, and_parts, le-leb}
+use Rattle.std.proofs.lemmas.Bool.{false≢true, and_parts, le-leb, eqb-true}
 use Rattle.std.specs.Prelude.{◌&&◌, ◌==◌, not, nat_le}
 use Rattle.jc_lexer.specs.declared.token.Key.TheVariants as key_of
 use Rattle.jc_lexer.specs.declared.token.Sign.TheVariants as sign_of
@@ -27,15 +27,15 @@ use Rattle.jc_tree.specs.declared.expression.Expr.{Expr, Expr-F, out-Expr, roll-
 use Rattle.jc_tree.specs.declared.expression.Expr.TheVariants as expr_of
 use Rattle.jc_tree.specs.Heights.{expr_height, type_height}
 use Rattle.jc_tree.proofs.HeightsOfExpressions.{expr_height-Field, expr_height-Call, expr_height-Index, expr_height-InnerNew, expr_height-Postfix}
-use Rattle.jc_grammar.specs.Told.{Told, told, sign, sign_at, key, key_at, ident, actuals, names_after}
+use Rattle.jc_grammar.specs.Told.{Told, told, sign, sign_at, key, key_at, ident, actuals, names_after, brackets}
 use Rattle.jc_grammar.specs.Types.{type_tokens, base_tokens, class_tokens, primitive_key, args_tokens}
 use Rattle.jc_grammar.specs.Expressions.{expr_tokens, creation_tokens, literal_kind, in_brackets, postfix_sign}
-use Rattle.jc_grammar.specs.Shapes.{Shape, stands, prime_level, post_level, any_level, all_stand, expr_shape, creation_shape, CreationShape, is_expr}
+use Rattle.jc_grammar.specs.Shapes.{Shape, stands, prime_level, post_level, any_level, all_stand, expr_shape, creation_shape, CreationShape, is_expr, is_primitive, is_primitive_base}
 use Rattle.jc_grammar.proofs.ShapesOfExpressions.{expr_shape-Paren, expr_shape-Field, expr_shape-Call, expr_shape-Index, expr_shape-InnerNew, expr_shape-Postfix}
 use Rattle.jc_grammar.proofs.TokensOfExpressions.{expr_tokens-Literal, expr_tokens-This, expr_tokens-SuperField, expr_tokens-SuperCall, expr_tokens-Paren, expr_tokens-Name, expr_tokens-Invoke, expr_tokens-New, expr_tokens-ClassLiteral, expr_tokens-VoidLiteral, expr_tokens-OuterThis, expr_tokens-Field, expr_tokens-Call, expr_tokens-Index, expr_tokens-InnerNew, expr_tokens-Postfix}
 use Rattle.jc_grammar.proofs.TokensOfTypes.{base_tokens-Primitive, base_tokens-Class, class_tokens-parts, part_tokens-parts, type_tokens-parts}
 use Rattle.jc_reading.specs.Kinds.{kind_code, sign_code, key_code, word_code, is_in, one_of}
-use Rattle.jc_reading.specs.Reading.{Takes}
+use Rattle.jc_reading.specs.Reading.{Takes, rest_of}
 use Rattle.jc_reading.proofs.Codes.{kind_is_sign}
 use Rattle.jc_parse_parts.proofs.ExprForms.{expr_tall}
 use Rattle.jc_parse_expr.proofs.PrimeParts.{select_layer}
@@ -43,6 +43,8 @@ use Rattle.jc_parse_expr.proofs.PrimeStarts.{plain_layer}
 use Rattle.jc_parse_expr.proofs.PrimeSpecials.{special_layer}
 use Rattle.jc_parse_expr.proofs.PrimeWhole.{Layer, postfix_layer, kind_of_post, prime_is_post}
 use Rattle.jc_parse_expr.proofs.PrimeClosed.{Open, after_close, closes_at, passes_on, kind_step, On, Closes, Closed, Passes}
+use Rattle.jc_parse_expr.proofs.PrimeLeft.{type_goes, primitive_second}
+use Rattle.jc_parse_type.specs.TypeReading.{primitive_codes}
 use Rattle.jc_parse_expr.proofs.PrimeClosedTrees.{expr_closed}
 use Rattle.jc_parse_expr.proofs.PrimeClosedTypes.{type_closed}
 
@@ -59,6 +61,11 @@ pub record Shut (r : List Told) (us q : List Token) : Type 0 where
   pub flag : Bool
   pub same : after_close us none_open ≡ Some rest
   pub which : Takes flag r rest q ⊎ (one_of more_codes rest ≡ true)
+  -- an expression stands behind the first one
+  pub inner : Expr
+  pub inner_told : List Told
+  pub inner_flag : Bool
+  pub begins : Takes inner_flag (expr_tokens inner inner_told) us q
 
 -- a first token that is no parenthesis
 other_first : (r told : List Told) (d : Told) (b : Bool) (t : Token) (us q : List Token) → t.kind ≡ kind_of.Sign sign_of.LeftParen → (kind_code d.kind == sign_code sign_of.LeftParen) ≡ false → Takes b (d ∷ told) (t ∷ us) q → Shut r us q
@@ -71,6 +78,10 @@ more_behind r d us q e s w = record {
   flag = s.flag;
   same = s.same;
   which = inr (⊎_elim (λ t. first s.rest t) (λ o. o) s.which);
+  inner = s.inner;
+  inner_told = s.inner_told;
+  inner_flag = s.inner_flag;
+  begins = s.begins;
 }
   where
     first : (m : List Token) → Takes s.flag (d ∷ r) m q → one_of more_codes m ≡ true
@@ -117,7 +128,11 @@ paren_shut at inner g r b t us q s =
   where
     ends : (mid : List Token) (flag : Bool) → Takes flag (sign sign_of.RightParen ∷ r) mid q → after_close us none_open ≡ after_close mid none_open → Shut r us q
     ends [] flag m e = absurd m
+<<<<<<< HEAD
     ends (k ∷ mid) flag m e = record { rest = mid; flag = _; same = e ∙ closes_at k mid (kind_of.Sign sign_of.RightParen) none_open m.0.0 refl; which = inl m.1 }
+=======
+    ends (k ∷ mid) flag m e = record { rest = mid; flag = _; same = e ∙ closes_at k mid (kind_of.Sign sign_of.RightParen) none_open m.0.0 refl; which = inl m.1; inner = inner; inner_told = sign sign_of.RightParen ∷ r; inner_flag = _; begins = s.1 }
+>>>>>>> ec785061e15fcf5bb481a7aa3b932db03da72a03
 
 op_more : (op : PostfixOp) → is_in more_codes (sign_code (postfix_sign op)) ≡ true
 op_more postfix_of.Increment = refl
@@ -197,3 +212,37 @@ pub type_closes : (us : List Token) (ty : TypeTree) (c : Token) (m : List Token)
 type_closes us ty c m s k =
     let p = (type_closed ty).at none_open [] false us (c ∷ m) s in
     p.same ∙ ap (λ (l : List Token). after_close l none_open) p.rest ∙ closes_at c m (kind_of.Sign sign_of.RightParen) none_open (kind_is_sign c.kind sign_of.RightParen k) refl
+
+-- the keyword of a primitive type that is no array, and what follows
+primitive_front : (base : BaseTree) (l : BaseTree-F BaseTree TypeArg ClassTree TypePart TypeTree) (n : ℕ) (us q : List Token) → out-BaseTree base ≡ l → (is_primitive_base l && (n == 0)) ≡ true → Takes false (base_tokens base (brackets n [])) us q → (one_of primitive_codes us ≡ true) × (q ≡ rest_of us)
+primitive_front base (BaseTree-F.Class c) n us q o g s = absurd (false≢true g)
+primitive_front base (BaseTree-F.Primitive at w) (suc n) us q o g s = let e : suc n ≡ 0 = eqb-true (suc n) 0 g in absurd (omega (arith, e))
+primitive_front base (BaseTree-F.Primitive at w) zero us q o g s =
+    let same : base_of.Primitive at w ≡ base = sym (base_of.rolls-Primitive at w) ∙ ap roll-BaseTree (sym o) ∙ roll-out-BaseTree base in
+    key_front us (subst (λ (l : List Told). Takes false l us q) (ap (λ (c : BaseTree). base_tokens c []) (sym same) ∙ base_tokens-Primitive at w []) s)
+  where
+    word_in : (w : PrimitiveWord) → is_in primitive_codes (key_code (primitive_key w)) ≡ true
+    word_in word_of.Boolean = refl
+    word_in word_of.Byte = refl
+    word_in word_of.Short = refl
+    word_in word_of.Char = refl
+    word_in word_of.Int = refl
+    word_in word_of.Long = refl
+
+    key_front : (us : List Token) → Takes false (key_at (primitive_key w) at ∷ []) us q → (one_of primitive_codes us ≡ true) × (q ≡ rest_of us)
+    key_front [] s = absurd s
+    key_front (k ∷ us) s = (subst (λ (j : TokenKind). is_in primitive_codes (kind_code j) ≡ true) (sym s.0.0) (word_in w), sym s.1)
+
+-- no expression is a primitive type in parentheses, or begins with one
+pub no_primitive : (t : Token) (us : List Token) (e : Expr) (r : List Token) (ty : TypeTree) (c : Token) (m : List Token) → Takes false (expr_tokens e []) (t ∷ us) r → stands post_level (expr_shape e) ≡ true → kind_code t.kind ≡ sign_code sign_of.LeftParen →
+    Takes false (type_tokens ty []) us (c ∷ m) → kind_code c.kind ≡ sign_code sign_of.RightParen → is_primitive ty ≡ true → ⊥
+no_primitive t us e r ty c m s st k d i g =
+    let x = shut (expr_height e) false t us r (kind_is_sign t.kind sign_of.LeftParen k) e (omega arith) st [] s in
+    let f = primitive_front (out-TypeTree ty).base (out-BaseTree (out-TypeTree ty).base) (out-TypeTree ty).dims us (c ∷ m) refl g (subst (λ (l : List Told). Takes false l us (c ∷ m)) (type_tokens-parts ty []) d) in
+    clash us f.0 f.1 x.inner x.inner_told x.inner_flag x.begins
+  where
+    clash : (us : List Token) → one_of primitive_codes us ≡ true → (c ∷ m) ≡ rest_of us → (a : Expr) (x : List Told) (b : Bool) → Takes b (expr_tokens a x) us r → ⊥
+    clash [] f h a x b s = false≢true f
+    clash (p ∷ us) f h a x b s =
+        let j = subst (λ (l : List Token). one_of type_goes l ≡ true) (sym h) (primitive_second a x b p us r s f) in
+        false≢true (sym (ap (λ (n : ℕ). is_in type_goes n) i) ∙ j)
