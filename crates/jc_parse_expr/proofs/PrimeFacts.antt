@@ -128,11 +128,7 @@ paren_shut at inner g r b t us q s =
   where
     ends : (mid : List Token) (flag : Bool) → Takes flag (sign sign_of.RightParen ∷ r) mid q → after_close us none_open ≡ after_close mid none_open → Shut r us q
     ends [] flag m e = absurd m
-<<<<<<< HEAD
-    ends (k ∷ mid) flag m e = record { rest = mid; flag = _; same = e ∙ closes_at k mid (kind_of.Sign sign_of.RightParen) none_open m.0.0 refl; which = inl m.1 }
-=======
     ends (k ∷ mid) flag m e = record { rest = mid; flag = _; same = e ∙ closes_at k mid (kind_of.Sign sign_of.RightParen) none_open m.0.0 refl; which = inl m.1; inner = inner; inner_told = sign sign_of.RightParen ∷ r; inner_flag = _; begins = s.1 }
->>>>>>> ec785061e15fcf5bb481a7aa3b932db03da72a03
 
 op_more : (op : PostfixOp) → is_in more_codes (sign_code (postfix_sign op)) ≡ true
 op_more postfix_of.Increment = refl
