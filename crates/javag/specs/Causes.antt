@@ -1,5 +1,5 @@
 -- When each outcome comes, and what a call leaves behind.
-use Rattle.std.specs.Prelude.{◌≡◌, ◌≢◌, ◌⊎◌, ℕ, ◌+◌, ◌-◌, ◌<◌, List, [], ◌∷◌, ◌++◌, take, ⊤, codes, slice_get}
+use Rattle.std.specs.Prelude.{◌≡◌, ◌≢◌, ◌⊎◌, ℕ, ◌+◌, ◌-◌, ◌<◌, List, [], ◌∷◌, ◌++◌, take, ⊤, codes, slice_get, Ok, Err}
 use Rattle.std.specs.declared.option.Option.{Option}
 use Rattle.std.specs.declared.option.Option.TheVariants.{Some, None}
 use Rattle.jc_rules.specs.declared.rule.Refusal.{Refusal}
@@ -8,6 +8,8 @@ use Rattle.jc_class_out.specs.Format.{IsClassFile}
 use Rattle.jc_machine.specs.declared.machine.Ran.{Ran}
 use Rattle.jc_machine.specs.declared.machine.Ran.TheVariants.{Ended as RanEnded, StepsReached as RanSteps, OutFault as RanOutFault, Threw as RanThrew, Exited as RanExited, KeysFault as RanKeysFault, Stuck as RanStuck}
 use Rattle.jc_machine.specs.Runs.{Seen}
+use Rattle.jc_lexer.specs.declared.token.Token.{Token}
+use Rattle.jc_lexer.specs.Files.{lexed_files}
 use Rattle.jc_outside.specs.Told.{Files}
 use Rattle.javag.specs.Objects.{Object, Unchanged, Puts, PutsPart, Failed, Closes, HaveTexts, IsUnread}
 use Rattle.jc_small.specs.Small.{Program, IsProgram}
@@ -29,19 +31,40 @@ pub record Call : Type 0 where
   pub out : Object ℕ
   pub err : Object ℕ
 
--- one source, which is this program, and no argument
+-- the tokens of the sources (JLS 3)
+abbrev pub HaveTokens : List (List ℕ) → List (List Token) → Type 0
+HaveTokens texts lists = lexed_files 1 0 texts ≡ Ok lists
+
+-- one source, whose tokens are this program, and no argument
 pub record IsSmall (job : Job) (texts : List (List ℕ)) (program : Program) : Type 0 where
-  pub text : List ℕ
-  pub only : texts ≡ text ∷ []
+  pub tokens : List Token
+  pub only : HaveTokens texts (tokens ∷ [])
   pub no_argument : job.arguments ≡ []
-  pub is_program : IsProgram text program
+  pub is_program : IsProgram tokens program
 
 -- the sources are one program, and this class is one of it
 pub record IsClassOf (job : Job) (texts : List (List ℕ)) (class : ClassModel) : Type 0 where
-  pub text : List ℕ
-  pub only : texts ≡ text ∷ []
+  pub tokens : List Token
+  pub only : HaveTokens texts (tokens ∷ [])
   pub no_argument : job.arguments ≡ []
-  pub compiled : Compiled text class
+  pub compiled : Compiled tokens class
+
+-- ---- rules that sources break
+
+-- The lexical stage is the first one, and the only one that is built. It goes through the sources in order: a source breaks rule 101 at its first
+-- byte where it and those before it have too many bytes, or else the rule of its first fault.
+abbrev pub Breaks : List (List ℕ) → Refusal → Type 0
+Breaks texts refusal = lexed_files 1 0 texts ≡ Err refusal
+
+-- the refusal of a form that is not built yet
+abbrev pub not_built : Refusal
+not_built = record { rule = 900; place = record { file = 1; at = 0 }; have = 0 }
+
+-- no source breaks a rule of a stage that is built, and the job isn't small
+pub record IsUnbuilt (job : Job) (texts : List (List ℕ)) : Type 0 where
+  pub lists : List (List Token)
+  pub unbroken : HaveTokens texts lists
+  pub not_small : (program : Program) → IsSmall job texts program → ⊥
 
 -- ---- class files
 
@@ -79,13 +102,8 @@ pub record Untouched (work : Work) : Type 0 where
   pub no_class : Unchanged work.classes
   pub no_output : Unchanged work.out
 
--- the refusal of a form that is not built yet
-abbrev pub not_built : Refusal
-not_built = record { rule = 900; place = record { file = 1; at = 0 }; have = 0 }
-
 pub record IsRefused (job : Job) (texts : List (List ℕ)) (work : Work) (refusal : Refusal) : Type 0 where
-  pub not_small : (program : Program) → IsSmall job texts program → ⊥
-  pub named : refusal ≡ not_built
+  pub cause : Breaks texts refusal ⊎ (IsUnbuilt job texts × (refusal ≡ not_built))
   pub untouched : Untouched work
 
 pub record IsNoMain (job : Job) (texts : List (List ℕ)) (work : Work) : Type 0 where

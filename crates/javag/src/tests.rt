@@ -114,6 +114,20 @@ fn calls_end_with_their_status_and_last_line(rt: HostRuntime) -> Result<(), Test
             "Main.java:1: error 900: form not built yet\n",
         ),
         (
+            "javag --run Main Main.java",
+            "class Main /* small */ { public static void main(String[] args) { // nothing\n } }",
+            0,
+            "",
+            "",
+        ),
+        (
+            "javag --run Main Main.java",
+            "class Main {\n  char c = '';\n}",
+            3,
+            "",
+            "Main.java:2: error 105: bad literal\n",
+        ),
+        (
             "javag",
             HI,
             2,

@@ -1,14 +1,15 @@
 //! The work on a job whose sources are read: its class, the class file, and the run.
-ghost use Rattle.std.specs.Prelude.{◌≡◌, ◌≢◌, ◌≤◌, ◌⊎◌, [], ◌∷◌, ◌++◌, IfOk, OnOk, OnErr, IsErrOf, MatchOption, Some, None, Ok, true, false, codes, string_bytes, List, ℕ};
+ghost use Rattle.std.specs.Prelude.{◌≡◌, ◌≢◌, ◌≤◌, ◌⊎◌, [], ◌∷◌, ◌++◌, IfOk, IfErr, OnOk, OnErr, IsErrOf, MatchOption, Some, None, Ok, true, false, codes, string_bytes, List, ℕ};
+ghost use Rattle.jc_lexer.specs.Files.{IsRefusal};
 ghost use Rattle.jc_machine.specs.Start.{start_of};
 ghost use Rattle.jc_machine.specs.Table.{State};
 ghost use Rattle.jc_outside.specs.Told.{Rose, Stays, Gets, GetsPart};
-ghost use Rattle.jc_small.specs.Small.{Program};
 ghost use Rattle.jc_small.specs.Same.{run_from};
-ghost use Rattle.javag.specs.Causes.{HasOutcome, outcome_of, IsSmall, IsClassOf, NamesMain, class_pairs, Worked, not_built as the_refusal};
+ghost use Rattle.javag.specs.Causes.{HasOutcome, outcome_of, IsUnbuilt, IsClassOf, NamesMain, class_pairs, Worked, not_built as the_refusal};
 
 use crate::outcome::Outcome;
 use jc_class_out::{ClassModel, class_bytes};
+use jc_lexer::lex_all;
 use jc_machine::{Machine, Ran};
 use jc_outside::{ClassShelf, Keys, OutsideError, Paper};
 use jc_rules::{Items, Place, Refusal, Rule, Stop, Text, WantOfMemory};
@@ -21,11 +22,13 @@ fn job_class(
     alloc: Global,
     job: &Job,
     texts: &[Items<u8>],
-) -> Result<Option<ClassModel>, WantOfMemory>
-    ensures { IfOk result (λ class. MatchOption class ((program : Program) → IsSmall job.now texts.now program → ⊥) (λ class. IsClassOf job.now texts.now class)) }
+) -> Result<Option<ClassModel>, Stop<Refusal>>
+    ensures class { IfOk result (λ class. MatchOption class (IsUnbuilt job.now texts.now) (λ class. IsClassOf job.now texts.now class)) }
+    ensures refused { IfErr result (λ stop. IsRefusal texts.now stop) }
 {
-    match texts {
-        [text] if job.arguments.is_empty() => compile(alloc, text.slice()),
+    let lists = lex_all(alloc, texts)?;
+    match lists.slice() {
+        [tokens] if job.arguments.is_empty() => Ok(compile(alloc, tokens.slice())?),
         _ => Ok(None),
     }
 }
@@ -170,6 +173,7 @@ pub fn work<C: ClassShelf, K: Keys, O: Paper>(
         Ok(None) => Outcome::Refused {
             refusal: make_refusal(),
         },
-        Err(WantOfMemory) => Outcome::WantOfMemory,
+        Err(Stop::Refused(refusal)) => Outcome::Refused { refusal },
+        Err(Stop::WantOfMemory) => Outcome::WantOfMemory,
     }
 }

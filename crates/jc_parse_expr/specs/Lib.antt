@@ -1,5 +1,5 @@
-pub mod Growing
-pub mod LevelReading
-pub mod PrimeReading
-pub mod StartReading
-pub mod PostReading
+pub mod After
+pub mod BinaryLevels
+pub mod Measuring
+pub mod Nodes
+pub mod PrimeCode

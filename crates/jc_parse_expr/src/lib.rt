@@ -1,3 +1,12 @@
-//! How expressions are read (JLS 15). The readers stand in `specs/`, and that they read what the grammar spells in `proofs/`; the parser
-//! of expressions is to stand on them.
+//! How expressions are read (JLS 15). The readers stand in `specs/`, and that they read what the grammar spells in `proofs/`.
 #![tactic(auto)]
+
+mod measured;
+mod operators;
+mod parts;
+mod pieces;
+mod prefixes;
+mod shapes;
+mod skips;
+
+pub use measured::Measured;

@@ -176,9 +176,9 @@ fn unbounded(at: u32, rest: &[Token], left: usize) -> Found<'_, TypeArg>
     }
 }
 
-/// Arguments behind the first one and up to the closing bracket.
+/// One or more arguments with commas between them.
 #[cycle(types)]
-fn more_args(
+pub fn more_args(
     alloc: Global,
     tokens: &[Token],
     height: u32,

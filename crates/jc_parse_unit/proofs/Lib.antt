@@ -1,15 +1,2 @@
-pub mod Bundles
-pub mod Closed
-pub mod Contexts
-pub mod FileForms
-pub mod ForStatements
-pub mod IfStatements
-pub mod Jumps
-pub mod MemberValues
-pub mod MethodForms
-pub mod RestForms
-pub mod SimpleStatements
-pub mod Switches
-pub mod TryClauses
-pub mod TryStatements
-pub mod WordStatements
+pub mod LevelAdvances
+pub mod UnitTurns

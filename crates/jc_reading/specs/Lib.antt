@@ -1,3 +1,5 @@
+pub mod Further
 pub mod Giving
+pub mod Growing
 pub mod Kinds
 pub mod Reading

@@ -1,6 +1,4 @@
-pub mod Lexemes
-pub mod Numbers
-pub mod ReadWords
+pub mod ReadTokens
 pub mod Short
 pub mod Quiet
 pub mod Standing

@@ -2,6 +2,7 @@
 use Rattle.std.proofs.Common.{◌≡◌, ◌≤◌, ℕ, ◌+◌, ◌*◌, List, [], ◌∷◌, length, refl, sym, ap, ◌∙◌, subst, arith, Option, Some, None, codes}
 use Rattle.std.specs.List.{AllByRecursion}
 use Rattle.std.specs.Str.{chars}
+use Rattle.jc_lexer.specs.declared.token.Token.{Token}
 use Rattle.jc_machine.specs.Names.{spelling}
 use Rattle.jc_machine.specs.Table.{State, Going}
 use Rattle.jc_machine.specs.Start.{start_of, first_frame, begins}
@@ -46,15 +47,15 @@ shows_same program sums short = record {
   backwards = λ steps. backwards program program 0 steps sums (all_stands program short);
 }
 
-pub compiled : (text : List ℕ) (program : Program) → IsProgram text program → Compiled text (main_class program)
-compiled text program is = record {
+pub compiled : (tokens : List Token) (program : Program) → IsProgram tokens program → Compiled tokens (main_class program)
+compiled tokens program is = record {
   program = program;
   is_program = is;
   same = record {
     members = has_members program;
     start = frame program 0 [];
     starts = main_starts program;
-    shows = shows_same program is.sums (code_short text program is);
+    shows = shows_same program is.sums (code_short tokens program is);
   };
-  has_file = spelled (main_class program) (class_fits program is.sums (code_short text program is));
+  has_file = spelled (main_class program) (class_fits program is.sums (code_short tokens program is));
 }

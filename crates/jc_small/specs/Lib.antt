@@ -1,6 +1,6 @@
 pub mod Small
 pub mod Meaning
-pub mod Tokens
+pub mod Lexemes
 pub mod Parse
 pub mod ClassOf
 pub mod Same

@@ -4,6 +4,7 @@ use Rattle.std.specs.declared.option.Option.TheVariants.{Some, None}
 use Rattle.jc_class_out.specs.declared.model.ClassModel.{ClassModel}
 use Rattle.jc_class_out.specs.declared.model.MethodModel.{MethodModel}
 use Rattle.jc_class_out.specs.Format.{HasClassFile}
+use Rattle.jc_lexer.specs.declared.token.Token.{Token}
 use Rattle.jc_machine.specs.declared.machine.Ran.{Ran}
 use Rattle.jc_machine.specs.declared.machine.Ran.TheVariants.{StepsReached, Ended as RanEnded}
 use Rattle.jc_machine.specs.Table.{State}
@@ -66,9 +67,9 @@ pub record Same (program : Program) (class : ClassModel) : Type 0 where
   pub starts : (arguments : List (List ℕ)) → start_of (class ∷ []) (codes "Main") arguments ≡ Some start
   pub shows : ShowsSame program class start
 
--- the text is a program, and this class is one of it, which has a class file
-pub record Compiled (text : List ℕ) (class : ClassModel) : Type 0 where
+-- the tokens are a program, and this class is one of it, which has a class file
+pub record Compiled (tokens : List Token) (class : ClassModel) : Type 0 where
   pub program : Program
-  pub is_program : IsProgram text program
+  pub is_program : IsProgram tokens program
   pub same : Same program class
   pub has_file : HasClassFile class

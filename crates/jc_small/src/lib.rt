@@ -3,7 +3,7 @@
 
 mod compiling;
 mod emitting;
-mod lexing;
+mod fixed;
 mod reading;
 #[cfg(test)]
 mod tests;

@@ -1,13 +1,10 @@
-// A program from its lexemes.
-ghost use Rattle.std.specs.Prelude.{◌≡◌, ◌≤◌, [], ◌∷◌, ◌++◌, IfOk, OnOk, MatchOption, min, length, slice_get, true};
-ghost use Rattle.std.specs.Option.{option_copied};
-ghost use Rattle.std.specs.Str.{bytes_eq};
-ghost use Rattle.std.specs.List.{list_all};
-ghost use Rattle.std.specs.Char.{is_ascii_digit};
-ghost use Rattle.jc_small.specs.Small.{IsNoProgram, IsProgram, head_words};
-ghost use Rattle.jc_small.specs.Parse.{read_on, number_of, write_rest, by_word, moved, done_by, now_by, run};
+// A program from its tokens.
+ghost use Rattle.std.specs.Prelude.{◌≡◌, ◌≤◌, [], ◌∷◌, ◌++◌, IfOk, OnOk, MatchOption, slice_get, true};
+ghost use Rattle.jc_small.specs.Small.{IsNoProgram, IsProgram, head, kinds, write_rest};
+ghost use Rattle.jc_small.specs.Parse.{number_of, by_lexeme, moved, done_by, now_by, run};
 
-use crate::lexing::tokens;
+use crate::fixed::{Fixed, is};
+use jc_lexer::{Token, TokenKind};
 use jc_rules::{Items, WantOfMemory};
 use std::alloc::Global;
 use std::mem;
@@ -28,7 +25,7 @@ pub enum Point {
     End,
 }
 
-/// What a lexeme adds to the program.
+/// What a token adds to the program.
 #[derive(Clone, Copy, Debug, PartialEq, Eq)]
 pub enum Effect {
     Nothing,
@@ -44,74 +41,49 @@ pub struct Moved {
 
 const MAX_INT: u64 = 2147483647;
 
-fn all_digits(t: &[u8]) -> bool
-    ensures { result ≡ list_all is_ascii_digit t.now }
+// The int that a decimal number without L is.
+fn number(kind: &TokenKind) -> Option<u32>
+    ensures { result ≡ number_of kind.now }
 {
-    t.iter().all(|b| b.is_ascii_digit())
-}
-
-// The number that digits stand for, or one that is too great.
-fn value(digits: &[u8]) -> u64
-    requires { list_all is_ascii_digit digits.now ≡ true }
-    ensures { result ≡ min (read_on 0 digits.now) 2147483648 }
-{
-    let mut value = 0u64;
-    for b in digits {
-        value = (value * 10 + u64::from(b.saturating_sub(b'0'))).min(MAX_INT + 1);
-    }
-    value
-}
-
-// The number that a lexeme is.
-fn number(t: &[u8]) -> Option<u32>
-    ensures { result ≡ number_of t.now }
-{
-    if t.is_empty() || !all_digits(t) || (t.len() > 1 && t[0] <= b'0') {
-        return None;
-    }
-    let value = value(t);
-    if value <= MAX_INT {
-        Some(value as u32)
-    } else {
-        None
+    match kind {
+        TokenKind::Number {
+            value,
+            long: false,
+            decimal: true,
+        } if *value <= MAX_INT => Some(*value as u32),
+        _ => None,
     }
 }
 
-fn is(t: &[u8], word: &str) -> bool
-    ensures { result ≡ bytes_eq t.now word.now }
-{
-    t == word.as_bytes()
-}
-
-fn head_word(k: u8) -> Option<&'static str>
-    ensures { option_copied result ≡ slice_get head_words k }
+fn head_lexeme(k: u8) -> Option<Fixed>
+    ensures { result ≡ slice_get head k }
 {
     Some(match k {
-        0 => "class",
-        1 => "Main",
-        2 | 13 => "{",
-        3 => "public",
-        4 => "static",
-        5 => "void",
-        6 => "main",
-        7 => "(",
-        8 => "String",
-        9 => "[",
-        10 => "]",
-        11 => "args",
-        12 => ")",
+        0 => Fixed::Class,
+        1 => Fixed::MainClass,
+        2 | 13 => Fixed::LeftBrace,
+        3 => Fixed::Public,
+        4 => Fixed::Static,
+        5 => Fixed::Void,
+        6 => Fixed::MainMethod,
+        7 => Fixed::LeftParen,
+        8 => Fixed::StringClass,
+        9 => Fixed::LeftBracket,
+        10 => Fixed::RightBracket,
+        11 => Fixed::Args,
+        12 => Fixed::RightParen,
         _ => return None,
     })
 }
 
-fn write_word(k: u8) -> Option<&'static str>
-    ensures { option_copied result ≡ slice_get write_rest k }
+fn write_lexeme(k: u8) -> Option<Fixed>
+    ensures { result ≡ slice_get write_rest k }
 {
     Some(match k {
-        0 | 2 => ".",
-        1 => "out",
-        3 => "write",
-        4 => "(",
+        0 | 2 => Fixed::Dot,
+        1 => Fixed::Out,
+        3 => Fixed::Write,
+        4 => Fixed::LeftParen,
         _ => return None,
     })
 }
@@ -122,67 +94,67 @@ fn to(point: Point, effect: Effect) -> Option<Moved>
     Some(Moved { point, effect })
 }
 
-fn by_word(word: Option<&str>, t: &[u8], point: Point) -> Option<Moved>
-    ensures { result ≡ by_word (option_copied word.entry) t.now point }
+fn by_lexeme(fixed: Option<Fixed>, kind: &TokenKind, point: Point) -> Option<Moved>
+    ensures { result ≡ by_lexeme fixed kind.now point }
 {
-    match word {
-        Some(word) if is(t, word) => to(point, Effect::Nothing),
+    match fixed {
+        Some(fixed) if is(fixed, kind) => to(point, Effect::Nothing),
         _ => None,
     }
 }
 
-// The point and the effect behind a lexeme.
+// The point and the effect behind a token.
 #[tactic(auto, unfolding(crate::specs::Parse::moved))]
-fn next_point(point: Point, t: &[u8]) -> Option<Moved>
-    ensures { result ≡ moved point t.now }
+fn next_point(point: Point, kind: &TokenKind) -> Option<Moved>
+    ensures { result ≡ moved point kind.now }
 {
     match point {
         Point::Head(k) => {
-            let word = head_word(k)?;
+            let wanted = head_lexeme(k)?;
             let next = if k == 13 {
                 Point::Statement
             } else {
                 Point::Head(k + 1)
             };
-            by_word(Some(word), t, next)
+            by_lexeme(Some(wanted), kind, next)
         }
         Point::Statement => {
-            if is(t, "System") {
+            if is(Fixed::System, kind) {
                 to(Point::Write(0), Effect::Nothing)
-            } else if is(t, "}") {
+            } else if is(Fixed::RightBrace, kind) {
                 to(Point::LastBrace, Effect::Nothing)
             } else {
                 None
             }
         }
         Point::Write(k) => {
-            let word = write_word(k)?;
+            let wanted = write_lexeme(k)?;
             let next = if k == 4 {
                 Point::Number
             } else {
                 Point::Write(k + 1)
             };
-            by_word(Some(word), t, next)
+            by_lexeme(Some(wanted), kind, next)
         }
-        Point::Number => to(Point::AfterNumber, Effect::Add(number(t)?)),
+        Point::Number => to(Point::AfterNumber, Effect::Add(number(kind)?)),
         Point::AfterNumber => {
-            if is(t, "+") {
+            if is(Fixed::Plus, kind) {
                 to(Point::Number, Effect::Nothing)
-            } else if is(t, ")") {
+            } else if is(Fixed::RightParen, kind) {
                 to(Point::Semicolon, Effect::Nothing)
             } else {
                 None
             }
         }
         Point::Semicolon => {
-            if is(t, ";") {
+            if is(Fixed::Semicolon, kind) {
                 to(Point::Statement, Effect::Close)
             } else {
                 None
             }
         }
         Point::LastBrace => {
-            if is(t, "}") {
+            if is(Fixed::RightBrace, kind) {
                 to(Point::End, Effect::Nothing)
             } else {
                 None
@@ -211,16 +183,16 @@ fn apply(
     }
 }
 
-// The program of the lexemes.
+// The program of the tokens.
 #[tactic(auto, unfolding(crate::specs::Parse::run))]
-fn read_program(alloc: Global, tokens: &[Items<u8>]) -> Result<Option<Program>, WantOfMemory>
-    ensures { IfOk result (λ p. p ≡ run tokens.now (Point.Head 0) [] []) }
+fn read_program(alloc: Global, tokens: &[Token]) -> Result<Option<Program>, WantOfMemory>
+    ensures { IfOk result (λ p. p ≡ run (kinds tokens.now) (Point.Head 0) [] []) }
 {
     let mut point = Point::Head(0);
     let mut done = Items::new(alloc);
     let mut now = Items::new(alloc);
     for t in tokens {
-        match next_point(point, t.slice()) {
+        match next_point(point, &t.kind) {
             Some(moved) => {
                 apply(alloc, moved.effect, &mut done, &mut now)?;
                 point = moved.point;
@@ -234,15 +206,14 @@ fn read_program(alloc: Global, tokens: &[Items<u8>]) -> Result<Option<Program>, 
     }
 }
 
-const MAX_SOURCE: usize = 16384;
+const MOST_TOKENS: usize = 4096;
 
-/// The program that a text is, if it is one.
-pub fn parse(alloc: Global, text: &[u8]) -> Result<Option<Program>, WantOfMemory>
-    ensures { IfOk result (λ p. MatchOption p (IsNoProgram text.now) (λ program. IsProgram text.now program)) }
+/// The program that tokens are, if they are one.
+pub fn parse(alloc: Global, tokens: &[Token]) -> Result<Option<Program>, WantOfMemory>
+    ensures { IfOk result (λ p. MatchOption p (IsNoProgram tokens.now) (λ program. IsProgram tokens.now program)) }
 {
-    if text.len() > MAX_SOURCE {
+    if tokens.len() > MOST_TOKENS {
         return Ok(None);
     }
-    let tokens = tokens(alloc, text)?;
-    read_program(alloc, tokens.slice())
+    read_program(alloc, tokens)
 }

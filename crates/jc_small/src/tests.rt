@@ -1,4 +1,5 @@
 use crate::compile;
+use jc_lexer::tokens;
 use std::test::Fail;
 
 const HI: &str =
@@ -6,7 +7,8 @@ const HI: &str =
 
 #[test]
 fn a_small_source_has_a_class(rt: HostRuntime) -> Result<(), Fail> {
-    let class = compile(rt.alloc(), HI.as_bytes())?.ok_or("a class")?;
+    let tokens = tokens(rt.alloc(), HI.as_bytes())?;
+    let class = compile(rt.alloc(), tokens.slice())?.ok_or("a class")?;
     assert_eq!(rt; class.methods.len(), 2);
     Ok(())
 }
@@ -21,7 +23,9 @@ fn other_sources_have_none(rt: HostRuntime) -> Result<(), Fail> {
         "classMain { public static void main(String[] args) { } }",
         "class Main { public static void main(String[] args) { } } }",
     ] {
-        assert!(rt; compile(rt.alloc(), text.as_bytes())?.is_none());
+        assert!(rt; text.len() <= 16777216);
+        let tokens = tokens(rt.alloc(), text.as_bytes())?;
+        assert!(rt; compile(rt.alloc(), tokens.slice())?.is_none());
     }
     Ok(())
 }

@@ -17,7 +17,7 @@ use Rattle.jc_tree.specs.declared.statement.MethodHead.{MethodHead}
 use Rattle.jc_tree.specs.declared.statement.Resources.{Resources}
 use Rattle.jc_tree.specs.declared.statement.Stmt.{Stmt, Stmt-F, fold_out-Stmt, map-Stmt, out-Stmt}
 use Rattle.jc_tree.specs.declared.statement.Stmt.TheVariants as anStmt
-use Rattle.jc_tree.specs.Heights.{clause_head_height, clause_height, clause_step, declaration_height, declaration_step, expr_height, for_height, head_height, in_some, local_height, member_height, member_step, method_height, most, resources_of_height, stmt_height, stmt_step, value_height, value_step}
+use Rattle.jc_tree.specs.Heights.{clause_head_height, clause_height, clause_step, declaration_height, declaration_step, effect_height, expr_height, for_height, head_height, in_some, local_height, member_height, member_step, method_height, most, resources_of_height, stmt_height, stmt_step, value_height, value_step}
 
 pub value_height-out : (node : AnnotationValue) → value_height node ≡ value_step (map-AnnotationValue AnnotationValue ℕ value_height (out-AnnotationValue node))
 unfolding value_height
@@ -76,7 +76,7 @@ stmt_height-Block at items = stmt_height-at (anStmt.Block at items) _ (anStmt.ou
 pub stmt_height-Empty : (at : ℕ) → stmt_height (anStmt.Empty at) ≡ suc 0
 stmt_height-Empty at = stmt_height-at (anStmt.Empty at) _ (anStmt.outs-Empty at)
 
-pub stmt_height-Effect : (it : Expr) → stmt_height (anStmt.Effect it) ≡ suc (expr_height it)
+pub stmt_height-Effect : (it : Expr) → stmt_height (anStmt.Effect it) ≡ suc (effect_height it)
 stmt_height-Effect it = stmt_height-at (anStmt.Effect it) _ (anStmt.outs-Effect it)
 
 pub stmt_height-Labeled : (label : Ident) (body : Stmt) → stmt_height (anStmt.Labeled label body) ≡ suc (stmt_height body)

@@ -9,7 +9,7 @@ use Rattle.jc_tree.specs.declared.types.TypePart.{TypePart, TypePart-F, fold-Typ
 use Rattle.jc_tree.specs.declared.types.TypeArg.{TypeArg, TypeArg-F, fold-TypeArg}
 use Rattle.jc_tree.specs.declared.expression.SkipPart.{SkipPart, SkipPart-F, fold-SkipPart}
 use Rattle.jc_tree.specs.declared.expression.Skip.{Skip, Skip-F, fold-Skip}
-use Rattle.jc_tree.specs.declared.expression.Expr.{Expr, Expr-F, fold-Expr}
+use Rattle.jc_tree.specs.declared.expression.Expr.{Expr, Expr-F, fold-Expr, out-Expr}
 use Rattle.jc_tree.specs.declared.expression.Operand.{Operand, Operand-F, fold-Operand}
 use Rattle.jc_tree.specs.declared.expression.Creation.{Creation, Creation-F, fold-Creation}
 use Rattle.jc_tree.specs.declared.expression.ArrayInit.{ArrayInit, ArrayInit-F, fold-ArrayInit}
@@ -160,6 +160,15 @@ operand_height node = fold-Operand ℕ ℕ ℕ ℕ ℕ creation_step expr_step i
 unfoldable pub array_height : ArrayInit → ℕ
 array_height node = fold-ArrayInit ℕ ℕ ℕ ℕ ℕ creation_step expr_step init_step operand_step array_step node
 
+-- of an expression that stands as a statement: an assignment and a chain of prefix operators lie as deep as their operands
+abbrev pub effect_over : Expr-F Creation Expr Init Operand ArrayInit → ℕ → ℕ
+effect_over (Expr-F.Assign target op value) n = max (expr_height target) (expr_height value)
+effect_over (Expr-F.Prefix first more operand) n = expr_height operand
+effect_over _ n = n
+
+abbrev pub effect_height : Expr → ℕ
+effect_height node = effect_over (out-Expr node) (expr_height node)
+
 abbrev pub value_step : AnnotationValue-F ℕ → ℕ
 value_step (AnnotationValue-F.Value it) = expr_height it
 value_step (AnnotationValue-F.List at values trailing) = suc (most values)
@@ -206,10 +215,10 @@ method_height node = max (max (max (max (most (map modifier_height node.modifier
 
 abbrev pub for_init_height : ForInit → ℕ
 for_init_height (anForInit.Local it) = local_height it
-for_init_height (anForInit.Effects it) = most (map expr_height it)
+for_init_height (anForInit.Effects it) = most (map effect_height it)
 
 abbrev pub for_height : ForHead → ℕ
-for_height (anForHead.Basic init test update) = max (max (for_init_height init) (in_some expr_height test)) (most (map expr_height update))
+for_height (anForHead.Basic init test update) = max (max (for_init_height init) (in_some expr_height test)) (most (map effect_height update))
 for_height (anForHead.Enhanced modifiers ty name dims iterable) = max (max (most (map modifier_height modifiers)) (type_height ty)) (expr_height iterable)
 
 abbrev pub resource_height : Resource → ℕ
@@ -238,7 +247,7 @@ stmt_step (Stmt-F.Local it) = suc (local_height it)
 stmt_step (Stmt-F.Declared it) = it
 stmt_step (Stmt-F.Block at items) = suc (most items)
 stmt_step (Stmt-F.Empty at) = suc 0
-stmt_step (Stmt-F.Effect it) = suc (expr_height it)
+stmt_step (Stmt-F.Effect it) = suc (effect_height it)
 stmt_step (Stmt-F.Labeled label body) = suc body
 stmt_step (Stmt-F.If arms otherwise) = suc (max (most arms) (most otherwise))
 stmt_step (Stmt-F.While at test body) = suc (max (expr_height test) body)

@@ -1,5 +1,5 @@
 ghost use Rattle.std.specs.Prelude.{◌≡◌, map};
-ghost use Rattle.jc_tree.specs.Heights.{array_height, capped, creation_height, expr_height, in_some, init_height, most, operand_height, skip_height, skip_part_height};
+ghost use Rattle.jc_tree.specs.Heights.{array_height, capped, creation_height, effect_height, expr_height, in_some, init_height, most, operand_height, skip_height, skip_part_height};
 
 use super::types::{args_height, base_height, class_height, type_height};
 use crate::{ArrayInit, Creation, Expr, Init, Operand, Skip, SkipPart};
@@ -114,6 +114,29 @@ pub fn exprs_height(nodes: &[Expr]) -> u32
     let mut most = 0;
     for node in nodes {
         most = most.max(expr_height(node));
+    }
+    most
+}
+
+#[tactic(auto, using(crate::proofs::Opened::expressions))]
+pub fn effect_height(node: &Expr) -> u32
+    ensures { result ≡ capped (effect_height node.now) }
+{
+    match node {
+        Expr::Assign { target, value, .. } => expr_height(target.get()).max(expr_height(
+            value.get(),
+        )),
+        Expr::Prefix { operand, .. } => expr_height(operand.get()),
+        _ => expr_height(node),
+    }
+}
+
+pub fn effects_height(nodes: &[Expr]) -> u32
+    ensures { result ≡ capped (most (map effect_height nodes.now)) }
+{
+    let mut most = 0;
+    for node in nodes {
+        most = most.max(effect_height(node));
     }
     most
 }

@@ -2,7 +2,7 @@ ghost use Rattle.std.specs.Prelude.{◌≡◌, map, List};
 ghost use Rattle.jc_tree.specs.Heights.{annotation_height, capped, clause_head_height, for_height, for_init_height, formal_height, head_height, in_some, local_height, method_height, modifier_height, most, pair_height, param_height, params_of_height, resource_height, resources_of_height, result_height, value_height, var_height};
 ghost use Rattle.jc_tree.specs.declared.statement.Pair.{Pair};
 
-use super::expressions::{expr_height, exprs_height, some_expr_height, some_init_height};
+use super::expressions::{effects_height, expr_height, some_expr_height, some_init_height};
 use super::types::{class_height, classes_height, some_class_height, type_height};
 use crate::{
     Annotation, AnnotationValue, ClauseHead, DeclarationHead, ForHead, ForInit, Formal, LocalVars,
@@ -214,7 +214,7 @@ pub fn for_init_height(node: &ForInit) -> u32
 {
     match node {
         ForInit::Local(it) => local_height(it),
-        ForInit::Effects(it) => exprs_height(it.slice()),
+        ForInit::Effects(it) => effects_height(it.slice()),
     }
 }
 
@@ -224,7 +224,7 @@ pub fn for_height(node: &ForHead) -> u32
     match node {
         ForHead::Basic { init, test, update } => for_init_height(init)
             .max(some_expr_height(test))
-            .max(exprs_height(update.slice())),
+            .max(effects_height(update.slice())),
         ForHead::Enhanced {
             modifiers,
             ty,

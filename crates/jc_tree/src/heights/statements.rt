@@ -1,7 +1,7 @@
 ghost use Rattle.std.specs.Prelude.{◌≡◌, map};
 ghost use Rattle.jc_tree.specs.Heights.{capped, clause_height, declaration_height, member_height, most, source_height, stmt_height, top_height};
 
-use super::expressions::{expr_height, exprs_height, some_expr_height};
+use super::expressions::{effect_height, expr_height, exprs_height, some_expr_height};
 use super::parts::{
     clause_head_height, for_height, head_height, local_height, method_height,
     some_resources_of_height,
@@ -45,7 +45,7 @@ pub fn stmt_height(node: &Stmt) -> u32
         Stmt::Declared(it) => declaration_height(it),
         Stmt::Block { items, .. } => stmts_height(items.slice()).saturating_add(1),
         Stmt::Empty { .. } => 1,
-        Stmt::Effect(it) => expr_height(it).saturating_add(1),
+        Stmt::Effect(it) => effect_height(it).saturating_add(1),
         Stmt::Labeled { body, .. } => stmt_height(body.get()).saturating_add(1),
         Stmt::If { arms, otherwise } => clauses_height(arms.slice())
             .max(stmts_height(otherwise.slice()))

@@ -1,8 +1,9 @@
 use Rattle.std.proofs.Common.{◌≡◌, drop, []}
 use Rattle.jc_small.specs.declared.reading.Point.TheVariants.{Head}
 use Rattle.jc_small.specs.Parse.{run}
+use Rattle.jc_small.specs.Small.{kinds}
 use Rattle.jc_small.proofs.reading.read_program.Given as goal
 
--- the lexemes that are left give the same program
+-- the tokens that are left give the same program
 abbrev pub invariant-loop-t : goal.invariant-loop-t
-invariant-loop-t l = run (drop l.t-index l.tokens) l.point l.done l.now ≡ run l.tokens (Head 0) [] []
+invariant-loop-t l = run (kinds (drop l.t-index l.tokens)) l.point l.done l.now ≡ run (kinds l.tokens) (Head 0) [] []

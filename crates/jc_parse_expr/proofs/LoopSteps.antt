@@ -1,0 +1,193 @@
+-- The loops of operands, turn by turn, and how many tokens are left behind what is read.
+use Rattle.std.proofs.Common.{◌≡◌, ℕ, zero, suc, ◌+◌, ◌-◌, ◌<◌, ◌≤◌, min, max, Bool, true, false, cond, List, [], ◌∷◌, ◌++◌, map, length, refl, sym, ap, ◌∙◌, subst, arith}
+use Rattle.jc_lexer.specs.declared.token.Key.TheVariants as key_of
+use Rattle.jc_lexer.specs.declared.token.Sign.TheVariants as sign_of
+use Rattle.jc_lexer.specs.declared.token.Token.{Token}
+use Rattle.jc_tree.specs.declared.types.TypeTree.{TypeTree}
+use Rattle.jc_tree.specs.declared.expression.AssignOp.{AssignOp}
+use Rattle.jc_tree.specs.declared.expression.BinaryOp.{BinaryOp}
+use Rattle.jc_tree.specs.declared.expression.PrefixOp.{PrefixOp}
+use Rattle.jc_tree.specs.declared.expression.Expr.{Expr}
+use Rattle.jc_tree.specs.declared.expression.Operand.{Operand}
+use Rattle.jc_tree.specs.declared.expression.Operand.TheVariants as operand_of
+use Rattle.jc_tree.specs.Heights.{capped, most, expr_height, operand_height}
+use Rattle.jc_reading.specs.Kinds.{key_code, sign_code, one_of}
+use Rattle.jc_reading.specs.Reading.{Read, Found, Stopped, Run, becoming, as_new, found, in_turn, behind_it, times, any_number, Either, This, That, either, of_kind, at_kind, picks, picks_at}
+use Rattle.jc_reading.proofs.Steps.{Within, Good, within_becoming}
+use Rattle.jc_reading.proofs.Turns.{resume, Resumes, Advances, loop_first, loop_next, loop_stop, loop_shorter}
+use Rattle.jc_parse_type.specs.TypeReading.{type_run}
+use Rattle.jc_parse_type.proofs.CodeSteps.{within_type}
+use Rattle.jc_parse_expr.specs.declared.measured.Measured.{Measured}
+use Rattle.jc_parse_expr.specs.Measuring.{measured, measured_operands, of_height}
+use Rattle.jc_expr_laws.specs.LevelReading.{assign_run, prefix_op_run, picks_prefix, less_run}
+use Rattle.jc_expr_laws.specs.CompareReading.{Comparison, comparison_run, barring, barred, behind_part, ends_open_type, next_comparison_run, comparisons_run, compared_operand, touched_before}
+use Rattle.jc_parse_expr.specs.declared.operators.Level.{Level}
+use Rattle.jc_parse_expr.specs.declared.operators.Level.TheVariants as level_of
+use Rattle.jc_parse_expr.specs.BinaryLevels.{levels_at, operand_run, operands_run, tighter_run, measured_operand, next_operand_run, ends_open, open_over, cast_type_run, then_run}
+use Rattle.jc_parse_expr.proofs.CodeFacts.{operand_steps, operator_steps, turn_advances, within_expr, within_level, rest_within}
+use Rattle.jc_expr_laws.proofs.LevelAssignOps.{assign_op_laws}
+use Rattle.jc_parse_expr.proofs.MeasuredRead.{measured_found, measured_stopped, found_measured}
+use Rattle.jc_parse_expr.proofs.PairSteps.{made_found, made_stops}
+use Rattle.jc_parse_expr.proofs.Picks.{picking_steps, within_many}
+use Rattle.jc_parse_expr.proofs.CastCode.{within_typed}
+use Rattle.jc_parse_expr.proofs.LinkTurns.{link_resume, LinkResumes, link_first, link_next, link_stop}
+
+-- tokens that are left
+
+pub measured_rest : (k : ℕ) (m : Read Expr) (v : Measured Expr) (r : List Token) (l : ℕ) → Within k m → becoming measured m ≡ Found v r l → length r ≤ k
+measured_rest k m v r l w e = (rest_within k m v.tree r l w (measured_found expr_height m v r l e).0).1
+
+pub then_rest : (h : ℕ) (ts : List Token) (v : Measured Expr) (r : List Token) (l : ℕ) → becoming measured (then_run (levels_at h) ts) ≡ Found v r l → length r ≤ length ts
+then_rest h ts v r l e =
+    let w = (turn_advances (Unit {0}) Expr (of_kind (sign_code sign_of.Question)) (levels_at h).expr (picking_steps (Unit {0}) (picks (sign_code sign_of.Question))) (within_expr h)).within ts in
+    measured_rest (length ts) (then_run (levels_at h) ts) v r l (within_becoming (length ts) behind_it (in_turn (of_kind (sign_code sign_of.Question)) (levels_at h).expr ts) w) e
+
+pub assign_rest : (ts : List Token) (op : AssignOp) (r : List Token) (l : ℕ) → assign_run ts ≡ Found op r l → length r ≤ length ts
+assign_rest ts op r l e = (rest_within (length ts) (assign_run ts) op r l (assign_op_laws.within ts) e).1
+
+pub kind_rest : (code : ℕ) (ts q : List Token) → of_kind code ts ≡ found tt q → length q ≤ length ts
+kind_rest code ts q e = (rest_within (length ts) (of_kind code ts) tt q (length q) ((picking_steps (Unit {0}) (picks code)).within ts) e).1
+
+pub place_rest : (code : ℕ) (ts q : List Token) (at : ℕ) → at_kind code ts ≡ found at q → length q ≤ length ts
+place_rest code ts q at e = (rest_within (length ts) (at_kind code ts) at q (length q) ((picking_steps ℕ (picks_at code)).within ts) e).1
+
+pub ops_rest : (ts : List Token) (list : List PrefixOp) (r : List Token) (l : ℕ) → any_number prefix_op_run ts ≡ Found list r l → length r ≤ length ts
+ops_rest ts list r l e = (rest_within (length ts) (any_number prefix_op_run ts) list r l (within_many PrefixOp prefix_op_run (picking_steps PrefixOp picks_prefix) ts) e).1
+
+pub cast_type_rest : (h : ℕ) (ts : List Token) (ty : TypeTree) (r : List Token) (l : ℕ) → cast_type_run h ts ≡ Found ty r l → length r ≤ length ts
+cast_type_rest h ts ty r l e = (rest_within (length ts) (cast_type_run h ts) ty r l (within_becoming (length ts) _ _ (within_typed h ts)) e).1
+
+-- heights of rows
+
+pub row_height : List Operand → ℕ
+row_height list = most (map operand_height list)
+
+pub none_tall : (n : ℕ) (list : List Operand) → n ≡ 0 → list ≡ [] → n ≡ (measured_operands list).height
+none_tall n list e f = e ∙ (let z : 0 ≡ capped 0 = omega arith in z) ∙ ap (λ (l : List Operand). capped (most (map operand_height l))) (sym f)
+
+most_more : (list : List Operand) (o : Operand) → most (map operand_height (list ++ o ∷ [])) ≡ max (most (map operand_height list)) (operand_height o)
+most_more [] o = omega arith
+most_more (x ∷ xs) o = let e = most_more xs o in omega (arith, e)
+
+pub more_tall : (n k j : ℕ) (list new : List Operand) (o : Operand) → n ≡ (measured_operands list).height → k ≡ capped (operand_height o) → j ≡ max n k → new ≡ list ++ o ∷ [] → j ≡ (measured_operands new).height
+more_tall n k j list new o e f g i =
+    let m = most_more list o in
+    let t : j ≡ capped (most (map operand_height (list ++ o ∷ []))) = omega (arith, m, e, f, g) in
+    t ∙ ap (λ (l : List Operand). capped (most (map operand_height l))) (sym i)
+
+pub row_measured : (whole : Read (List Operand)) (row : Measured (List Operand)) (r : List Token) (l : ℕ) → whole ≡ Found row.tree r l → row.height ≡ (measured_operands row.tree).height → becoming measured_operands whole ≡ Found row r l
+row_measured whole row r l e f = ap (becoming measured_operands) e ∙ ap (λ (n : ℕ). Found (record { tree = row.tree; height = n }) r l) (sym f)
+
+-- operands of one level
+
+pub plain_operands : (level : Level) (h : ℕ) (next : Run Expr) → (level ≡ level_of.Compared → ⊥) → operands_run level h next ≡ any_number (operand_run level next)
+plain_operands level_of.OrElse h next e = refl
+plain_operands level_of.AndAlso h next e = refl
+plain_operands level_of.Or h next e = refl
+plain_operands level_of.Xor h next e = refl
+plain_operands level_of.And h next e = refl
+plain_operands level_of.Equal h next e = refl
+plain_operands level_of.Compared h next e = absurd (e refl)
+plain_operands level_of.Shift h next e = refl
+plain_operands level_of.Plus h next e = refl
+plain_operands level_of.Times h next e = refl
+
+module _ (level : Level) (h : ℕ) where
+  abbrev One : Run Operand
+  One = operand_run level (tighter_run level (levels_at h))
+
+  pub row_first : (ts : List Token) (list : List Operand) → list ≡ [] → Resumes (any_number One ts) list (length ts) One ts
+  row_first ts list e =
+      let s = loop_first Operand One (operand_steps level h) ts in
+      (s.0, s.1, s.2 ∙ ap (λ (l : List Operand). resume l (length ts) (times s.0 One ts)) (sym e))
+
+  pub row_shorter : (ts q : List Token) (v : Measured Operand) (l : ℕ) → becoming measured_operand (One ts) ≡ Found v q l → length q < length ts
+  row_shorter ts q v l e = loop_shorter Operand One (operand_steps level h) ts q v.tree l (measured_found operand_height (One ts) v q l e).0
+
+  pub row_next : (whole : Read (List Operand)) (list new : List Operand) (left near : ℕ) (ts q : List Token) (v : Measured Operand) (l : ℕ) → Resumes whole list left One ts → becoming measured_operand (One ts) ≡ Found v q l → new ≡ list ++ v.tree ∷ [] → near ≡ min left l → Resumes whole new near One q
+  row_next whole list new left near ts q v l s e f g =
+      subst (λ (x : List Operand). Resumes whole x near One q) (sym f)
+      (subst (λ (j : ℕ). Resumes whole (list ++ v.tree ∷ []) j One q) (sym g)
+      (loop_next Operand One (operand_steps level h) whole list left ts q v.tree l s (measured_found operand_height (One ts) v q l e).0))
+
+  pub row_stop : (whole : Read (List Operand)) (row : Measured (List Operand)) (left near : ℕ) (ts : List Token) (l : ℕ) → Resumes whole row.tree left One ts → becoming measured_operand (One ts) ≡ Stopped l → row.height ≡ (measured_operands row.tree).height → near ≡ min left l → becoming measured_operands whole ≡ Found row ts near
+  row_stop whole row left near ts l s e f g =
+      row_measured whole row ts near (loop_stop Operand One (operand_steps level h) whole row.tree left ts l s (measured_stopped operand_height (One ts) l e) ∙ ap (λ (j : ℕ). Found row.tree ts j) (sym g)) f
+
+-- comparisons
+
+either_steps : (A B : Type 0) (codes : List ℕ) (m : Run A) (n : Run B) → Advances A m → Advances B n → Advances (Either A B) (either codes m n)
+either_steps A B codes m n v w = record { within = λ ts. within_pick ts (one_of codes ts); shorter = λ ts. shorter_pick ts (one_of codes ts) }
+  where
+    within_pick : (ts : List Token) (b : Bool) → Within (length ts) (cond b (becoming This (m ts)) (becoming {B = Either A B} That (n ts)))
+    within_pick ts true = within_becoming (length ts) This (m ts) (v.within ts)
+    within_pick ts false = within_becoming (length ts) That (n ts) (w.within ts)
+
+    shorter_made : {X : Type 0} (f : X → Either A B) (k : ℕ) (x : Read X) → Good (λ a r. length r < k) x → Good (λ a r. length r < k) (becoming f x)
+    shorter_made f k (Found a r l) g = g
+    shorter_made f k (Stopped l) g = tt
+
+    shorter_pick : (ts : List Token) (b : Bool) → Good (λ a r. length r < length ts) (cond b (becoming This (m ts)) (becoming {B = Either A B} That (n ts)))
+    shorter_pick ts true = shorter_made This (length ts) (m ts) (v.shorter ts)
+    shorter_pick ts false = shorter_made That (length ts) (n ts) (w.shorter ts)
+
+barring_steps : (A : Type 0) (codes : List ℕ) (m : Run A) → Advances A m → Advances A (barring codes m)
+barring_steps A codes m v = record { within = λ ts. within_bar ts (one_of codes ts); shorter = λ ts. shorter_bar ts (one_of codes ts) }
+  where
+    within_bar : (ts : List Token) (b : Bool) → Within (length ts) (cond b (Stopped (length ts)) (m ts))
+    within_bar ts true = omega arith
+    within_bar ts false = v.within ts
+
+    shorter_bar : (ts : List Token) (b : Bool) → Good (λ a r. length r < length ts) (cond b (Stopped (length ts)) (m ts))
+    shorter_bar ts true = tt
+    shorter_bar ts false = v.shorter ts
+
+module _ (h : ℕ) where
+  abbrev Shift : Run Expr
+  Shift = (levels_at h).shift
+
+  comparison_steps : (opened touched : Bool) → Advances Comparison (next_comparison_run h Shift opened touched)
+  comparison_steps opened touched =
+      barring_steps Comparison (barred opened touched) (comparison_run h Shift)
+      (either_steps (Unit {0} × TypeTree) (BinaryOp × Expr) (key_code key_of.Instanceof ∷ []) (in_turn (of_kind (key_code key_of.Instanceof)) (type_run h)) (in_turn less_run Shift)
+      (turn_advances (Unit {0}) TypeTree (of_kind (key_code key_of.Instanceof)) (type_run h) (picking_steps (Unit {0}) (picks (key_code key_of.Instanceof))) (within_type h))
+      (turn_advances BinaryOp Expr less_run Shift (operator_steps level_of.Compared) (within_level level_of.Shift h)))
+
+  abbrev Part : Bool → Bool → Run Comparison
+  Part = next_comparison_run h Shift
+
+  abbrev pub Whole : List Token → Read (List Operand)
+  Whole ts = operands_run level_of.Compared h Shift ts
+
+  open_same : (p : Comparison) → ends_open (compared_operand p) ≡ ends_open_type p
+  open_same (This (u, ty)) = ap open_over (operand_of.outs-InstanceOf ty)
+  open_same (That (op, e)) = ap open_over (operand_of.outs-Binary op e)
+
+  pub link_begin : (ts : List Token) (list : List Operand) → list ≡ [] → LinkResumes compared_operand behind_part Part (Whole ts) list (length ts) false false ts
+  unfolding comparisons_run
+  link_begin ts list e =
+      let s = link_first compared_operand behind_part Part comparison_steps false false ts in
+      subst (λ (l : List Operand). LinkResumes compared_operand behind_part Part (Whole ts) l (length ts) false false ts) (sym e) s
+
+  pub link_shorter : (opened touched : Bool) (ts q : List Token) (v : Measured Operand) (l : ℕ) → becoming measured_operand (next_operand_run h Shift opened touched ts) ≡ Found v q l → length q < length ts
+  link_shorter opened touched ts q v l e =
+      let p = made_found compared_operand (Part opened touched ts) v.tree q l (measured_found operand_height (next_operand_run h Shift opened touched ts) v q l e).0 in
+      loop_shorter Comparison (Part opened touched) (comparison_steps opened touched) ts q p.0 l p.1
+
+  pub link_turn : (whole : Read (List Operand)) (list new : List Operand) (left near : ℕ) (opened touched opened' touched' : Bool) (ts q : List Token) (v : Measured Operand) (l : ℕ) → LinkResumes compared_operand behind_part Part whole list left opened touched ts → becoming measured_operand (next_operand_run h Shift opened touched ts) ≡ Found v q l → new ≡ list ++ v.tree ∷ [] → near ≡ min left l → opened' ≡ ends_open v.tree → touched' ≡ touched_before ts (length q) → LinkResumes compared_operand behind_part Part whole new near opened' touched' q
+  link_turn whole list new left near opened touched opened' touched' ts q v l s e f g i j =
+      let p = made_found compared_operand (Part opened touched ts) v.tree q l (measured_found operand_height (next_operand_run h Shift opened touched ts) v q l e).0 in
+      let lt = loop_shorter Comparison (Part opened touched) (comparison_steps opened touched) ts q p.0 l p.1 in
+      let n = link_next compared_operand behind_part Part whole list left opened touched ts q p.0 l s p.1 lt in
+      let o : opened' ≡ ends_open_type p.0 = i ∙ ap ends_open (sym p.2) ∙ open_same p.0 in
+      let w : new ≡ list ++ compared_operand p.0 ∷ [] = f ∙ ap (λ (x : Operand). list ++ x ∷ []) (sym p.2) in
+      subst (λ (x : List Operand). LinkResumes compared_operand behind_part Part whole x near opened' touched' q) (sym w)
+      (subst (λ (k : ℕ). LinkResumes compared_operand behind_part Part whole (list ++ compared_operand p.0 ∷ []) k opened' touched' q) (sym g)
+      (subst (λ (b : Bool). LinkResumes compared_operand behind_part Part whole (list ++ compared_operand p.0 ∷ []) (min left l) b touched' q) (sym o)
+      (subst (λ (b : Bool). LinkResumes compared_operand behind_part Part whole (list ++ compared_operand p.0 ∷ []) (min left l) (ends_open_type p.0) b q) (sym j) n)))
+
+  pub link_end : (whole : Read (List Operand)) (row : Measured (List Operand)) (left near : ℕ) (opened touched : Bool) (ts : List Token) (l : ℕ) → LinkResumes compared_operand behind_part Part whole row.tree left opened touched ts → becoming measured_operand (next_operand_run h Shift opened touched ts) ≡ Stopped l → row.height ≡ (measured_operands row.tree).height → near ≡ min left l → becoming measured_operands whole ≡ Found row ts near
+  link_end whole row left near opened touched ts l s e f g =
+      let stop = made_stops compared_operand (Part opened touched ts) l (measured_stopped operand_height (next_operand_run h Shift opened touched ts) l e) in
+      let w : l ≤ length ts = subst (λ (x : Read Comparison). Within (length ts) x) stop ((comparison_steps opened touched).within ts) in
+      row_measured whole row ts near (link_stop compared_operand behind_part Part whole row.tree left opened touched ts l s stop w ∙ ap (λ (j : ℕ). Found row.tree ts j) (sym g)) f

@@ -1,0 +1,54 @@
+-- Trees with their heights, which are counted as the trees are built.
+use Rattle.std.specs.Prelude.{ℕ, List, map}
+use Rattle.jc_tree.specs.declared.expression.ArrayInit.{ArrayInit}
+use Rattle.jc_tree.specs.declared.expression.Creation.{Creation}
+use Rattle.jc_tree.specs.declared.expression.Expr.{Expr}
+use Rattle.jc_tree.specs.declared.expression.Init.{Init}
+use Rattle.jc_tree.specs.declared.expression.Operand.{Operand}
+use Rattle.jc_tree.specs.declared.expression.Skip.{Skip}
+use Rattle.jc_tree.specs.declared.expression.SkipPart.{SkipPart}
+use Rattle.jc_tree.specs.declared.types.TypeArg.{TypeArg}
+use Rattle.jc_tree.specs.Heights.{capped, most, arg_height, array_height, creation_height, expr_height, init_height, operand_height, skip_height, skip_part_height}
+use Rattle.jc_parse_expr.specs.declared.measured.Measured.{Measured}
+
+-- a tree of a height
+abbrev pub of_height : {A : Type 0} → A → ℕ → Measured A
+of_height tree n = record { tree = tree; height = capped n }
+
+abbrev pub measured : Expr → Measured Expr
+measured e = of_height e (expr_height e)
+
+abbrev pub measured_array : ArrayInit → Measured ArrayInit
+measured_array array = of_height array (array_height array)
+
+abbrev pub measured_init : Init → Measured Init
+measured_init init = of_height init (init_height init)
+
+abbrev pub measured_creation : Creation → Measured Creation
+measured_creation creation = of_height creation (creation_height creation)
+
+abbrev pub measured_skip : Skip → Measured Skip
+measured_skip skip = of_height skip (skip_height skip)
+
+abbrev pub measured_part : SkipPart → Measured SkipPart
+measured_part part = of_height part (skip_part_height part)
+
+-- lists, by the greatest height of what stands in them
+
+abbrev pub measured_all : List Expr → Measured (List Expr)
+measured_all list = of_height list (most (map expr_height list))
+
+abbrev pub measured_inits : List Init → Measured (List Init)
+measured_inits list = of_height list (most (map init_height list))
+
+abbrev pub measured_operands : List Operand → Measured (List Operand)
+measured_operands list = of_height list (most (map operand_height list))
+
+abbrev pub measured_skips : List Skip → Measured (List Skip)
+measured_skips list = of_height list (most (map skip_height list))
+
+abbrev pub measured_parts : List SkipPart → Measured (List SkipPart)
+measured_parts list = of_height list (most (map skip_part_height list))
+
+abbrev pub measured_args : List TypeArg → Measured (List TypeArg)
+measured_args list = of_height list (most (map arg_height list))

@@ -1,0 +1,8 @@
+pub mod AnnotationForms
+pub mod Bools
+pub mod ExprForms
+pub mod FormalForms
+pub mod HeadForms
+pub mod ModifierForms
+pub mod PartForms
+pub mod Rows

@@ -1,0 +1,1 @@
+Map<String, ? extends List<int[]>>.Entry[] x

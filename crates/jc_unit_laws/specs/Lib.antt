@@ -1,0 +1,3 @@
+pub mod MemberReading
+pub mod UnitAnswers
+pub mod UnitReading
