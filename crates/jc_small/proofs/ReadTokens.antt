@@ -121,9 +121,9 @@ run_writes ((n ∷ ns) ∷ program) done sums =
     ∙ ap (λ (l : Program). Some l) (append_assoc done ((n ∷ ns) ∷ []) program)
 
 -- a program's tokens are read as that program
-pub run_words : (program : Program) → AllByRecursion IsSum program → run (program_kinds program) (Head 0) [] [] ≡ Some program
+pub run_kinds : (program : Program) → AllByRecursion IsSum program → run (program_kinds program) (Head 0) [] [] ≡ Some program
 unfolding run moved
-run_words program sums = run_writes program [] sums
+run_kinds program sums = run_writes program [] sums
 
 -- ---- what was read
 
@@ -167,14 +167,14 @@ Holds Semicolon done now = AllByRecursion IsSum done × IsSum now
 Holds LastBrace done now = AllByRecursion IsSum done
 Holds End done now = AllByRecursion IsSum done
 
-one_word : (a : Bool) (x m : Moved) → (if a then Some x else None) ≡ Some m → (a ≡ true) × (x ≡ m)
-one_word true x m e = (refl, cc)
-one_word false x m e = cc
+one_lexeme : (a : Bool) (x m : Moved) → (if a then Some x else None) ≡ Some m → (a ≡ true) × (x ≡ m)
+one_lexeme true x m e = (refl, cc)
+one_lexeme false x m e = cc
 
-two_words : (a b : Bool) (x y m : Moved) → (if a then Some x else (if b then Some y else None)) ≡ Some m → ((a ≡ true) × (x ≡ m)) ⊎ ((b ≡ true) × (y ≡ m))
-two_words true b x y m e = inl (refl, cc)
-two_words false true x y m e = inr (refl, cc)
-two_words false false x y m e = cc
+two_lexemes : (a b : Bool) (x y m : Moved) → (if a then Some x else (if b then Some y else None)) ≡ Some m → ((a ≡ true) × (x ≡ m)) ⊎ ((b ≡ true) × (y ≡ m))
+two_lexemes true b x y m e = inl (refl, cc)
+two_lexemes false true x y m e = inr (refl, cc)
+two_lexemes false false x y m e = cc
 
 -- what a point's lexeme does
 abbrev Steps : Point → TokenKind → Program → List ℕ → Moved → Type 0
@@ -194,20 +194,20 @@ sum_small (n ∷ ns) sum = sum
 
 step_statement : (t : TokenKind) (done : Program) (now : List ℕ) (m : Moved) → Holds Statement done now → moved Statement t ≡ Some m → Steps Statement t done now m
 unfolding moved
-step_statement t done now m holds e = by_which (two_words _ _ _ _ m e)
+step_statement t done now m holds e = by_which (two_lexemes _ _ _ _ m e)
   where
     by_which : ((is fixed_of.System t ≡ true) × (record { point = Write 0; effect = Nothing } ≡ m)) ⊎ ((is fixed_of.RightBrace t ≡ true) × (record { point = LastBrace; effect = Nothing } ≡ m)) → Steps Statement t done now m
     by_which (inl w) = rw (← w.1, same fixed_of.System t w.0) (holds, refl)
     by_which (inr w) = rw (← w.1, same fixed_of.RightBrace t w.0) (holds.0, refl)
 
 -- a fixed lexeme
-word_step : (words : List Fixed) (k : ℕ) (t : TokenKind) (p : Point) (m : Moved) → by_lexeme (slice_get words k) t p ≡ Some m
+lexeme_step : (words : List Fixed) (k : ℕ) (t : TokenKind) (p : Point) (m : Moved) → by_lexeme (slice_get words k) t p ≡ Some m
     → (k < length words) × (take (k + 1) (map kind_of_fixed words) ≡ take k (map kind_of_fixed words) ++ t ∷ []) × (record { point = p; effect = Nothing } ≡ m)
-word_step [] zero t p m e = cc
-word_step [] (suc k) t p m e = cc
-word_step (w ∷ ws) zero t p m e = let is = one_word (is w t) _ m e in (omega arith, rw (same w t is.0) refl, is.1)
-word_step (w ∷ ws) (suc k) t p m e =
-    let rest = word_step ws k t p m e in
+lexeme_step [] zero t p m e = cc
+lexeme_step [] (suc k) t p m e = cc
+lexeme_step (w ∷ ws) zero t p m e = let is = one_lexeme (is w t) _ m e in (omega arith, rw (same w t is.0) refl, is.1)
+lexeme_step (w ∷ ws) (suc k) t p m e =
+    let rest = lexeme_step ws k t p m e in
     (omega (arith, rest.0), rw add-one (ap (λ (l : List TokenKind). kind_of_fixed w ∷ l) (rw add-one at rest.1)), rest.2)
 
 step_head : (k : ℕ) (t : TokenKind) (done : Program) (now : List ℕ) (m : Moved) → Holds (Head k) done now → moved (Head k) t ≡ Some m → Steps (Head k) t done now m
@@ -216,11 +216,11 @@ step_head k t done now m holds e = by_last (k == 13) refl
   where
     by_last : (b : Bool) → (k == 13) ≡ b → Steps (Head k) t done now m
     by_last true at =
-        let is = word_step head k t Statement m (rw at at e) in
+        let is = lexeme_step head k t Statement m (rw at at e) in
         let last : k ≡ 13 = eqb-true k 13 at in
         rw (← is.2, holds.0, holds.1) ((tt, refl), sym (sym is.1 ∙ ap (λ (n : ℕ). take (n + 1) heads) last))
     by_last false at =
-        let is = word_step head k t (Head (k + 1)) m (rw at at e) in
+        let is = lexeme_step head k t (Head (k + 1)) m (rw at at e) in
         rw (← is.2) (holds, is.1)
 
 step_write : (k : ℕ) (t : TokenKind) (done : Program) (now : List ℕ) (m : Moved) → Holds (Write k) done now → moved (Write k) t ≡ Some m → Steps (Write k) t done now m
@@ -229,12 +229,12 @@ step_write k t done now m holds e = by_last (k == 4) refl
   where
     by_last : (b : Bool) → (k == 4) ≡ b → Steps (Write k) t done now m
     by_last true at =
-        let is = word_step write_rest k t Number m (rw at at e) in
+        let is = lexeme_step write_rest k t Number m (rw at at e) in
         let last : k ≡ 4 = eqb-true k 4 at in
         let full : take k rests ++ t ∷ [] ≡ rests = sym is.1 ∙ ap (λ (n : ℕ). take (n + 1) rests) last in
         rw (← is.2, holds.1) ((holds.0, tt), ap (λ (l : List TokenKind). written done ++ (kind_of_fixed fixed_of.System ∷ l)) (sym full) ∙ sym (append_assoc (written done) (kind_of_fixed fixed_of.System ∷ take k rests) (t ∷ [])))
     by_last false at =
-        let is = word_step write_rest k t (Write (k + 1)) m (rw at at e) in
+        let is = lexeme_step write_rest k t (Write (k + 1)) m (rw at at e) in
         rw (← is.2) (holds, ap (λ (l : List TokenKind). written done ++ (kind_of_fixed fixed_of.System ∷ l)) is.1 ∙ sym (append_assoc (written done) (kind_of_fixed fixed_of.System ∷ take k rests) (t ∷ [])))
 
 -- a lexeme behind an open write
@@ -256,7 +256,7 @@ plus_all (n ∷ ns) sum = plus_more n ns
 
 step_after : (t : TokenKind) (done : Program) (now : List ℕ) (m : Moved) → Holds AfterNumber done now → moved AfterNumber t ≡ Some m → Steps AfterNumber t done now m
 unfolding moved
-step_after t done now m holds e = by_which (two_words _ _ _ _ m e)
+step_after t done now m holds e = by_which (two_lexemes _ _ _ _ m e)
   where
     by_which : ((is fixed_of.Plus t ≡ true) × (record { point = Number; effect = Nothing } ≡ m)) ⊎ ((is fixed_of.RightParen t ≡ true) × (record { point = Semicolon; effect = Nothing } ≡ m)) → Steps AfterNumber t done now m
     by_which (inl w) = rw (← w.1, same fixed_of.Plus t w.0) (
@@ -272,7 +272,7 @@ flat_end (d ∷ done) now = ap (λ (l : List TokenKind). write_kinds d ++ l) (fl
 step_semicolon : (t : TokenKind) (done : Program) (now : List ℕ) (m : Moved) → Holds Semicolon done now → moved Semicolon t ≡ Some m → Steps Semicolon t done now m
 unfolding moved
 step_semicolon t done now m holds e =
-    let is = one_word _ _ m e in
+    let is = one_lexeme _ _ m e in
     let words = sum_kinds now ++ kind_of_fixed fixed_of.RightParen ∷ [] in
     let close : words ++ kind_of_fixed fixed_of.Semicolon ∷ [] ≡ sum_kinds now ++ (kind_of_fixed fixed_of.RightParen ∷ kind_of_fixed fixed_of.Semicolon ∷ []) = append_assoc (sum_kinds now) (kind_of_fixed fixed_of.RightParen ∷ []) (kind_of_fixed fixed_of.Semicolon ∷ []) in
     rw (← is.1, same fixed_of.Semicolon t is.0) (
@@ -285,7 +285,7 @@ step_semicolon t done now m holds e =
 step_last : (t : TokenKind) (done : Program) (now : List ℕ) (m : Moved) → Holds LastBrace done now → moved LastBrace t ≡ Some m → Steps LastBrace t done now m
 unfolding moved
 step_last t done now m holds e =
-    let is = one_word _ _ m e in
+    let is = one_lexeme _ _ m e in
     rw (← is.1, same fixed_of.RightBrace t is.0) (holds, sym (append_assoc (written done) (kind_of_fixed fixed_of.RightBrace ∷ []) (kind_of_fixed fixed_of.RightBrace ∷ [])))
 
 step_any : (p : Point) (t : TokenKind) (done : Program) (now : List ℕ) (m : Moved) → Holds p done now → moved p t ≡ Some m → Steps p t done now m
@@ -330,7 +330,7 @@ run_sound (t ∷ ts) p done now program holds e = by_move (moved p t) refl e (λ
 pub parsed : (tokens : List Token) (r : Result (Option Program) WantOfMemory) → length tokens ≤ 4096 → IfOk r (λ p. p ≡ run (kinds tokens) (Head 0) [] []) → IfOk r (λ p. MatchOption p (IsNoProgram tokens) (λ program. IsProgram tokens program))
 parsed tokens (Err e) short read = tt
 parsed tokens (Ok None) short read = λ program is.
-    let some : run (kinds tokens) (Head 0) [] [] ≡ Some program = ap (λ (l : List TokenKind). run l (Head 0) [] []) is.spelled ∙ run_words program is.sums in
+    let some : run (kinds tokens) (Head 0) [] [] ≡ Some program = ap (λ (l : List TokenKind). run l (Head 0) [] []) is.spelled ∙ run_kinds program is.sums in
     cc
 parsed tokens (Ok (Some program)) short read =
     let all = run_sound (kinds tokens) (Head 0) [] [] program (refl, refl) (sym read) in

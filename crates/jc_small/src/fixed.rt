@@ -6,7 +6,7 @@ ghost use Rattle.jc_small.specs.Lexemes.{is, is_key, is_sign, is_word};
 use jc_lexer::{Key, Sign, TokenKind};
 
 /// A lexeme of the small language that isn't a number.
-#[derive(Clone, Copy, Debug, PartialEq, Eq)]
+#[derive(Clone, Copy)]
 pub enum Fixed {
     Class,
     Public,
