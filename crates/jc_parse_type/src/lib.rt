@@ -7,4 +7,6 @@ mod reading;
 mod tests;
 
 pub use parsing::{TypeFound, type_at};
-pub use reading::{args_within, base_within, class_within, dims, more_args, primitive, type_within};
+pub use reading::{
+    args_within, base_within, class_within, dims, more_args, primitive, type_within,
+};
