@@ -58,3 +58,8 @@ abbrev pub Chosen : Found (Measured Expr) → Found (Measured Expr) → Result (
 Chosen test then (Ok other) result = AllThree test then other result
 Chosen test then (Err (halt_of.Stopped left)) result = Alone test (min then.left left) result
 Chosen test then (Err halt_of.WantOfMemory) result = Wants result
+
+-- a value alone, where no more stands behind what reaches so far
+abbrev pub LeftAlone : {A : Type 0} → Found A → ℕ → Halt → Result (Found A) Halt → Type 0
+LeftAlone first reach (halt_of.Stopped left) result = Alone first (min reach left) result
+LeftAlone first reach halt_of.WantOfMemory result = Wants result
