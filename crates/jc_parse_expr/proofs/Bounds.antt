@@ -1,5 +1,5 @@
 -- How many tokens are left behind what is read, and initialisers by what they begin with.
-use Rattle.std.proofs.Common.{◌≡◌, ℕ, ◌≤◌, Bool, true, false, List, [], ◌∷◌, length, refl, sym, ap, ◌∙◌}
+use Rattle.std.proofs.Common.{◌≡◌, ℕ, ◌≤◌, true, false, List, [], ◌∷◌, length, refl, ap, ◌∙◌}
 use Rattle.std.proofs.lemmas.Bool.{cond-true, cond-false}
 use Rattle.jc_lexer.specs.declared.token.Sign.TheVariants as sign_of
 use Rattle.jc_lexer.specs.declared.token.Token.{Token}
@@ -23,14 +23,13 @@ use Rattle.jc_expr_laws.specs.PrimeReading.{init_made, init_run}
 use Rattle.jc_expr_laws.proofs.LevelAssignOps.{assign_op_laws}
 use Rattle.jc_parse_expr.specs.declared.measured.Measured.{Measured}
 use Rattle.jc_parse_expr.specs.declared.operators.Level.{Level}
-use Rattle.jc_parse_expr.specs.declared.operators.Level.TheVariants as level_of
 use Rattle.jc_parse_expr.specs.Measuring.{measured, measured_array}
 use Rattle.jc_parse_expr.specs.BinaryLevels.{levels_at, level_run, measured_right, operator_run, prefixed_run, tighter_run}
 use Rattle.jc_parse_expr.proofs.CodeFacts.{operator_steps, rest_within, within_bare, within_conditional, within_expr, within_level, within_tighter}
 use Rattle.jc_parse_expr.proofs.LevelNears.{near_array_of}
 use Rattle.jc_parse_expr.proofs.LoopSteps.{measured_rest}
 use Rattle.jc_parse_expr.proofs.Nears.{Near, near_as, near_either, near_place}
-use Rattle.jc_parse_expr.proofs.MeasuredRead.{halts_by, measured_found, measured_halts, measured_stopped}
+use Rattle.jc_parse_expr.proofs.MeasuredRead.{halts_by, measured_found, measured_stopped}
 use Rattle.jc_parse_expr.proofs.PairSteps.{made_found}
 use Rattle.jc_parse_expr.proofs.Picks.{picking_steps, within_many}
 

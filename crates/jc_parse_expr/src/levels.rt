@@ -9,9 +9,7 @@ ghost use Rattle.jc_parse_expr.specs.BinaryLevels.{level_run, levels_at, measure
 ghost use Rattle.jc_parse_expr.specs.declared.operators.Level.TheVariants as level_of;
 
 use crate::Measured;
-use crate::built::{
-    alone, with_branches, with_operand, with_operands, with_right, with_value,
-};
+use crate::built::{alone, with_branches, with_operand, with_operands, with_right, with_value};
 use crate::compared::{ends_open, instance, is_barred, touched_before};
 use crate::operators::{Level, assign_op, operator, tighter_level};
 use crate::shapes::may_be_target;
@@ -80,7 +78,11 @@ pub fn conditional(
 
 /// A question mark and an expression.
 #[cycle(expressions)]
-fn first_branch(alloc: Global, tokens: &[Token], height: u32) -> Result<Found<'_, Measured<Expr>>, Halt>
+fn first_branch(
+    alloc: Global,
+    tokens: &[Token],
+    height: u32,
+) -> Result<Found<'_, Measured<Expr>>, Halt>
     requires { length tokens.now < 2 ^ 32 }
     ensures { Gives result (becoming measured (then_run (levels_at height) tokens.now)) }
 {

@@ -19,7 +19,11 @@ use std::alloc::Global;
 
 /// Prefix operators before an operand, or an operand alone.
 #[cycle(expressions)]
-pub fn unary(alloc: Global, tokens: &[Token], height: u32) -> Result<Found<'_, Measured<Expr>>, Halt>
+pub fn unary(
+    alloc: Global,
+    tokens: &[Token],
+    height: u32,
+) -> Result<Found<'_, Measured<Expr>>, Halt>
     requires { length tokens.now < 2 ^ 32 }
     ensures { Gives result (becoming measured ((levels_at height).unary tokens.now)) }
 {

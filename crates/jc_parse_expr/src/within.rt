@@ -133,10 +133,7 @@ fn changed<'a>(
 }
 
 /// A value that may stand as a statement.
-fn effect_alone<'a>(
-    value: Found<'a, Measured<Expr>>,
-    left: usize,
-) -> Result<Found<'a, Expr>, Halt>
+fn effect_alone<'a>(value: Found<'a, Measured<Expr>>, left: usize) -> Result<Found<'a, Expr>, Halt>
     ensures read { Gives result (cond (is_effect value.entry.value.tree) (read_found value.entry.value.tree value.entry.rest.now (min value.entry.left left)) (read_stopped (min value.entry.left left))) }
     ensures rest { IfOk result (λ f. f.rest.now ≡ value.entry.rest.now) }
 {

@@ -1,12 +1,11 @@
-use Rattle.std.proofs.Common.{◌≡◌, ◌+◌, ◌*◌, ◌-◌, ◌<◌, ◌≤◌, ◌^◌, ℕ, suc, min, max, List, [], ◌∷◌, ◌++◌, length, Ok, Err, refl, sym, ap, ◌∙◌, subst, arith, rules}
+use Rattle.std.proofs.Common.{◌≡◌, ◌-◌, min, max, [], ◌∷◌, ◌++◌, refl, sym, ap, ◌∙◌, subst, arith, rules}
 use Rattle.std.proofs.lemmas.Bool.Decides.{nat_tests}
 use Rattle.std.proofs.lemmas.Result.{err_from_is_err_and}
-use Rattle.jc_lexer.specs.declared.token.Key.TheVariants as key_of
 use Rattle.jc_lexer.specs.declared.token.Sign.TheVariants as sign_of
 use Rattle.jc_reading.specs.declared.reading.Halt.{Halt}
 use Rattle.jc_reading.specs.Giving.{Gives, Halts}
-use Rattle.jc_reading.specs.Kinds.{key_code, sign_code}
-use Rattle.jc_reading.specs.Reading.{Run, Read, Found, Stopped, as_new, becoming}
+use Rattle.jc_reading.specs.Kinds.{sign_code}
+use Rattle.jc_reading.specs.Reading.{Run, Read, Stopped, becoming}
 use Rattle.jc_tree.specs.declared.expression.Expr.{Expr}
 use Rattle.jc_tree.specs.declared.expression.Operand.{Operand}
 use Rattle.jc_tree.specs.Heights.{operand_height}
@@ -14,15 +13,15 @@ use Rattle.jc_expr_laws.specs.LevelReading.{cast_run, operand_for}
 use Rattle.jc_parse_expr.specs.declared.measured.Measured.{Measured}
 use Rattle.jc_parse_expr.specs.declared.operators.Level.{Level}
 use Rattle.jc_parse_expr.specs.declared.operators.Level.TheVariants as level_of
-use Rattle.jc_parse_expr.specs.BinaryLevels.{cast_made, level_run, levels_at, measured_operand, next_operand_run, operand_run, operands_run, otherwise_run, post_at, prefixed_run, then_run, tighter_run}
-use Rattle.jc_parse_expr.specs.Measuring.{measured, measured_operands}
+use Rattle.jc_parse_expr.specs.BinaryLevels.{cast_made, levels_at, measured_operand, next_operand_run, operand_run, post_at, then_run, tighter_run}
+use Rattle.jc_parse_expr.specs.Measuring.{measured}
 use Rattle.jc_parse_expr.proofs.BinarySteps.{binary_halts, binary_tall, conditional_halts, conditional_tall}
 use Rattle.jc_parse_expr.proofs.Bounds.{conditional_rest, level_rest, operator_rest, plain_rest, prefix_rest, tighter_rest}
 use Rattle.jc_parse_expr.proofs.CastCode.{bare_cast, bare_low, bare_post, cast_first, cast_halts}
 use Rattle.jc_parse_expr.proofs.ConditionalCode.{conditional_chosen, conditional_left, then_first, then_is}
 use Rattle.jc_parse_expr.proofs.JoinedSteps.{assigned_gives, binary_gives, cast_gives, expr_gives, operand_gives, prefixed_gives}
 use Rattle.jc_parse_expr.proofs.LevelCode.{assigned_first, otherwise_first, otherwise_is}
-use Rattle.jc_parse_expr.proofs.LoopSteps.{assign_rest, cast_type_rest, kind_rest, link_begin, link_end, link_shorter, link_turn, more_tall, none_tall, ops_rest, place_rest, plain_operands, row_first, row_next, row_shorter, row_stop, then_rest}
+use Rattle.jc_parse_expr.proofs.LoopSteps.{assign_rest, cast_type_rest, kind_rest, link_begin, link_end, link_shorter, link_turn, more_tall, none_tall, ops_rest, place_rest, row_first, row_next, row_shorter, row_stop, then_rest}
 use Rattle.jc_parse_expr.proofs.MeasuredRead.{measured_found}
 use Rattle.jc_parse_expr.proofs.OperandCode.{comparison_barred, comparison_binary, comparison_instance, operand_first}
 use Rattle.jc_parse_expr.proofs.PrefixCode.{plain_bare, plain_low, plain_prefix, unary_bare, unary_low, unary_prefix}
