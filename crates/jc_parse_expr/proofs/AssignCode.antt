@@ -1,9 +1,8 @@
 -- An assignment operator that is no single sign.
-use Rattle.std.proofs.Common.{◌≡◌, ℕ, false, cond, List, [], ◌∷◌, refl, ap, ◌∙◌}
+use Rattle.std.proofs.Common.{◌≡◌, ℕ, false, List, [], ◌∷◌, refl, ap, ◌∙◌}
 use Rattle.std.proofs.lemmas.Bool.{cond-false}
 use Rattle.jc_lexer.specs.declared.token.Sign.TheVariants as sign_of
 use Rattle.jc_lexer.specs.declared.token.Token.{Token}
-use Rattle.jc_tree.specs.declared.expression.AssignOp.{AssignOp}
 use Rattle.jc_reading.specs.Kinds.{sign_code, one_of}
 use Rattle.jc_reading.specs.Reading.{Read, Found, Stopped, Run, becoming, as_new, Either, This, That, either, of_kind}
 use Rattle.jc_expr_laws.specs.LevelReading.{Touched, assign_op, assign_run, touched_assign_run}

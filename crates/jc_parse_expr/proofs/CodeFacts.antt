@@ -1,7 +1,7 @@
 -- What the laws of the readers tell the code: how far they look, that they take tokens, and that what they find stands where it may.
-use Rattle.std.proofs.Common.{◌≡◌, ℕ, zero, suc, ◌+◌, ◌<◌, ◌≤◌, min, Bool, true, false, List, [], ◌∷◌, map, length, refl, sym, ap, ◌∙◌, subst, arith}
+use Rattle.std.proofs.Common.{◌≡◌, ℕ, zero, suc, ◌<◌, ◌≤◌, true, List, ◌∷◌, length, refl, subst, arith}
 use Rattle.std.specs.Prelude.{nat_le}
-use Rattle.std.proofs.lemmas.Bool.{and_left, and_parts}
+use Rattle.std.proofs.lemmas.Bool.{and_parts}
 use Rattle.jc_lexer.specs.declared.token.Sign.TheVariants as sign_of
 use Rattle.jc_lexer.specs.declared.token.Token.{Token}
 use Rattle.jc_tree.specs.declared.expression.BinaryOp.{BinaryOp}
@@ -10,9 +10,9 @@ use Rattle.jc_tree.specs.declared.expression.Operand.{Operand}
 use Rattle.jc_tree.specs.Heights.{expr_height}
 use Rattle.jc_grammar.specs.Shapes.{stands, expr_shape}
 use Rattle.jc_reading.specs.Kinds.{sign_code}
-use Rattle.jc_reading.specs.Reading.{Read, Found, Stopped, Run, noting, becoming, joined, ◌>>=◌, as_new, in_turn}
-use Rattle.jc_reading.proofs.Forms.{Form, Stands, Lawful}
-use Rattle.jc_reading.proofs.Steps.{Within, Good, within_becoming, within_bind, within_noting}
+use Rattle.jc_reading.specs.Reading.{Read, Found, Stopped, Run, noting, becoming, joined, ◌>>=◌, in_turn}
+use Rattle.jc_reading.proofs.Forms.{Form, Stands}
+use Rattle.jc_reading.proofs.Steps.{Within, Good, within_becoming, within_bind}
 use Rattle.jc_reading.proofs.Turns.{Advances, lawful_advances, as_advances}
 use Rattle.jc_expr_laws.specs.LevelReading.{operand_made}
 use Rattle.jc_expr_laws.specs.ExprReading.{readers}

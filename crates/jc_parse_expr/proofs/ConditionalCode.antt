@@ -1,28 +1,27 @@
 -- What the code reads of conditionals.
-use Rattle.std.proofs.Common.{◌≡◌, ℕ, suc, ◌-◌, ◌<◌, ◌^◌, min, Bool, true, false, cond, List, [], ◌∷◌, length, Result, Ok, Err, Some, None, refl, sym, ap, ◌∙◌, subst, ◌⊎◌, inl, inr, ⊎_elim}
+use Rattle.std.proofs.Common.{◌≡◌, ℕ, suc, ◌-◌, ◌<◌, ◌^◌, min, Bool, true, false, cond, List, [], ◌∷◌, length, Result, Ok, Err, Some, None, refl, sym, ap, ◌∙◌, ◌⊎◌, inl, inr}
 use Rattle.std.specs.Prelude.{◌==◌}
 use Rattle.jc_lexer.specs.declared.token.Sign.TheVariants as sign_of
 use Rattle.jc_lexer.specs.declared.token.Token.{Token}
 use Rattle.jc_tree.specs.declared.expression.Expr.{Expr}
-use Rattle.jc_tree.specs.Heights.{expr_height}
 use Rattle.jc_reading.specs.declared.reading.Found.{Found}
 use Rattle.jc_reading.specs.declared.reading.Halt.{Halt}
 use Rattle.jc_reading.specs.declared.reading.Halt.TheVariants as halt_of
-use Rattle.jc_reading.specs.Giving.{Gives, Halts, Is}
+use Rattle.jc_reading.specs.Giving.{Gives, Is}
 use Rattle.jc_reading.specs.Kinds.{kind_code, sign_code}
 use Rattle.jc_reading.specs.Reading.{Read, Run, becoming, joined, found, in_turn, of_kind, on_pick, behind_it}
 use Rattle.jc_reading.specs.Reading as reading
 use Rattle.jc_parse_expr.specs.declared.measured.Measured.{Measured}
 use Rattle.jc_parse_expr.specs.Measuring.{measured}
 use Rattle.jc_parse_expr.specs.Nodes.{conditional_node}
-use Rattle.jc_parse_expr.specs.After.{AllThree, Chosen, Alone}
+use Rattle.jc_parse_expr.specs.After.{Chosen, Alone}
 use Rattle.jc_parse_expr.specs.BinaryLevels.{levels_at, branches_run, otherwise_run, then_run, measured_branches}
 use Rattle.jc_parse_expr.proofs.CodeFacts.{within_expr}
 use Rattle.jc_parse_expr.proofs.PairSteps.{pair_far, pair_first}
 use Rattle.jc_parse_expr.proofs.CastCode.{stopped_same}
 use Rattle.jc_parse_expr.proofs.LevelCode.{branches_first, branches_halts, branches_found, branches_stop}
 use Rattle.jc_parse_expr.proofs.BinarySteps.{conditional_alone, conditional_branches}
-use Rattle.jc_parse_expr.proofs.JoinedSteps.{found_same, wants, stops}
+use Rattle.jc_parse_expr.proofs.JoinedSteps.{found_same, wants}
 
 abbrev M : Type 0
 M = Measured Expr

@@ -1,12 +1,12 @@
 -- What the code reads of expressions that may be statements.
-use Rattle.std.proofs.Common.{◌≡◌, ℕ, min, Bool, true, false, cond, List, Option, Some, None, refl, sym, ap, ◌∙◌}
+use Rattle.std.proofs.Common.{◌≡◌, ℕ, min, Bool, true, false, cond, List, Option, None, refl, ap, ◌∙◌}
 use Rattle.std.proofs.lemmas.Bool.{cond-true, cond-false}
 use Rattle.jc_lexer.specs.declared.token.Token.{Token}
 use Rattle.jc_tree.specs.declared.expression.AssignOp.{AssignOp}
 use Rattle.jc_tree.specs.declared.expression.PrefixOp.{PrefixOp}
 use Rattle.jc_tree.specs.declared.expression.Expr.{Expr}
 use Rattle.jc_tree.specs.declared.expression.Expr.TheVariants as expr_of
-use Rattle.jc_tree.specs.Heights.{capped, expr_height}
+use Rattle.jc_tree.specs.Heights.{expr_height}
 use Rattle.jc_grammar.specs.Shapes.{is_effect}
 use Rattle.jc_reading.specs.declared.reading.Halt.{Halt}
 use Rattle.jc_reading.specs.Giving.{Halts}

@@ -23,7 +23,7 @@ use Rattle.jc_expr_laws.specs.LevelReading.{assign_run, cast_run, operand_for, p
 use Rattle.jc_parse_expr.specs.Nodes.{binary_node, cast_node, chain_node, prefix_node}
 use Rattle.jc_parse_expr.specs.After.{After, Built, Joined, assign_right, pair_of}
 use Rattle.jc_parse_expr.specs.declared.operators.Level.{Level}
-use Rattle.jc_parse_expr.specs.BinaryLevels.{levels_at, level_run, tighter_run, operator_run, operand_run, operands_run, branches_run, otherwise_run, measured_branches, measured_right, measured_operand, prefixed_run, cast_type_run, cast_made}
+use Rattle.jc_parse_expr.specs.BinaryLevels.{levels_at, level_run, tighter_run, operator_run, operand_run, operands_run, measured_right, measured_operand, prefixed_run, cast_type_run, cast_made}
 use Rattle.jc_parse_expr.proofs.CodeFacts.{rest_within}
 use Rattle.jc_parse_expr.proofs.Picks.{picking_steps, within_many}
 use Rattle.jc_parse_expr.proofs.RungSteps.{expr_alone, expr_assigns}

@@ -1,22 +1,19 @@
 -- The readers of each height by those below, as the code goes from one to the other.
-use Rattle.std.proofs.Common.{◌≡◌, ℕ, zero, suc, ◌-◌, ◌<◌, ◌≤◌, Bool, true, false, cond, List, [], ◌∷◌, map, length, Option, Some, None, refl, sym, ap, ◌∙◌, subst, arith}
-use Rattle.jc_lexer.specs.declared.token.Key.TheVariants as key_of
-use Rattle.jc_lexer.specs.declared.token.Sign.TheVariants as sign_of
+use Rattle.std.proofs.Common.{◌≡◌, ℕ, zero, suc, ◌-◌, Bool, true, false, cond, List, [], ◌∷◌, map, length, Option, None, refl, ap, ◌∙◌, subst, arith}
 use Rattle.jc_lexer.specs.declared.token.Token.{Token}
 use Rattle.jc_tree.specs.declared.expression.AssignOp.{AssignOp}
 use Rattle.jc_tree.specs.declared.expression.BinaryOp.{BinaryOp}
 use Rattle.jc_tree.specs.declared.expression.Expr.{Expr}
-use Rattle.jc_tree.specs.declared.expression.Expr.TheVariants as expr_of
 use Rattle.jc_tree.specs.declared.expression.Operand.{Operand}
-use Rattle.jc_reading.specs.Reading.{Read, Found, Stopped, Run, found, noting, becoming, joined, as_new, in_turn, perhaps, any_number, times, ◌>>=◌}
-use Rattle.jc_reading.specs.Further.{unless, followed}
+use Rattle.jc_reading.specs.Reading.{Read, Found, Stopped, Run, found, noting, becoming, joined, as_new, in_turn, perhaps, any_number, ◌>>=◌}
+use Rattle.jc_reading.specs.Further.{unless}
 use Rattle.jc_reading.proofs.Turns.{times_as}
-use Rattle.jc_expr_laws.specs.LevelReading.{is_tall, no_target, operand_made, chain_made, chain_run, Branches, conditional_made, conditional_run, assign_made, assign_run, expr_run, next_levels, Levels}
+use Rattle.jc_expr_laws.specs.LevelReading.{is_tall, no_target, operand_made, chain_made, chain_run, Branches, conditional_made, conditional_run, assign_made, assign_run, expr_run, next_levels}
 use Rattle.jc_expr_laws.specs.CompareReading.{Comparison, compared_operand, compared_made, comparisons_run, compare_run}
 use Rattle.jc_expr_laws.specs.ExprReading.{next_readers, readers}
 use Rattle.jc_parse_expr.specs.declared.operators.Level.{Level}
 use Rattle.jc_parse_expr.specs.declared.operators.Level.TheVariants as level_of
-use Rattle.jc_parse_expr.specs.BinaryLevels.{levels_at, level_run, tighter_run, operator_run, operand_run, operands_run, chain_of, branches_run}
+use Rattle.jc_parse_expr.specs.BinaryLevels.{levels_at, level_run, tighter_run, operands_run, chain_of, branches_run}
 use Rattle.jc_parse_expr.proofs.Rungs.{Rung, rung_run}
 
 -- more that is made of others

@@ -1,5 +1,6 @@
 pub mod AssignCode
 pub mod BinarySteps
+pub mod Bounds
 pub mod CastCode
 pub mod CodeFacts
 pub mod CompareTurns

@@ -1,5 +1,5 @@
 -- The loops of operands, turn by turn, and how many tokens are left behind what is read.
-use Rattle.std.proofs.Common.{◌≡◌, ℕ, zero, suc, ◌+◌, ◌-◌, ◌<◌, ◌≤◌, min, max, Bool, true, false, cond, List, [], ◌∷◌, ◌++◌, map, length, refl, sym, ap, ◌∙◌, subst, arith}
+use Rattle.std.proofs.Common.{◌≡◌, ℕ, ◌<◌, ◌≤◌, min, max, Bool, true, false, cond, List, [], ◌∷◌, ◌++◌, map, length, refl, sym, ap, ◌∙◌, subst, arith}
 use Rattle.jc_lexer.specs.declared.token.Key.TheVariants as key_of
 use Rattle.jc_lexer.specs.declared.token.Sign.TheVariants as sign_of
 use Rattle.jc_lexer.specs.declared.token.Token.{Token}
@@ -12,13 +12,13 @@ use Rattle.jc_tree.specs.declared.expression.Operand.{Operand}
 use Rattle.jc_tree.specs.declared.expression.Operand.TheVariants as operand_of
 use Rattle.jc_tree.specs.Heights.{capped, most, expr_height, operand_height}
 use Rattle.jc_reading.specs.Kinds.{key_code, sign_code, one_of}
-use Rattle.jc_reading.specs.Reading.{Read, Found, Stopped, Run, becoming, as_new, found, in_turn, behind_it, times, any_number, Either, This, That, either, of_kind, at_kind, picks, picks_at}
+use Rattle.jc_reading.specs.Reading.{Read, Found, Stopped, Run, becoming, found, in_turn, behind_it, times, any_number, Either, This, That, either, of_kind, at_kind, picks, picks_at}
 use Rattle.jc_reading.proofs.Steps.{Within, Good, within_becoming}
 use Rattle.jc_reading.proofs.Turns.{resume, Resumes, Advances, loop_first, loop_next, loop_stop, loop_shorter}
 use Rattle.jc_parse_type.specs.TypeReading.{type_run}
 use Rattle.jc_parse_type.proofs.CodeSteps.{within_type}
 use Rattle.jc_parse_expr.specs.declared.measured.Measured.{Measured}
-use Rattle.jc_parse_expr.specs.Measuring.{measured, measured_operands, of_height}
+use Rattle.jc_parse_expr.specs.Measuring.{measured, measured_operands}
 use Rattle.jc_expr_laws.specs.LevelReading.{assign_run, prefix_op_run, picks_prefix, less_run}
 use Rattle.jc_expr_laws.specs.CompareReading.{Comparison, comparison_run, barring, barred, behind_part, ends_open_type, next_comparison_run, comparisons_run, compared_operand, touched_before}
 use Rattle.jc_parse_expr.specs.declared.operators.Level.{Level}
@@ -26,11 +26,11 @@ use Rattle.jc_parse_expr.specs.declared.operators.Level.TheVariants as level_of
 use Rattle.jc_parse_expr.specs.BinaryLevels.{levels_at, operand_run, operands_run, tighter_run, measured_operand, next_operand_run, ends_open, open_over, cast_type_run, then_run}
 use Rattle.jc_parse_expr.proofs.CodeFacts.{operand_steps, operator_steps, turn_advances, within_expr, within_level, rest_within}
 use Rattle.jc_expr_laws.proofs.LevelAssignOps.{assign_op_laws}
-use Rattle.jc_parse_expr.proofs.MeasuredRead.{measured_found, measured_stopped, found_measured}
+use Rattle.jc_parse_expr.proofs.MeasuredRead.{measured_found, measured_stopped}
 use Rattle.jc_parse_expr.proofs.PairSteps.{made_found, made_stops}
 use Rattle.jc_parse_expr.proofs.Picks.{picking_steps, within_many}
 use Rattle.jc_parse_expr.proofs.CastCode.{within_typed}
-use Rattle.jc_parse_expr.proofs.LinkTurns.{link_resume, LinkResumes, link_first, link_next, link_stop}
+use Rattle.jc_parse_expr.proofs.LinkTurns.{LinkResumes, link_first, link_next, link_stop}
 
 -- tokens that are left
 

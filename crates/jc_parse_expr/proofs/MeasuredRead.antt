@@ -5,7 +5,7 @@ use Rattle.jc_tree.specs.Heights.{capped}
 use Rattle.jc_reading.specs.declared.reading.Halt.{Halt}
 use Rattle.jc_reading.specs.declared.reading.Halt.TheVariants as halt_of
 use Rattle.jc_reading.specs.Giving.{Halts}
-use Rattle.jc_reading.specs.Reading.{Read, Found, Stopped, becoming, noting}
+use Rattle.jc_reading.specs.Reading.{Read, Found, Stopped, becoming}
 use Rattle.jc_parse_expr.specs.declared.measured.Measured.{Measured}
 use Rattle.jc_parse_expr.specs.Measuring.{of_height}
 

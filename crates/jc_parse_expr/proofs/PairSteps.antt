@@ -3,7 +3,7 @@ use Rattle.std.proofs.Common.{◌≡◌, ℕ, min, List, length, refl, sym, ap, 
 use Rattle.jc_lexer.specs.declared.token.Token.{Token}
 use Rattle.jc_reading.specs.declared.reading.Halt.{Halt}
 use Rattle.jc_reading.specs.Giving.{Halts}
-use Rattle.jc_reading.specs.Reading.{Read, Found, Stopped, Run, found, noting, becoming, joined, ◌>>=◌, as_new, in_turn, behind_it, before_it}
+use Rattle.jc_reading.specs.Reading.{Read, Found, Stopped, Run, found, noting, becoming, joined, ◌>>=◌, in_turn}
 use Rattle.jc_reading.specs.Further.{by_value}
 use Rattle.jc_reading.proofs.Steps.{Within, within_becoming}
 use Rattle.jc_reading.proofs.Turns.{noting_far}

@@ -1,7 +1,7 @@
 -- A reader of one token takes it, and how far any number of a reader is looked for.
-use Rattle.std.proofs.Common.{ℕ, zero, suc, ◌<◌, ◌≤◌, List, [], ◌∷◌, length, Option, Some, None, arith}
+use Rattle.std.proofs.Common.{ℕ, zero, suc, ◌<◌, List, [], ◌∷◌, length, Option, Some, None, arith}
 use Rattle.jc_lexer.specs.declared.token.Token.{Token}
-use Rattle.jc_reading.specs.Reading.{Read, Found, Stopped, Run, noting, becoming, one_more, times, any_number, on_pick, picking}
+use Rattle.jc_reading.specs.Reading.{Read, Found, Stopped, Run, becoming, one_more, times, any_number, on_pick, picking}
 use Rattle.jc_reading.proofs.Steps.{Within, Good, within_becoming, within_noting, within_more}
 use Rattle.jc_reading.proofs.Turns.{Advances}
 

@@ -1,40 +1,21 @@
 -- What the code reads of prefix operators.
-use Rattle.std.proofs.Common.{◌≡◌, ℕ, zero, suc, ◌-◌, ◌<◌, ◌≤◌, min, Bool, true, false, cond, List, [], ◌∷◌, map, length, Option, Some, None, refl, sym, ap, ◌∙◌, subst, arith}
+use Rattle.std.proofs.Common.{◌≡◌, ℕ, zero, suc, ◌-◌, ◌≤◌, min, true, false, List, length, refl, sym, ap, ◌∙◌, subst, arith}
 use Rattle.std.proofs.lemmas.Bool.{cond-true, cond-false}
-use Rattle.jc_lexer.specs.declared.token.Key.TheVariants as key_of
-use Rattle.jc_lexer.specs.declared.token.Sign.TheVariants as sign_of
 use Rattle.jc_lexer.specs.declared.token.Token.{Token}
-use Rattle.jc_tree.specs.declared.types.TypeTree.{TypeTree}
-use Rattle.jc_tree.specs.declared.expression.AssignOp.{AssignOp}
-use Rattle.jc_tree.specs.declared.expression.BinaryOp.{BinaryOp}
 use Rattle.jc_tree.specs.declared.expression.PrefixOp.{PrefixOp}
 use Rattle.jc_tree.specs.declared.expression.Expr.{Expr}
-use Rattle.jc_tree.specs.declared.expression.Expr.TheVariants as expr_of
-use Rattle.jc_tree.specs.declared.expression.Operand.{Operand}
-use Rattle.jc_tree.specs.declared.expression.Operand.TheVariants as operand_of
-use Rattle.jc_tree.specs.Heights.{expr_height, operand_height}
-use Rattle.jc_grammar.specs.Shapes.{is_primitive}
-use Rattle.jc_reading.specs.declared.reading.Halt.{Halt}
-use Rattle.jc_reading.specs.declared.reading.Halt.TheVariants as halt_of
-use Rattle.jc_reading.specs.Giving.{Halts}
-use Rattle.jc_reading.specs.Kinds.{sign_code, key_code, one_of}
-use Rattle.jc_reading.specs.Reading.{Read, Found, Stopped, Run, found, noting, becoming, joined, as_new, in_turn, any_number, Either, This, That, of_kind, at_kind, either, ◌>>=◌, behind_it, before_it}
-use Rattle.jc_reading.specs.Further.{by_value, either_one, preferring, or_else}
-use Rattle.jc_reading.proofs.Steps.{Within, within_bind, within_becoming}
-use Rattle.jc_reading.proofs.Signs.{sign_laws, key_laws}
-use Rattle.jc_parse_type.specs.TypeReading.{type_run}
-use Rattle.jc_parse_type.proofs.CodeSteps.{within_type}
+use Rattle.jc_tree.specs.Heights.{expr_height}
+use Rattle.jc_reading.specs.Kinds.{one_of}
+use Rattle.jc_reading.specs.Reading.{Read, Found, Stopped, Run, found, noting, becoming, joined, as_new, in_turn, any_number, This, That, either, ◌>>=◌}
+use Rattle.jc_reading.specs.Further.{either_one}
 use Rattle.jc_parse_expr.specs.declared.measured.Measured.{Measured}
-use Rattle.jc_parse_expr.specs.Measuring.{measured, of_height}
-use Rattle.jc_expr_laws.specs.LevelReading.{assign_run, prefix_op_run, plain_op_run, prefix_codes, prefix_made, prefix_run, plain_run, unary_run, bare_run, bare_made, cast_run, CastParts, operand_for, operand_made, less_run, next_levels}
-use Rattle.jc_expr_laws.specs.CompareReading.{Comparison, comparison_run, barring, barred, compared_operand}
+use Rattle.jc_parse_expr.specs.Measuring.{measured}
+use Rattle.jc_expr_laws.specs.LevelReading.{prefix_op_run, plain_op_run, prefix_codes, prefix_made, prefix_run, plain_run, unary_run, next_levels}
 use Rattle.jc_expr_laws.specs.ExprReading.{readers, next_readers}
-use Rattle.jc_parse_expr.specs.Nodes.{prefix_node, cast_node, binary_node}
-use Rattle.jc_parse_expr.specs.BinaryLevels.{levels_at, post_at, measured_operand, measured_branches, measured_right, branches_run, otherwise_run, operand_run, prefixed_run, plain_op_codes, cast_type_run, cast_made, next_operand_run}
-use Rattle.jc_parse_expr.specs.declared.operators.Level.TheVariants as level_of
-use Rattle.jc_parse_expr.proofs.MeasuredRead.{measured_found, measured_stopped, measured_halts, halts_measured, found_measured, halts_by}
-use Rattle.jc_parse_expr.proofs.PairSteps.{by_found, by_stops, by_first, by_far, pair_found, pair_stops, pair_first, pair_far, made_found, made_stops, made_halts, halts_made, remade}
-use Rattle.jc_parse_expr.proofs.CodeFacts.{within_expr, within_conditional, within_unary, within_plain}
+use Rattle.jc_parse_expr.specs.Nodes.{prefix_node}
+use Rattle.jc_parse_expr.specs.BinaryLevels.{levels_at, prefixed_run, plain_op_codes}
+use Rattle.jc_parse_expr.proofs.MeasuredRead.{measured_found, measured_stopped}
+use Rattle.jc_parse_expr.proofs.PairSteps.{pair_found, pair_stops}
 use Rattle.jc_parse_expr.proofs.NodeHeights.{prefix_measured}
 
 -- prefix operators

@@ -1,30 +1,27 @@
 -- The levels from the last one to the binary ones, as the code reads them.
-use Rattle.std.proofs.Common.{◌≡◌, ℕ, zero, suc, ◌-◌, ◌<◌, ◌≤◌, ◌^◌, min, Bool, true, false, List, [], length, Option, Some, None, refl, sym, ap, ◌∙◌, subst, arith}
-use Rattle.std.specs.Prelude.{◌&&◌, not, nat_le}
+use Rattle.std.proofs.Common.{◌≡◌, ℕ, ◌-◌, ◌<◌, ◌≤◌, ◌^◌, min, true, false, List, length, Option, Some, None, sym, ap, ◌∙◌, arith}
+use Rattle.std.specs.Prelude.{not, nat_le}
 use Rattle.std.proofs.lemmas.Bool.{and_left, and_right, and_from, lt-leb, le-leb}
 use Rattle.jc_lexer.specs.declared.token.Token.{Token}
 use Rattle.jc_tree.specs.declared.expression.AssignOp.{AssignOp}
 use Rattle.jc_tree.specs.declared.expression.Expr.{Expr}
 use Rattle.jc_tree.specs.declared.expression.Expr.TheVariants as expr_of
-use Rattle.jc_tree.specs.declared.expression.Operand.{Operand}
-use Rattle.jc_tree.specs.Heights.{capped, most, expr_height, operand_height}
+use Rattle.jc_tree.specs.Heights.{capped, expr_height}
 use Rattle.jc_grammar.specs.Shapes.{Shape, stands, expr_shape, post_level}
 use Rattle.jc_reading.specs.declared.reading.Halt.{Halt}
 use Rattle.jc_reading.specs.Giving.{Halts}
 use Rattle.jc_reading.specs.Reading.{Read, Found, Stopped, becoming, in_turn, perhaps, perhaps_from}
 use Rattle.jc_parse_expr.specs.declared.measured.Measured.{Measured}
-use Rattle.jc_parse_expr.specs.Measuring.{measured, measured_operands}
-use Rattle.jc_expr_laws.specs.LevelReading.{is_tall, no_target, Branches, conditional_made, assign_made, assign_run}
-use Rattle.jc_parse_expr.specs.Nodes.{assign_node, conditional_node, chain_node}
-use Rattle.jc_parse_expr.specs.declared.operators.Level.{Level}
-use Rattle.jc_parse_expr.specs.declared.operators.Level.TheVariants as level_of
-use Rattle.jc_parse_expr.specs.BinaryLevels.{levels_at, level_run, tighter_run, operands_run, chain_of, branches_run, measured_branches, measured_right}
-use Rattle.jc_parse_expr.proofs.MeasuredRead.{measured_found, measured_stopped}
+use Rattle.jc_parse_expr.specs.Measuring.{measured}
+use Rattle.jc_expr_laws.specs.LevelReading.{no_target, assign_made, assign_run}
+use Rattle.jc_parse_expr.specs.Nodes.{assign_node}
+use Rattle.jc_parse_expr.specs.BinaryLevels.{levels_at, measured_right}
+use Rattle.jc_parse_expr.proofs.MeasuredRead.{measured_found}
 use Rattle.jc_parse_expr.proofs.PairSteps.{made_found, made_stops}
-use Rattle.jc_parse_expr.proofs.Rungs.{Rung, rung_halts, rung_closed, rung_more}
-use Rattle.jc_parse_expr.proofs.LevelSteps.{expr_rung, conditional_rung, level_rung}
-use Rattle.jc_parse_expr.proofs.NodeHeights.{tall_one, assign_measured, conditional_measured, chain_measured}
-use Rattle.jc_parse_expr.proofs.CodeFacts.{within_conditional, within_level, within_tighter, rest_within, good_conditional}
+use Rattle.jc_parse_expr.proofs.Rungs.{rung_halts, rung_closed, rung_more}
+use Rattle.jc_parse_expr.proofs.LevelSteps.{expr_rung}
+use Rattle.jc_parse_expr.proofs.NodeHeights.{tall_one, assign_measured}
+use Rattle.jc_parse_expr.proofs.CodeFacts.{within_conditional, rest_within, good_conditional}
 
 -- what the height that is kept tells
 

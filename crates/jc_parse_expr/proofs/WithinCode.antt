@@ -1,5 +1,5 @@
 -- What is read without its height.
-use Rattle.std.proofs.Common.{◌≡◌, ℕ, ◌≤◌, true, false, List, length, sym, subst}
+use Rattle.std.proofs.Common.{◌≡◌, ℕ, ◌≤◌, true, List, length, sym, subst}
 use Rattle.jc_lexer.specs.declared.token.Token.{Token}
 use Rattle.jc_tree.specs.declared.expression.PrefixOp.{PrefixOp}
 use Rattle.jc_tree.specs.declared.expression.Expr.{Expr}

@@ -1,14 +1,12 @@
 -- What is built of a first value that was read and of what was read behind it.
-use Rattle.std.specs.Prelude.{◌≡◌, ℕ, min, List, Result, Ok, Err}
-use Rattle.jc_tree.specs.declared.types.TypeTree.{TypeTree}
+use Rattle.std.specs.Prelude.{◌≡◌, ℕ, min, Result, Ok, Err}
 use Rattle.jc_tree.specs.declared.expression.AssignOp.{AssignOp}
-use Rattle.jc_tree.specs.declared.expression.PrefixOp.{PrefixOp}
 use Rattle.jc_tree.specs.declared.expression.Expr.{Expr}
 use Rattle.jc_reading.specs.declared.reading.Found.{Found}
 use Rattle.jc_reading.specs.declared.reading.Halt.{Halt}
 use Rattle.jc_reading.specs.declared.reading.Halt.TheVariants as halt_of
 use Rattle.jc_parse_expr.specs.declared.measured.Measured.{Measured}
-use Rattle.jc_parse_expr.specs.Nodes.{assign_node, conditional_node, prefix_node}
+use Rattle.jc_parse_expr.specs.Nodes.{assign_node, conditional_node}
 
 -- the tokens behind both, and the nearer reach
 abbrev pub Both : {A B C : Type 0} → (A → B → C) → Found A → Found B → Found C → Type 0
@@ -58,3 +56,8 @@ abbrev pub Chosen : Found (Measured Expr) → Found (Measured Expr) → Result (
 Chosen test then (Ok other) result = AllThree test then other result
 Chosen test then (Err (halt_of.Stopped left)) result = Alone test (min then.left left) result
 Chosen test then (Err halt_of.WantOfMemory) result = Wants result
+
+-- a value alone, where no more stands behind what reaches so far
+abbrev pub LeftAlone : {A : Type 0} → Found A → ℕ → Halt → Result (Found A) Halt → Type 0
+LeftAlone first reach (halt_of.Stopped left) result = Alone first (min reach left) result
+LeftAlone first reach halt_of.WantOfMemory result = Wants result

@@ -1,0 +1,164 @@
+//! Nodes that are built of trees with their heights.
+ghost use Rattle.std.specs.Prelude.{◌≡◌, IfOk};
+ghost use Rattle.jc_parse_expr.specs.BinaryLevels.{measured_operand};
+ghost use Rattle.jc_tree.specs.declared.expression.Expr.TheVariants as expr_of;
+ghost use Rattle.jc_tree.specs.declared.expression.Operand.TheVariants as operand_of;
+ghost use Rattle.jc_parse_expr.specs.Nodes.{assign_node, binary_node, cast_node, chain_node, conditional_node, prefix_node};
+
+use crate::Measured;
+use jc_rules::{Boxed, Items, WantOfMemory};
+use jc_tree::{AssignOp, BinaryOp, Expr, Operand, PrefixOp, TypeTree, type_height};
+use std::alloc::Global;
+
+/// An assignment (JLS 15.26).
+pub fn assign_node(
+    alloc: Global,
+    target: Measured<Expr>,
+    op: AssignOp,
+    value: Measured<Expr>,
+) -> Result<Measured<Expr>, WantOfMemory>
+    ensures { IfOk result (λ node. node ≡ assign_node target op value) }
+{
+    let height = target.height.max(value.height).saturating_add(1);
+    let target = Boxed::new(alloc, target.tree)?;
+    let value = Boxed::new(alloc, value.tree)?;
+    Ok(Measured {
+        tree: Expr::Assign { target, op, value },
+        height,
+    })
+}
+
+/// The branches of a conditional.
+#[derive(Drop)]
+struct Branches {
+    then: Boxed<Expr>,
+    otherwise: Boxed<Expr>,
+}
+
+fn both_boxed(alloc: Global, then: Expr, otherwise: Expr) -> Result<Branches, WantOfMemory>
+    ensures { IfOk result (λ made. (made.then ≡ then) × (made.otherwise ≡ otherwise)) }
+{
+    let then = Boxed::new(alloc, then)?;
+    let otherwise = Boxed::new(alloc, otherwise)?;
+    Ok(Branches { then, otherwise })
+}
+
+fn with_test(
+    alloc: Global,
+    test: Expr,
+    branches: Branches,
+    height: u32,
+) -> Result<Measured<Expr>, WantOfMemory>
+    ensures { IfOk result (λ node. (node.tree ≡ expr_of.Conditional test branches.then branches.otherwise) × (node.height ≡ height)) }
+{
+    let test = Boxed::new(alloc, test)?;
+    Ok(Measured {
+        tree: Expr::Conditional {
+            test,
+            then: branches.then,
+            otherwise: branches.otherwise,
+        },
+        height,
+    })
+}
+
+/// A conditional (JLS 15.25).
+pub fn conditional_node(
+    alloc: Global,
+    test: Measured<Expr>,
+    then: Measured<Expr>,
+    otherwise: Measured<Expr>,
+) -> Result<Measured<Expr>, WantOfMemory>
+    ensures { IfOk result (λ node. node ≡ conditional_node test then otherwise) }
+{
+    let height = test.height.max(then.height).max(otherwise.height);
+    match both_boxed(alloc, then.tree, otherwise.tree) {
+        Ok(made) => with_test(alloc, test.tree, made, height.saturating_add(1)),
+        Err(fault) => Err(fault),
+    }
+}
+
+/// A first operand alone, or a chain of operators (JLS 15.17 to 15.24).
+pub fn chain_node(
+    alloc: Global,
+    first: Measured<Expr>,
+    rest: Measured<Items<Operand>>,
+) -> Result<Measured<Expr>, WantOfMemory>
+    ensures { IfOk result (λ node. node ≡ chain_node first rest) }
+{
+    if rest.tree.is_empty() {
+        return Ok(first);
+    }
+    let height = first.height.max(rest.height).saturating_add(1);
+    let first = Boxed::new(alloc, first.tree)?;
+    Ok(Measured {
+        tree: Expr::Chain {
+            first,
+            rest: rest.tree,
+        },
+        height,
+    })
+}
+
+/// A chain of prefix operators (JLS 15.15).
+pub fn prefix_node(
+    alloc: Global,
+    first: PrefixOp,
+    more: Items<PrefixOp>,
+    operand: Measured<Expr>,
+) -> Result<Measured<Expr>, WantOfMemory>
+    ensures { IfOk result (λ node. node ≡ prefix_node first more operand) }
+{
+    let height = operand.height.saturating_add(1);
+    let operand = Boxed::new(alloc, operand.tree)?;
+    Ok(Measured {
+        tree: Expr::Prefix {
+            first,
+            more,
+            operand,
+        },
+        height,
+    })
+}
+
+/// A cast (JLS 15.16).
+pub fn cast_node(
+    alloc: Global,
+    at: u32,
+    ty: TypeTree,
+    operand: Measured<Expr>,
+) -> Result<Measured<Expr>, WantOfMemory>
+    ensures { IfOk result (λ node. node ≡ cast_node at ty operand) }
+{
+    let height = type_height(&ty).max(operand.height).saturating_add(1);
+    let operand = Boxed::new(alloc, operand.tree)?;
+    Ok(Measured {
+        tree: Expr::Cast { at, ty, operand },
+        height,
+    })
+}
+
+/// An operator with the expression on its right.
+pub fn binary_node(op: BinaryOp, right: Measured<Expr>) -> Measured<Operand>
+    ensures { result ≡ binary_node op right }
+{
+    Measured {
+        tree: Operand::Binary {
+            op,
+            right: right.tree,
+        },
+        height: right.height,
+    }
+}
+
+/// `instanceof` with the type on its right (JLS 15.20.2).
+#[tactic(auto, using(crate::proofs::NodeHeights::height_of_instance))]
+pub fn instance_node(ty: TypeTree) -> Measured<Operand>
+    ensures { result ≡ measured_operand (operand_of.InstanceOf ty) }
+{
+    let height = type_height(&ty);
+    Measured {
+        tree: Operand::InstanceOf { ty },
+        height,
+    }
+}
