@@ -78,7 +78,7 @@ fn by_sign(sign: Sign, op: BinaryOp, tokens: &[Token]) -> Result<Found<'_, Binar
 }
 
 /// `==` or `!=`.
-#[tactic(auto, unfolding(crate::specs::LevelReading::equal_run))]
+#[tactic(auto, unfolding(jc_expr_laws::specs::LevelReading::equal_run))]
 fn equal_op(tokens: &[Token]) -> Result<Found<'_, BinaryOp>, Halt>
     ensures { Gives result (equal_run tokens.now) }
 {
@@ -93,7 +93,7 @@ fn equal_op(tokens: &[Token]) -> Result<Found<'_, BinaryOp>, Halt>
 }
 
 /// `+` or `-`.
-#[tactic(auto, unfolding(crate::specs::LevelReading::plus_run))]
+#[tactic(auto, unfolding(jc_expr_laws::specs::LevelReading::plus_run))]
 fn plus_op(tokens: &[Token]) -> Result<Found<'_, BinaryOp>, Halt>
     ensures { Gives result (plus_run tokens.now) }
 {
@@ -108,7 +108,7 @@ fn plus_op(tokens: &[Token]) -> Result<Found<'_, BinaryOp>, Halt>
 }
 
 /// `*`, `/` or `%`.
-#[tactic(auto, unfolding(crate::specs::LevelReading::times_run))]
+#[tactic(auto, unfolding(jc_expr_laws::specs::LevelReading::times_run))]
 fn times_op(tokens: &[Token]) -> Result<Found<'_, BinaryOp>, Halt>
     ensures { Gives result (times_run tokens.now) }
 {
@@ -162,7 +162,7 @@ fn touching_equal(tokens: &[Token]) -> Result<&[Token], usize>
 }
 
 /// `<`, `<=`, `>` or `>=`.
-#[tactic(auto, unfolding(crate::specs::LevelReading::less_run))]
+#[tactic(auto, unfolding(jc_expr_laws::specs::LevelReading::less_run))]
 fn less_op(tokens: &[Token]) -> Result<Found<'_, BinaryOp>, Halt>
     ensures { Gives result (less_run tokens.now) }
 {
@@ -216,7 +216,7 @@ fn right_shift(tokens: &[Token]) -> Result<Found<'_, BinaryOp>, Halt>
 }
 
 /// `<<`, `>>` or `>>>`.
-#[tactic(auto, unfolding(crate::specs::LevelReading::shift_run))]
+#[tactic(auto, unfolding(jc_expr_laws::specs::LevelReading::shift_run))]
 fn shift_op(tokens: &[Token]) -> Result<Found<'_, BinaryOp>, Halt>
     ensures { Gives result (shift_run tokens.now) }
 {
@@ -242,7 +242,7 @@ fn shift_op(tokens: &[Token]) -> Result<Found<'_, BinaryOp>, Halt>
 }
 
 /// An operator of a level; `instanceof` is none.
-#[tactic(auto, unfolding(crate::specs::LevelReading::or_else_run, crate::specs::LevelReading::and_also_run, crate::specs::LevelReading::or_run, crate::specs::LevelReading::xor_run, crate::specs::LevelReading::and_run))]
+#[tactic(auto, unfolding(jc_expr_laws::specs::LevelReading::or_else_run, jc_expr_laws::specs::LevelReading::and_also_run, jc_expr_laws::specs::LevelReading::or_run, jc_expr_laws::specs::LevelReading::xor_run, jc_expr_laws::specs::LevelReading::and_run))]
 pub fn operator(level: Level, tokens: &[Token]) -> Result<Found<'_, BinaryOp>, Halt>
     ensures { Gives result (operator_run level tokens.now) }
 {
@@ -297,7 +297,7 @@ fn touched_assign(tokens: &[Token]) -> Result<Found<'_, AssignOp>, Halt>
 }
 
 /// An assignment operator.
-#[tactic(auto, unfolding(crate::specs::LevelReading::assign_run))]
+#[tactic(auto, unfolding(jc_expr_laws::specs::LevelReading::assign_run))]
 pub fn assign_op(tokens: &[Token]) -> Result<Found<'_, AssignOp>, Halt>
     ensures { Gives result (assign_run tokens.now) }
 {
@@ -381,7 +381,7 @@ pub fn prefix_op(tokens: &[Token]) -> Option<(PrefixOp, &[Token])>
 }
 
 /// `!` or `~`, and the tokens behind it, where one stands at the front.
-#[tactic(auto, unfolding(crate::specs::LevelReading::plain_op_run))]
+#[tactic(auto, unfolding(jc_expr_laws::specs::LevelReading::plain_op_run))]
 pub fn plain_op(tokens: &[Token]) -> Option<(PrefixOp, &[Token])>
     ensures read { MatchOption result (plain_op_run tokens.now ≡ read_stopped (length tokens.now)) (λ x. plain_op_run tokens.now ≡ found x.0 x.1.now) }
     ensures front { one_of plain_op_codes tokens.now ≡ is_some result }
@@ -406,7 +406,7 @@ pub fn plain_op(tokens: &[Token]) -> Option<(PrefixOp, &[Token])>
 }
 
 /// `++` or `--`, and the tokens behind it, where one stands at the front.
-#[tactic(auto, unfolding(crate::specs::EffectReading::crement_op_run))]
+#[tactic(auto, unfolding(jc_expr_laws::specs::EffectReading::crement_op_run))]
 pub fn crement_op(tokens: &[Token]) -> Option<(PrefixOp, &[Token])>
     ensures read { MatchOption result (crement_op_run tokens.now ≡ read_stopped (length tokens.now)) (λ x. crement_op_run tokens.now ≡ found x.0 x.1.now) }
     ensures front { one_of crement_codes tokens.now ≡ is_some result }

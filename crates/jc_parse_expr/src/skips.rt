@@ -148,7 +148,7 @@ fn skip_parts(
 
 /// What stands between braces, of at most this height.
 #[cycle(skips)]
-#[tactic(auto, unfolding(crate::specs::PrimeReading::skip_run))]
+#[tactic(auto, unfolding(jc_expr_laws::specs::PrimeReading::skip_run))]
 pub fn skip(alloc: Global, tokens: &[Token], height: u32) -> Result<Found<'_, Measured<Skip>>, Halt>
     ensures { Measures skip_height result (skip_run height tokens.now) }
 {

@@ -1,4 +1,4 @@
-use Rattle.std.proofs.Common.{◌≡◌, min, List, [], ◌∷◌, ◌++◌, length, sym, ap, ◌∙◌, subst}
+use Rattle.std.proofs.Common.{◌≡◌, List, [], ◌∷◌, ◌++◌, length, sym, ap, ◌∙◌, subst}
 use Rattle.jc_tree.specs.declared.expression.PrefixOp.{PrefixOp}
 use Rattle.jc_reading.specs.Reading.{Found, any_number, times}
 use Rattle.jc_reading.proofs.Turns.{resume, Resumes, Advances, loop_first, loop_next, loop_stop, loop_shorter}
