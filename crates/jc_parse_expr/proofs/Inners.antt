@@ -1,11 +1,8 @@
 -- What the steps of the code of initialisers read, and how far.
-use Rattle.std.proofs.Common.{◌≡◌, ℕ, zero, suc, ◌-◌, ◌<◌, ◌≤◌, min, Bool, true, false, List, [], ◌∷◌, map, length, Result, Ok, Err, refl, sym, ap, ◌∙◌, subst, arith}
+use Rattle.std.proofs.Common.{◌≡◌, ℕ, ◌-◌, ◌<◌, min, Bool, true, false, List, [], ◌∷◌, length, Result, refl, sym, ap, ◌∙◌}
 use Rattle.std.proofs.lemmas.Bool.{cond-true, cond-false}
 use Rattle.jc_lexer.specs.declared.token.Sign.TheVariants as sign_of
 use Rattle.jc_lexer.specs.declared.token.Token.{Token}
-use Rattle.jc_tree.specs.declared.name.Ident.{Ident}
-use Rattle.jc_tree.specs.declared.types.ClassTree.{ClassTree}
-use Rattle.jc_tree.specs.declared.types.TypeArg.{TypeArg}
 use Rattle.jc_tree.specs.declared.expression.ArrayInit.{ArrayInit}
 use Rattle.jc_tree.specs.declared.expression.Expr.{Expr}
 use Rattle.jc_tree.specs.declared.expression.Init.{Init}
@@ -15,9 +12,8 @@ use Rattle.jc_reading.specs.declared.reading.Found as its
 use Rattle.jc_reading.specs.declared.reading.Halt.{Halt}
 use Rattle.jc_reading.specs.Giving.{Gives}
 use Rattle.jc_reading.specs.Kinds.{sign_code, one_of}
-use Rattle.jc_reading.specs.Reading.{Read, Found, Stopped, Run, found, noting, becoming, joined, ◌>>=◌, as_new, in_turn, of_kind, at_kind, an_ident_at, before_it, commas_run, This, That}
+use Rattle.jc_reading.specs.Reading.{Read, Found, Stopped, Run, found, noting, becoming, joined, ◌>>=◌, as_new, at_kind, commas_run, This, That}
 use Rattle.jc_part_laws.specs.PartReading.{closing_run}
-use Rattle.jc_expr_laws.specs.ExprReading.{readers}
 use Rattle.jc_expr_laws.specs.PrimeReading.{init_made, init_run, array_made}
 use Rattle.jc_parse_expr.specs.declared.measured.Measured.{Measured}
 use Rattle.jc_parse_expr.specs.declared.parts.Row.{Row}

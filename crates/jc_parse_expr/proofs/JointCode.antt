@@ -1,5 +1,5 @@
 -- What parts of primaries read one behind the other.
-use Rattle.std.proofs.Common.{◌≡◌, ℕ, min, Bool, List, [], ◌∷◌, map, length, Some, None, sym, ap, ◌∙◌}
+use Rattle.std.proofs.Common.{◌≡◌, ℕ, min, Bool, List, [], ap, ◌∙◌}
 use Rattle.jc_lexer.specs.declared.token.Sign.TheVariants as sign_of
 use Rattle.jc_lexer.specs.declared.token.Token.{Token}
 use Rattle.jc_tree.specs.declared.name.Ident.{Ident}
@@ -11,7 +11,7 @@ use Rattle.jc_tree.specs.declared.expression.Expr.{Expr}
 use Rattle.jc_tree.specs.declared.expression.Expr.TheVariants as expr_of
 use Rattle.jc_tree.specs.declared.expression.Skip.{Skip}
 use Rattle.jc_reading.specs.Kinds.{sign_code}
-use Rattle.jc_reading.specs.Reading.{Read, Found, Stopped, noting, becoming, joined, ◌>>=◌, perhaps_from, perhaps, as_new, in_turn, of_kind, before_it, any_number, an_ident_at}
+use Rattle.jc_reading.specs.Reading.{Read, Found, Stopped, noting, becoming, perhaps_from, perhaps, as_new, in_turn, of_kind, before_it, any_number, an_ident_at}
 use Rattle.jc_parse_type.specs.TypeReading.{dims_run}
 use Rattle.jc_expr_laws.specs.PrimeReading.{actuals_run, body_run, named_run, object_run}
 use Rattle.jc_parse_expr.specs.PrimeCode.{called_tree, expr_in, length_run, named_made, named_tree, object_made, sized_made, sized_run}

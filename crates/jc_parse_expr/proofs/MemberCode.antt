@@ -1,10 +1,9 @@
 -- What parts of members read one behind the other.
-use Rattle.std.proofs.Common.{◌≡◌, ℕ, min, List, ◌∷◌, [], length, Option, ap, ◌∙◌}
+use Rattle.std.proofs.Common.{◌≡◌, ℕ, min, List, length, ap, ◌∙◌}
 use Rattle.jc_lexer.specs.declared.token.Sign.TheVariants as sign_of
 use Rattle.jc_lexer.specs.declared.token.Token.{Token}
 use Rattle.jc_tree.specs.declared.name.Ident.{Ident}
 use Rattle.jc_tree.specs.declared.types.TypeArg.{TypeArg}
-use Rattle.jc_tree.specs.declared.expression.Expr.{Expr}
 use Rattle.jc_reading.specs.Kinds.{sign_code}
 use Rattle.jc_reading.specs.Reading.{Read, Found, Stopped, found, noting, becoming, joined, ◌>>=◌, perhaps, as_new, in_turn, of_kind, before_it, commas_run, an_ident_at}
 use Rattle.jc_parse_type.specs.TypeReading.{arg_run, type_run}

@@ -1,11 +1,11 @@
 -- What an expression in parentheses reads.
-use Rattle.std.proofs.Common.{◌≡◌, ℕ, min, List, ◌∷◌, [], length, ap, ◌∙◌}
+use Rattle.std.proofs.Common.{◌≡◌, ℕ, min, List, length, ap, ◌∙◌}
 use Rattle.jc_lexer.specs.declared.token.Sign.TheVariants as sign_of
 use Rattle.jc_lexer.specs.declared.token.Token.{Token}
 use Rattle.jc_tree.specs.declared.expression.Expr.{Expr}
 use Rattle.jc_tree.specs.declared.expression.Expr.TheVariants as expr_of
 use Rattle.jc_reading.specs.Kinds.{sign_code}
-use Rattle.jc_reading.specs.Reading.{Read, Found, Stopped, found, noting, becoming, joined, ◌>>=◌, as_new, in_turn, of_kind}
+use Rattle.jc_reading.specs.Reading.{Read, Found, Stopped, found, noting, becoming, as_new, in_turn, of_kind}
 use Rattle.jc_parse_expr.specs.PrimeCode.{expr_in}
 use Rattle.jc_parse_expr.proofs.MeasuredSteps.{then_made}
 

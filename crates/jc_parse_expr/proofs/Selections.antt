@@ -1,5 +1,5 @@
 -- How high a value is of which something is selected.
-use Rattle.std.proofs.Common.{◌≡◌, ℕ, ◌+◌, min, max, ap, ◌∙◌, arith}
+use Rattle.std.proofs.Common.{◌≡◌, ◌+◌, min, max, arith}
 use Rattle.jc_tree.specs.declared.expression.Expr.{Expr}
 use Rattle.jc_tree.specs.Heights.{capped, expr_height}
 use Rattle.jc_tree.proofs.HeightsOfExpressions.{expr_height-Call, expr_height-Field, expr_height-Index, expr_height-InnerNew}

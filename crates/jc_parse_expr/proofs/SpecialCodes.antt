@@ -1,5 +1,5 @@
 -- What the steps of the code of class literals and outer `this` read.
-use Rattle.std.proofs.Common.{◌≡◌, ℕ, zero, suc, ◌+◌, ◌<◌, ◌≤◌, min, Bool, true, false, List, [], ◌∷◌, length, refl, sym, ap, ◌∙◌, subst, add-one, arith}
+use Rattle.std.proofs.Common.{◌≡◌, ℕ, suc, ◌+◌, ◌<◌, min, true, false, List, [], ◌∷◌, length, refl, sym, ap, ◌∙◌, arith}
 use Rattle.std.proofs.lemmas.Bool.{cond-true, cond-false}
 use Rattle.jc_lexer.specs.declared.token.Key.TheVariants as key_of
 use Rattle.jc_lexer.specs.declared.token.Sign.TheVariants as sign_of
@@ -9,7 +9,7 @@ use Rattle.jc_tree.specs.declared.types.BaseTree.TheVariants as base_of
 use Rattle.jc_tree.specs.declared.types.PrimitiveWord.{PrimitiveWord}
 use Rattle.jc_tree.specs.declared.expression.Expr.{Expr}
 use Rattle.jc_reading.specs.Kinds.{key_code, sign_code, one_of}
-use Rattle.jc_reading.specs.Reading.{Read, Found, Stopped, Run, found, noting, becoming, joined, ◌>>=◌, as_new, in_turn, of_kind, an_ident_at, This, That, Either, either}
+use Rattle.jc_reading.specs.Reading.{Read, Found, Stopped, found, noting, becoming, joined, ◌>>=◌, as_new, in_turn, of_kind, an_ident_at, This, That, Either, either}
 use Rattle.jc_reading.proofs.Turns.{lawful_advances, loop_shorter}
 use Rattle.jc_parse_type.proofs.TypeForms.{Bracket, bracket_laws}
 use Rattle.jc_reading.specs.Further.{with_room}

@@ -1,5 +1,5 @@
 -- Lists that are read part by part, with the greatest height in them.
-use Rattle.std.proofs.Common.{◌≡◌, ℕ, ◌≤◌, max, List, [], ◌∷◌, ◌++◌, map, length, sym, ap, ◌∙◌, subst}
+use Rattle.std.proofs.Common.{◌≡◌, ℕ, max, List, [], ◌∷◌, ◌++◌, map, sym, ap, ◌∙◌, subst}
 use Rattle.jc_lexer.specs.declared.token.Sign.TheVariants as sign_of
 use Rattle.jc_lexer.specs.declared.token.Token.{Token}
 use Rattle.jc_tree.specs.Heights.{capped, most}
@@ -27,3 +27,6 @@ commas_begin {A = A} run ts q a l list e f =
     let m = as_new behind_it (in_turn (of_kind (sign_code sign_of.Comma)) run) in
     let s = turn_second m a l q in
     (s.0, s.1, commas_first run ts q a l e ∙ s.2 ∙ ap (λ (x : List A). resume x l (times s.0 m q)) (sym f))
+
+pub found_left : {A : Type 0} (m : Read A) (a : A) (r : List Token) (j k : ℕ) → m ≡ Found a r j → k ≡ j → m ≡ Found a r k
+found_left m a r j k e f = e ∙ ap (λ (i : ℕ). Found a r i) (sym f)

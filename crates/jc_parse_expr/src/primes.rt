@@ -87,11 +87,7 @@ fn closed(
 /// An expression in parentheses.
 #[cycle(expressions)]
 #[tactic(auto, using(crate::proofs::MemberSteps::parens_inside, crate::proofs::MemberSteps::parens_open, crate::proofs::MemberSteps::parens_low))]
-fn parens(
-    alloc: Global,
-    tokens: &[Token],
-    height: u32,
-) -> Result<Found<'_, Measured<Expr>>, Halt>
+fn parens(alloc: Global, tokens: &[Token], height: u32) -> Result<Found<'_, Measured<Expr>>, Halt>
     requires { length tokens.now < 2 ^ 32 }
     ensures { Measures expr_height result (as_new parens_made (parens_run height (expr_in height)) tokens.now) }
 {

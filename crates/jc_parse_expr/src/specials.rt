@@ -240,11 +240,7 @@ fn named_node(
 }
 
 /// A class literal or an outer `this` of names that stand there.
-fn node_at(
-    alloc: Global,
-    tokens: &[Token],
-    tail: NamesTail,
-) -> Result<Measured<Expr>, WantOfMemory>
+fn node_at(alloc: Global, tokens: &[Token], tail: NamesTail) -> Result<Measured<Expr>, WantOfMemory>
     ensures { IfOk result (λ v. IsMeasured expr_height v × ((first : Ident) (q : List Token) (l : ℕ) (more : List Ident) (r : List Token) (k : ℕ) → an_ident_at tokens.now ≡ read_found first q l → more_names_run q ≡ read_found more r k → v.tree ≡ of_tail first more tail)) }
 {
     match identifier(alloc, tokens) {

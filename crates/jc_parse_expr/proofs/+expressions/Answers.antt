@@ -1,4 +1,4 @@
-use Rattle.std.proofs.Common.{◌≡◌, ℕ, ◌+◌, ◌-◌, ◌<◌, ◌^◌, min, max, List, [], ◌∷◌, ◌++◌, length, map, refl, sym, ap, ◌∙◌, subst, arith, rules}
+use Rattle.std.proofs.Common.{◌≡◌, ◌<◌, ◌^◌, min, max, List, [], ◌∷◌, ◌++◌, length, sym, ap, ◌∙◌, subst, arith}
 use Rattle.std.proofs.lemmas.Bool.Decides.{nat_tests}
 use Rattle.jc_lexer.specs.declared.token.Sign.TheVariants as sign_of
 use Rattle.jc_tree.specs.declared.expression.Expr.{Expr}
@@ -11,9 +11,9 @@ use Rattle.jc_reading.specs.declared.reading.Halt.{Halt}
 use Rattle.jc_reading.specs.Giving.{Halts}
 use Rattle.jc_reading.specs.Kinds.{sign_code}
 use Rattle.jc_reading.specs.Reading.{Found, Stopped, any_number, as_new, behind_it, commas_run, in_turn, of_kind, times}
-use Rattle.jc_reading.proofs.Turns.{resume, Resumes, loop_first, loop_next, loop_stop, loop_shorter, turn_second}
+use Rattle.jc_reading.proofs.Turns.{resume, loop_first, loop_next, loop_stop, loop_shorter}
 use Rattle.jc_lexer.specs.declared.token.Token.{Token}
-use Rattle.jc_parse_expr.specs.PrimeCode.{IsMeasured, array_in, expr_in, exprs_height, init_in, inits_height, keyed_made, length_run, of_selector, parens_made, selected_on, selector_at, sized_made, sized_run}
+use Rattle.jc_parse_expr.specs.PrimeCode.{IsMeasured, array_in, expr_in, exprs_height, init_in, keyed_made, length_run, of_selector, parens_made, selected_on, selector_at, sized_made, sized_run}
 use Rattle.jc_parse_expr.specs.declared.parts.SelectorTree.{SelectorTree}
 use Rattle.jc_parse_expr.proofs.CreationSteps.{tail_low, tail_open, tail_sized}
 use Rattle.jc_parse_expr.proofs.MemberSteps.{keyed_new, parens_inside}
@@ -21,8 +21,7 @@ use Rattle.jc_parse_expr.proofs.GrowCode.{grows_same}
 use Rattle.jc_parse_expr.proofs.Grows.{grows_first, grows_next, grows_stop}
 use Rattle.jc_parse_expr.proofs.MeasuredSteps.{measured_as, stop_of_near}
 use Rattle.jc_parse_expr.specs.declared.measured.Measured.{Measured}
-use Rattle.jc_parse_expr.proofs.Tallies.{commas_begin, more_top, one_pushed, one_top, resumes_same}
-use Rattle.jc_parse_expr.proofs.ListSteps.{commas_first}
+use Rattle.jc_parse_expr.proofs.Tallies.{commas_begin, found_left, more_top, one_pushed, one_top, resumes_same}
 use Rattle.jc_parse_expr.proofs.Rests.{rest_args, rest_class, rest_dims, rest_expr, rest_index, rest_init, rest_plain, rest_special}
 use Rattle.jc_parse_expr.proofs.Shorters.{comma_exprs, comma_inits, length_steps, selector_advances}
 use Rattle.jc_parse_expr.proofs.+expressions.Goals as goal
@@ -66,8 +65,8 @@ lists::exprs-returns-in-Err-Stopped t c =
     let run = expr_in c.args.height in
     let m = as_new behind_it (in_turn (of_kind (sign_code sign_of.Comma)) run) in
     let stop : m c.commas.rest.now ≡ Stopped c.in-Err-Stopped.reach = subst (λ (h : Halt). Halts h (m c.commas.rest.now)) c.in-Err-Stopped.field-0-is c.in-Err-Stopped.ensures in (
-      loop_stop Expr m (comma_exprs c.args.height) (commas_run run c.args.tokens.now) c.commas.list c.commas.left c.commas.rest.now c.in-Err-Stopped.reach c.commas.invariant.0 stop
-          ∙ ap (λ j. Found c.commas.list c.commas.rest.now j) (sym (c.min.ensures ∙ ap (λ k. min c.commas.left k) c.in-Err-Stopped.reach-is)),
+      found_left (commas_run run c.args.tokens.now) c.commas.list c.commas.rest.now (min c.commas.left c.in-Err-Stopped.reach) c.min.result
+          (loop_stop Expr m (comma_exprs c.args.height) (commas_run run c.args.tokens.now) c.commas.list c.commas.left c.commas.rest.now c.in-Err-Stopped.reach c.commas.invariant.0 stop) (c.min.ensures ∙ ap (λ k. min c.commas.left k) c.in-Err-Stopped.reach-is),
       c.commas.invariant.1,
     )
 
@@ -110,8 +109,8 @@ lists::inits-returns-in-Err-Stopped t c =
     let run = init_in c.args.height in
     let m = as_new behind_it (in_turn (of_kind (sign_code sign_of.Comma)) run) in
     let stop : m c.commas.rest.now ≡ Stopped c.in-Err-Stopped.reach = subst (λ (h : Halt). Halts h (m c.commas.rest.now)) c.in-Err-Stopped.field-0-is c.in-Err-Stopped.ensures in (
-      loop_stop Init m (comma_inits c.args.height) (commas_run run c.args.tokens.now) c.commas.list c.commas.left c.commas.rest.now c.in-Err-Stopped.reach c.commas.invariant.0 stop
-          ∙ ap (λ j. Found c.commas.list c.commas.rest.now j) (sym (c.min.ensures ∙ ap (λ k. min c.commas.left k) c.in-Err-Stopped.reach-is)),
+      found_left (commas_run run c.args.tokens.now) c.commas.list c.commas.rest.now (min c.commas.left c.in-Err-Stopped.reach) c.min.result
+          (loop_stop Init m (comma_inits c.args.height) (commas_run run c.args.tokens.now) c.commas.list c.commas.left c.commas.rest.now c.in-Err-Stopped.reach c.commas.invariant.0 stop) (c.min.ensures ∙ ap (λ k. min c.commas.left k) c.in-Err-Stopped.reach-is),
       c.commas.invariant.1,
     )
 

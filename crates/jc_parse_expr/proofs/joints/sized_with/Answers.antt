@@ -1,4 +1,4 @@
-use Rattle.std.proofs.Common.{◌≡◌, ℕ, min, List, sym, ap, ◌∙◌, subst}
+use Rattle.std.proofs.Common.{min, sym, ap, ◌∙◌, subst}
 use Rattle.std.specs.Prelude.{IfOk}
 use Rattle.jc_tree.specs.declared.expression.Creation.{Creation}
 use Rattle.jc_reading.specs.Reading.{Found, any_number}

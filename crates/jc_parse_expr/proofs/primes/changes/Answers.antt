@@ -1,4 +1,4 @@
-use Rattle.std.proofs.Common.{◌≡◌, ◌<◌, ℕ, min, List, length, sym, ap, ◌∙◌, subst, arith}
+use Rattle.std.proofs.Common.{◌<◌, min, List, length, sym, ap, ◌∙◌, subst, arith}
 use Rattle.jc_lexer.specs.declared.token.Token.{Token}
 use Rattle.jc_tree.specs.declared.expression.PostfixOp.{PostfixOp}
 use Rattle.jc_reading.proofs.Turns.{loop_shorter}

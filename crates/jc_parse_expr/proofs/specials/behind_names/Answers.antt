@@ -1,4 +1,4 @@
-use Rattle.std.proofs.Common.{◌≡◌, min, List, [], ◌∷◌, ◌++◌, length, sym, ap, ◌∙◌, subst}
+use Rattle.std.proofs.Common.{[], ◌∷◌, ◌++◌, length, sym, ap, ◌∙◌, subst}
 use Rattle.jc_tree.specs.declared.name.Ident.{Ident}
 use Rattle.jc_reading.specs.Reading.{Found, any_number, becoming}
 use Rattle.jc_reading.proofs.Turns.{Resumes, loop_first, loop_next, loop_stop, loop_shorter}

@@ -1,4 +1,4 @@
-use Rattle.std.proofs.Common.{◌≡◌, ℕ, min, length, sym, ap, ◌∙◌, arith}
+use Rattle.std.proofs.Common.{ℕ, min, length, sym, ap, ◌∙◌, arith}
 use Rattle.jc_reading.specs.Reading.{Found}
 use Rattle.jc_parse_expr.proofs.Rests.{rest_name, rest_names}
 use Rattle.jc_parse_expr.proofs.SpecialCodes.{names_read}
