@@ -146,7 +146,7 @@ pub fn actuals(
 /// An initialiser: an array initialiser or an expression.
 #[cycle(expressions)]
 #[tactic(auto, using(crate::proofs::Inners::init_array, crate::proofs::Inners::init_value, crate::proofs::Inners::array_measures))]
-fn init(alloc: Global, tokens: &[Token], height: u32) -> Result<Found<'_, Measured<Init>>, Halt>
+pub fn init(alloc: Global, tokens: &[Token], height: u32) -> Result<Found<'_, Measured<Init>>, Halt>
     requires { length tokens.now < 2 ^ 32 }
     ensures { Measures init_height result (init_in height tokens.now) }
 {
