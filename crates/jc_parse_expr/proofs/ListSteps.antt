@@ -1,5 +1,5 @@
 -- What the steps of the code of lists read.
-use Rattle.std.proofs.Common.{◌≡◌, ℕ, zero, suc, ◌-◌, ◌<◌, min, Bool, true, false, cond, List, [], ◌∷◌, map, length, refl, sym, ap, ◌∙◌, arith}
+use Rattle.std.proofs.Common.{◌≡◌, ℕ, zero, suc, ◌-◌, ◌<◌, min, Bool, true, false, List, [], ◌∷◌, map, length, refl, sym, ap, ◌∙◌, arith}
 use Rattle.std.specs.Prelude.{◌||◌, ◌==◌}
 use Rattle.std.proofs.lemmas.Bool.{cond-true, cond-false}
 use Rattle.jc_lexer.specs.declared.token.Sign.TheVariants as sign_of
@@ -10,10 +10,10 @@ use Rattle.jc_tree.specs.declared.expression.Init.{Init}
 use Rattle.jc_reading.specs.Kinds.{sign_code, front_code, one_of}
 use Rattle.jc_reading.specs.Reading.{Read, Found, Stopped, Run, found, noting, ◌>>=◌, becoming, joined, as_new, in_turn, perhaps, any_number, of_kind, at_kind, before_it, behind_it, first_and_more, each_behind, commas_run, This, That}
 use Rattle.jc_reading.proofs.Turns.{times_as}
-use Rattle.jc_part_laws.specs.PartReading.{closing_run, rows_tail_run, row_made, row_run}
+use Rattle.jc_part_laws.specs.PartReading.{closing_run, row_made}
 use Rattle.jc_parse_type.proofs.CodeSteps.{behind_far}
 use Rattle.jc_expr_laws.specs.ExprReading.{readers, next_readers}
-use Rattle.jc_expr_laws.specs.PrimeReading.{actuals_made, actuals_run, or_empty, lengths_run, array_made, array_run, init_run}
+use Rattle.jc_expr_laws.specs.PrimeReading.{actuals_made, actuals_run, or_empty, lengths_run, array_made, array_run}
 use Rattle.jc_parse_expr.specs.PrimeCode.{array_in, expr_in, init_in, init_row_run, empty_row_tree, row_tree, length_of, length_run, some_exprs_run}
 use Rattle.jc_parse_expr.specs.declared.parts.Row.{Row}
 use Rattle.jc_parse_expr.proofs.PrimeNears.{near_bracketed, near_init, near_row}

@@ -1,5 +1,5 @@
 -- What the steps of the code of members, selectors and starts read.
-use Rattle.std.proofs.Common.{◌≡◌, ℕ, zero, suc, ◌+◌, ◌^◌, ◌<◌, ◌≤◌, min, Bool, true, false, cond, nat_le, List, [], ◌∷◌, map, length, Option, Some, None, refl, sym, ap, ◌∙◌, subst, arith}
+use Rattle.std.proofs.Common.{◌≡◌, ℕ, ◌+◌, ◌^◌, ◌<◌, ◌≤◌, Bool, true, false, nat_le, List, [], ◌∷◌, length, Option, Some, None, refl, sym, ap, ◌∙◌, arith}
 use Rattle.std.proofs.lemmas.Bool.{cond-true, cond-false, le-leb, lt-leb}
 use Rattle.jc_lexer.specs.declared.token.Key.TheVariants as key_of
 use Rattle.jc_lexer.specs.declared.token.Sign.TheVariants as sign_of
@@ -16,11 +16,9 @@ use Rattle.jc_grammar.specs.Shapes.{expr_shape}
 use Rattle.jc_reading.specs.Kinds.{sign_code, key_code, word_code, one_of}
 use Rattle.jc_reading.specs.Reading.{Read, Found, Stopped, Run, found, noting, ◌>>=◌, becoming, joined, as_new, in_turn, of_kind, at_kind, an_ident_at, picking, before_it, commas_run, This, That, Either, either}
 use Rattle.jc_parse_type.specs.TypeReading.{arg_run, type_run}
-use Rattle.jc_expr_laws.specs.PrimeReading.{Member, Dotted, actuals_run, creation_run, some_args_run, named_run, member_run, indexed_run, dotted_run, selector_run, selectors_run, picks_literal, literal_codes}
-use Rattle.jc_expr_laws.specs.StartReading.{Plain, Keyed, dot_class_run, plain_made, parens_run, keyed_run, plain_run}
+use Rattle.jc_expr_laws.specs.PrimeReading.{Member, actuals_run, creation_run, some_args_run, named_run, member_run, indexed_run, dotted_run, selector_run, picks_literal, literal_codes}
+use Rattle.jc_expr_laws.specs.StartReading.{Keyed, dot_class_run, plain_made, parens_run, keyed_run, plain_run}
 use Rattle.jc_parse_expr.specs.PrimeCode.{array_in, expr_in, member_tree, named_tree, called_tree, some_args_list, dotted_tree, dotted_inside, pointed_tree, index_tree, selector_tree, selector_at, of_super, super_made, keyed_made, named_made, void_made, parens_made, literal_made, started}
-use Rattle.jc_parse_expr.specs.declared.parts.MemberTree.{MemberTree}
-use Rattle.jc_parse_expr.specs.declared.parts.SelectorTree.{SelectorTree}
 use Rattle.jc_parse_expr.specs.declared.parts.SelectorTree.TheVariants as selector_of
 use Rattle.jc_parse_expr.proofs.Nears.{Near, near_turn, near_kind}
 use Rattle.jc_parse_expr.proofs.PrimeNears.{near_args, near_bracketed, near_creation, near_dot_class, near_dotted_inside, near_member}

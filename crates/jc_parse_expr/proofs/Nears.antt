@@ -1,10 +1,10 @@
 -- Readers whose reach and rest are not before where they begin, whatever stands there.
-use Rattle.std.proofs.Common.{◌≡◌, ℕ, zero, suc, ◌<◌, ◌≤◌, Bool, true, false, cond, List, [], ◌∷◌, length, Option, Some, None, refl, arith}
+use Rattle.std.proofs.Common.{ℕ, zero, suc, Bool, true, false, cond, List, [], ◌∷◌, length, Option, Some, None, arith}
 use Rattle.jc_lexer.specs.declared.token.Sign.{Sign}
 use Rattle.jc_lexer.specs.declared.token.Sign.TheVariants as sign_of
 use Rattle.jc_lexer.specs.declared.token.Token.{Token}
 use Rattle.jc_reading.specs.Kinds.{sign_code, one_of}
-use Rattle.jc_reading.specs.Reading.{Read, Found, Stopped, Run, found, noting, becoming, joined, as_new, in_turn, perhaps_from, perhaps, one_more, times, any_number, Either, This, That, either, on_pick, picking, picks, picks_at, of_kind, at_kind, an_ident_at, picks_ident, each_behind, commas_run, first_and_more}
+use Rattle.jc_reading.specs.Reading.{Read, Found, Stopped, Run, found, becoming, joined, as_new, in_turn, perhaps_from, perhaps, one_more, times, any_number, This, That, either, on_pick, picking, picks, picks_at, of_kind, at_kind, an_ident_at, picks_ident, each_behind, commas_run, first_and_more}
 use Rattle.jc_reading.specs.Further.{with_room, or_else, preferring, unless, followed, by_value}
 use Rattle.jc_reading.specs.Growing.{one_then, steps, growing}
 use Rattle.jc_reading.proofs.Steps.{Within, within_bind, within_becoming, within_noting, within_more}

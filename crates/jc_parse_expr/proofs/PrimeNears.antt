@@ -1,5 +1,5 @@
 -- Primaries and creations are read near, where expressions and array initialisers are.
-use Rattle.std.proofs.Common.{ℕ, zero, suc, Bool, true, false, nat_le, List, [], ◌∷◌, map, arith}
+use Rattle.std.proofs.Common.{ℕ, zero, suc, Bool, true, false, nat_le, [], ◌∷◌, map, arith}
 use Rattle.jc_lexer.specs.declared.token.Key.TheVariants as key_of
 use Rattle.jc_lexer.specs.declared.token.Sign.TheVariants as sign_of
 use Rattle.jc_tree.specs.declared.types.ClassTree.{ClassTree}
@@ -9,13 +9,11 @@ use Rattle.jc_tree.specs.declared.expression.Init.{Init}
 use Rattle.jc_tree.specs.Heights.{expr_height}
 use Rattle.jc_grammar.specs.Shapes.{ends_bare, expr_shape}
 use Rattle.jc_reading.specs.Kinds.{sign_code, key_code, word_code}
-use Rattle.jc_reading.specs.Reading.{Run, in_turn, perhaps, any_number, either, picking, of_kind, at_kind, an_ident_at, as_new, behind_it, That, each_behind, commas_run}
-use Rattle.jc_reading.specs.Further.{with_room, preferring, by_value}
-use Rattle.jc_reading.specs.Growing.{growing}
+use Rattle.jc_reading.specs.Reading.{Run, in_turn, perhaps, any_number, either, picking, of_kind, at_kind, an_ident_at, behind_it, That, each_behind, commas_run}
 use Rattle.jc_parse_type.specs.TypeReading.{dims_run, word_run, picks_word, primitive_codes, class_run, arg_run, type_run}
 use Rattle.jc_parse_type.proofs.TypeForms.{dims_laws, arg_laws, class_laws}
 use Rattle.jc_parse_type.proofs.CodeSteps.{within_row}
-use Rattle.jc_part_laws.specs.PartReading.{more_names_run, which, closing_run, rows_tail_run, row_made, row_run}
+use Rattle.jc_part_laws.specs.PartReading.{more_names_run, which, closing_run, row_made, row_run}
 use Rattle.jc_expr_laws.specs.PrimeReading.{actuals_made, actuals_run, picks_literal, literal_codes, picks_skipped, skip_part_made, skip_made, skip_run, init_made, init_run, array_made, array_run, lengths_run, array_tail_run, is_there, at_most_one, diamond_run, body_run, object_run, no_diamond, object_tail_run, class_tail_run, creation_made, creation_run, some_args_run, named_run, member_run, indexed_run, dotted_run, selector_run, selected, selectors_run}
 use Rattle.jc_expr_laws.specs.StartReading.{dot_class_run, plain_made, parens_run, keyed_run, plain_run, special_made, class_dims_run, dot_key_run, special_run, which_grown, selecting_run, prime_run}
 use Rattle.jc_expr_laws.specs.PostReading.{picks_op, op_run, changed, ops_run, changed_by, post_run}

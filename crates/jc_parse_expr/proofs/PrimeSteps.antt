@@ -1,20 +1,18 @@
 -- What the steps of the code of primaries read.
-use Rattle.std.proofs.Common.{◌≡◌, ℕ, zero, suc, ◌-◌, ◌<◌, ◌≤◌, min, Bool, true, false, List, [], ◌∷◌, length, Option, Some, None, refl, sym, ap, ◌∙◌, subst, arith}
+use Rattle.std.proofs.Common.{◌≡◌, ℕ, zero, suc, ◌-◌, ◌<◌, min, List, ◌∷◌, length, Some, None, refl, sym, ap, ◌∙◌, arith}
 use Rattle.jc_lexer.specs.declared.token.Token.{Token}
-use Rattle.jc_tree.specs.declared.name.Ident.{Ident}
-use Rattle.jc_tree.specs.declared.expression.ArrayInit.{ArrayInit}
 use Rattle.jc_tree.specs.declared.expression.Expr.{Expr}
-use Rattle.jc_reading.specs.Reading.{Read, Found, Stopped, Run, found, noting, ◌>>=◌, becoming, joined, as_new, This, That}
+use Rattle.jc_reading.specs.Reading.{Read, Found, Stopped, Run, noting, ◌>>=◌, becoming, joined, This, That}
 use Rattle.jc_reading.specs.Further.{or_else}
 use Rattle.jc_reading.specs.Growing.{one_then, steps, grown}
-use Rattle.jc_expr_laws.specs.PrimeReading.{Member, Selector, selected, selectors_run}
-use Rattle.jc_expr_laws.specs.StartReading.{plain_run, special_run, grown_of, which_grown, prime_run}
+use Rattle.jc_expr_laws.specs.PrimeReading.{Selector, selected, selectors_run}
+use Rattle.jc_expr_laws.specs.StartReading.{plain_run, special_run, which_grown, prime_run}
 use Rattle.jc_expr_laws.specs.PostReading.{changed, changed_by, ops_run, post_run}
 use Rattle.jc_tree.specs.Heights.{capped, expr_height}
 use Rattle.jc_expr_laws.specs.ExprReading.{readers, next_readers}
 use Rattle.jc_parse_expr.specs.Measuring.{measured}
 use Rattle.jc_parse_expr.specs.declared.measured.Measured.{Measured}
-use Rattle.jc_parse_expr.specs.PrimeCode.{array_in, expr_in, post_in, grown_on, changed_on, selected_on, selector_at, selector_tree, named_tree, member_tree, of_selector}
+use Rattle.jc_parse_expr.specs.PrimeCode.{array_in, expr_in, post_in, changed_on, selected_on, selector_tree, of_selector}
 use Rattle.jc_parse_expr.proofs.Grows.{steps_as}
 
 -- something is found

@@ -1,5 +1,5 @@
 -- Readers that take a token at least.
-use Rattle.std.proofs.Common.{◌≡◌, ℕ, zero, suc, ◌+◌, ◌<◌, ◌≤◌, Bool, true, false, cond, nat_le, List, [], ◌∷◌, length, Option, Some, None, refl, subst, arith}
+use Rattle.std.proofs.Common.{◌≡◌, ℕ, zero, suc, ◌+◌, ◌<◌, ◌≤◌, Bool, true, false, cond, nat_le, List, [], ◌∷◌, length, Option, Some, None, arith}
 use Rattle.std.specs.Prelude.{◌==◌}
 use Rattle.jc_lexer.specs.declared.token.Sign.TheVariants as sign_of
 use Rattle.jc_lexer.specs.declared.token.Token.{Token}
@@ -11,7 +11,7 @@ use Rattle.jc_tree.specs.declared.expression.SkipPart.{SkipPart}
 use Rattle.jc_tree.specs.Heights.{expr_height}
 use Rattle.jc_grammar.specs.Shapes.{expr_shape}
 use Rattle.jc_reading.specs.Kinds.{kind_code, sign_code, one_of}
-use Rattle.jc_reading.specs.Reading.{Read, Found, Stopped, Run, noting, becoming, joined, as_new, in_turn, This, That, either, on_pick, picking, picks, of_kind, an_ident_at, any_number, times, one_more, behind_it, ◌>>=◌}
+use Rattle.jc_reading.specs.Reading.{Read, Found, Stopped, Run, noting, becoming, joined, as_new, in_turn, This, That, either, on_pick, picking, of_kind, an_ident_at, any_number, times, one_more, behind_it, ◌>>=◌}
 use Rattle.jc_reading.specs.Further.{with_room}
 use Rattle.jc_reading.proofs.Steps.{Within, Good}
 use Rattle.jc_reading.proofs.Turns.{Advances, times_as}

@@ -1,14 +1,13 @@
 -- What the steps of the code of class literals, outer `this` and skipped bodies read.
-use Rattle.std.proofs.Common.{◌≡◌, ℕ, ◌<◌, min, Bool, true, false, List, [], ◌∷◌, length, refl, ap, ◌∙◌, arith}
+use Rattle.std.proofs.Common.{◌≡◌, ℕ, ◌<◌, min, true, false, List, [], ◌∷◌, length, refl, ap, ◌∙◌, arith}
 use Rattle.std.proofs.lemmas.Bool.{cond-true, cond-false}
 use Rattle.jc_lexer.specs.declared.token.Sign.TheVariants as sign_of
 use Rattle.jc_lexer.specs.declared.token.Token.{Token}
 use Rattle.jc_tree.specs.declared.name.Ident.{Ident}
 use Rattle.jc_tree.specs.declared.types.PrimitiveWord.{PrimitiveWord}
-use Rattle.jc_tree.specs.declared.expression.Expr.{Expr}
 use Rattle.jc_tree.specs.declared.expression.SkipPart.TheVariants as skip_part_of
 use Rattle.jc_reading.specs.Kinds.{sign_code, one_of}
-use Rattle.jc_reading.specs.Reading.{Read, Found, Stopped, Run, found, noting, becoming, as_new, in_turn, an_ident_at, picking, This, That}
+use Rattle.jc_reading.specs.Reading.{Read, Found, Stopped, found, noting, becoming, as_new, in_turn, an_ident_at, picking, This, That}
 use Rattle.jc_parse_type.specs.TypeReading.{dims_run, word_run, primitive_codes}
 use Rattle.jc_part_laws.specs.PartReading.{more_names_run}
 use Rattle.jc_expr_laws.specs.PrimeReading.{picks_skipped, skip_part_made, skip_run}

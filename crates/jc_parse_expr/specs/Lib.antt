@@ -3,3 +3,4 @@ pub mod BinaryLevels
 pub mod Measuring
 pub mod Nodes
 pub mod PrimeCode
+pub mod SpecialCode

@@ -3,9 +3,14 @@
 
 mod built;
 mod compared;
+mod creations;
+mod joints;
 mod levels;
+mod lists;
+mod makers;
 mod making;
 mod measured;
+mod members;
 mod operators;
 mod parsing;
 mod parts;
@@ -14,6 +19,7 @@ mod prefixes;
 mod primes;
 mod shapes;
 mod skips;
+mod specials;
 mod unaries;
 mod within;
 

@@ -26,3 +26,10 @@ pub struct Row {
     pub inits: Items<Init>,
     pub trailing: bool,
 }
+
+/// What stands behind names: brackets and `.class`, or `.this`.
+#[derive(Clone, Copy)]
+pub enum NamesTail {
+    Class(u32),
+    This,
+}

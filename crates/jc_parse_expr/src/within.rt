@@ -15,10 +15,11 @@ ghost use Rattle.jc_parse_expr.specs.BinaryLevels.{levels_at, post_at};
 
 use crate::Measured;
 use crate::levels::{assigned, conditional, expr};
+use crate::lists::array_init;
 use crate::making::assign_node;
 use crate::operators::crement_op;
 use crate::pieces::is_at;
-use crate::primes::{array_init, post};
+use crate::primes::post;
 use crate::shapes::is_effect;
 use crate::unaries::prefixed;
 use jc_lexer::{Sign, Token};

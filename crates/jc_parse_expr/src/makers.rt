@@ -1,0 +1,439 @@
+//! Nodes of primaries and creations, with their heights (JLS 15.8 to 15.14, 10.6).
+ghost use Rattle.std.specs.Prelude.{◌≡◌, [], IfOk};
+ghost use Rattle.jc_tree.specs.Heights.{arg_height, array_height, base_height, capped, creation_height, expr_height, init_height};
+ghost use Rattle.jc_tree.specs.declared.expression.Creation.TheVariants as creation_of;
+ghost use Rattle.jc_tree.specs.declared.expression.Expr.TheVariants as expr_of;
+ghost use Rattle.jc_tree.specs.declared.expression.Init.TheVariants as init_of;
+ghost use Rattle.jc_expr_laws.specs.PrimeReading.{array_made};
+ghost use Rattle.jc_expr_laws.specs.PostReading.{changed};
+ghost use Rattle.jc_parse_expr.specs.PrimeCode.{IsMeasured, args_height, exprs_height, member_height, of_member, of_selector, of_super, row_height, selector_height, skips_height};
+ghost use Rattle.jc_parse_expr.specs.declared.parts.MemberTree.TheVariants as member_of;
+ghost use Rattle.jc_parse_expr.specs.declared.parts.SelectorTree.TheVariants as selector_of;
+
+use crate::Measured;
+use crate::parts::{MemberTree, Row, SelectorTree};
+use jc_rules::{Boxed, Items, WantOfMemory};
+use jc_tree::{
+    ArrayInit, BaseTree, ClassTree, Creation, Expr, Ident, Init, PostfixOp, Skip, TypeArg,
+    TypeTree, class_height, type_height,
+};
+use std::alloc::Global;
+
+/// The height of a type argument.
+#[tactic(auto, using(crate::proofs::HeightSteps::types))]
+fn arg_height(arg: &TypeArg) -> u32
+    ensures { result ≡ capped (arg_height arg.now) }
+{
+    match arg {
+        TypeArg::Exact(ty) => type_height(ty),
+        TypeArg::Any { .. } => 0,
+        TypeArg::Extends { bound, .. } => type_height(bound),
+        TypeArg::Super { bound, .. } => type_height(bound),
+    }
+}
+
+/// The greatest height of type arguments.
+fn args_height(args: &[TypeArg]) -> u32
+    ensures { result ≡ capped (args_height args.now) }
+{
+    let mut most = 0;
+    for arg in args {
+        most = most.max(arg_height(arg));
+    }
+    most
+}
+
+/// The height of an element type.
+#[tactic(auto, using(crate::proofs::HeightSteps::types))]
+fn base_height(base: &BaseTree) -> u32
+    ensures { result ≡ capped (base_height base.now) }
+{
+    match base {
+        BaseTree::Primitive { .. } => 0,
+        BaseTree::Class(class) => class_height(class),
+    }
+}
+
+/// A name.
+#[tactic(auto, using(crate::proofs::HeightSteps::primes))]
+pub fn name_node(name: Ident) -> Measured<Expr>
+    ensures { (result.tree ≡ expr_of.Name name) × IsMeasured expr_height result }
+{
+    Measured {
+        tree: Expr::Name(name),
+        height: 1,
+    }
+}
+
+/// `this`.
+#[tactic(auto, using(crate::proofs::HeightSteps::primes))]
+pub fn this_node(at: u32) -> Measured<Expr>
+    ensures { (result.tree ≡ expr_of.This at) × IsMeasured expr_height result }
+{
+    Measured {
+        tree: Expr::This { at },
+        height: 1,
+    }
+}
+
+/// `void.class`.
+#[tactic(auto, using(crate::proofs::HeightSteps::primes))]
+pub fn void_node(at: u32) -> Measured<Expr>
+    ensures { (result.tree ≡ expr_of.VoidLiteral at) × IsMeasured expr_height result }
+{
+    Measured {
+        tree: Expr::VoidLiteral { at },
+        height: 1,
+    }
+}
+
+/// The class literal of a type.
+#[tactic(auto, using(crate::proofs::HeightSteps::primes))]
+pub fn class_node(ty: TypeTree) -> Measured<Expr>
+    ensures { (result.tree ≡ expr_of.ClassLiteral ty) × IsMeasured expr_height result }
+{
+    let height = type_height(&ty);
+    Measured {
+        tree: Expr::ClassLiteral { ty },
+        height: height.saturating_add(1),
+    }
+}
+
+/// `this` of a class around.
+#[tactic(auto, using(crate::proofs::HeightSteps::primes))]
+pub fn outer_node(first: Ident, more: Items<Ident>) -> Measured<Expr>
+    ensures { (result.tree ≡ expr_of.OuterThis first more) × IsMeasured expr_height result }
+{
+    Measured {
+        tree: Expr::OuterThis { first, more },
+        height: 1,
+    }
+}
+
+/// An expression in parentheses.
+#[tactic(auto, using(crate::proofs::HeightSteps::primes))]
+pub fn paren_node(
+    alloc: Global,
+    at: u32,
+    inner: Measured<Expr>,
+) -> Result<Measured<Expr>, WantOfMemory>
+    requires { IsMeasured expr_height inner }
+    ensures { IfOk result (λ r. (r.tree ≡ expr_of.Paren at inner.tree) × IsMeasured expr_height r) }
+{
+    Ok(Measured {
+        height: inner.height.saturating_add(1),
+        tree: Expr::Paren {
+            at,
+            inner: Boxed::new(alloc, inner.tree)?,
+        },
+    })
+}
+
+/// A value with a postfix operator behind it.
+#[tactic(auto, using(crate::proofs::HeightSteps::primes))]
+pub fn changed_node(
+    alloc: Global,
+    value: Measured<Expr>,
+    op: PostfixOp,
+) -> Result<Measured<Expr>, WantOfMemory>
+    requires { IsMeasured expr_height value }
+    ensures { IfOk result (λ r. (r.tree ≡ changed value.tree op) × IsMeasured expr_height r) }
+{
+    Ok(Measured {
+        height: value.height.saturating_add(1),
+        tree: Expr::Postfix {
+            of: Boxed::new(alloc, value.tree)?,
+            op,
+        },
+    })
+}
+
+/// A call of a method by its name alone.
+#[tactic(auto, using(crate::proofs::HeightSteps::primes))]
+pub fn invoke_node(name: Ident, actuals: Measured<Items<Expr>>) -> Measured<Expr>
+    ensures tree { result.tree ≡ expr_of.Invoke name actuals.tree }
+    ensures height { IsMeasured exprs_height actuals → IsMeasured expr_height result }
+{
+    Measured {
+        tree: Expr::Invoke {
+            name,
+            actuals: actuals.tree,
+        },
+        height: actuals.height.saturating_add(1),
+    }
+}
+
+/// A member behind `super`.
+#[tactic(auto, using(crate::proofs::HeightSteps::primes))]
+pub fn super_node(at: u32, member: Measured<MemberTree>) -> Measured<Expr>
+    requires { IsMeasured member_height member }
+    ensures { (result.tree ≡ of_super at member.tree) × IsMeasured expr_height result }
+{
+    let height = member.height.saturating_add(1);
+    match member.tree {
+        MemberTree::Field(name) => Measured {
+            tree: Expr::SuperField { at, name },
+            height,
+        },
+        MemberTree::Call {
+            type_args,
+            name,
+            actuals,
+        } => Measured {
+            tree: Expr::SuperCall {
+                at,
+                type_args,
+                name,
+                actuals,
+            },
+            height,
+        },
+    }
+}
+
+/// A creation behind `new`.
+#[tactic(auto, using(crate::proofs::HeightSteps::primes))]
+pub fn new_node(at: u32, creation: Measured<Creation>) -> Measured<Expr>
+    requires { IsMeasured creation_height creation }
+    ensures { (result.tree ≡ expr_of.New at creation.tree) × IsMeasured expr_height result }
+{
+    Measured {
+        tree: Expr::New {
+            at,
+            creation: creation.tree,
+        },
+        height: creation.height.saturating_add(1),
+    }
+}
+
+/// An expression as an initialiser.
+#[tactic(auto, using(crate::proofs::HeightSteps::primes))]
+pub fn value_init(value: Measured<Expr>) -> Measured<Init>
+    requires { IsMeasured expr_height value }
+    ensures { (result.tree ≡ init_of.Value value.tree) × IsMeasured init_height result }
+{
+    Measured {
+        tree: Init::Value(value.tree),
+        height: value.height,
+    }
+}
+
+/// An array initialiser as a part of another.
+#[tactic(auto, using(crate::proofs::HeightSteps::primes))]
+pub fn nested_init(array: Measured<ArrayInit>) -> Measured<Init>
+    requires { IsMeasured array_height array }
+    ensures { (result.tree ≡ init_of.Nested array.tree) × IsMeasured init_height result }
+{
+    Measured {
+        tree: Init::Nested(array.tree),
+        height: array.height,
+    }
+}
+
+/// An array initialiser by its parts.
+#[tactic(auto, using(crate::proofs::HeightSteps::primes))]
+pub fn array_node(at: u32, row: Measured<Row>) -> Measured<ArrayInit>
+    requires { IsMeasured row_height row }
+    ensures { (result.tree ≡ array_made (at, (row.tree.inits, row.tree.trailing))) × IsMeasured array_height result }
+{
+    let Row { inits, trailing } = row.tree;
+    Measured {
+        tree: ArrayInit {
+            at,
+            inits,
+            trailing,
+        },
+        height: row.height.saturating_add(1),
+    }
+}
+
+/// An array with an initialiser.
+#[tactic(auto, using(crate::proofs::HeightSteps::primes))]
+pub fn initialised_node(
+    element: BaseTree,
+    dims: u32,
+    init: Measured<ArrayInit>,
+) -> Measured<Creation>
+    requires { IsMeasured array_height init }
+    ensures { (result.tree ≡ creation_of.Initialised element dims init.tree) × IsMeasured creation_height result }
+{
+    let height = base_height(&element).max(init.height);
+    Measured {
+        tree: Creation::Initialised {
+            element,
+            dims,
+            init: init.tree,
+        },
+        height,
+    }
+}
+
+/// An array with lengths.
+#[tactic(auto, using(crate::proofs::HeightSteps::primes))]
+pub fn sized_node(
+    alloc: Global,
+    element: BaseTree,
+    first: Measured<Expr>,
+    more: Measured<Items<Expr>>,
+    dims: u32,
+) -> Result<Measured<Creation>, WantOfMemory>
+    ensures tree { IfOk result (λ r. r.tree ≡ creation_of.Sized element first.tree more.tree dims) }
+    ensures height { IsMeasured expr_height first → IsMeasured exprs_height more → IfOk result (λ r. IsMeasured creation_height r) }
+{
+    let height = base_height(&element).max(first.height).max(more.height);
+    Ok(Measured {
+        tree: Creation::Sized {
+            element,
+            first: Boxed::new(alloc, first.tree)?,
+            more: more.tree,
+            dims,
+        },
+        height,
+    })
+}
+
+/// An object of a class.
+#[tactic(auto, using(crate::proofs::HeightSteps::primes))]
+pub fn object_node(
+    class: ClassTree,
+    diamond: bool,
+    actuals: Measured<Items<Expr>>,
+    body: Measured<Items<Skip>>,
+) -> Measured<Creation>
+    ensures tree { result.tree ≡ creation_of.Object class diamond actuals.tree body.tree }
+    ensures height { IsMeasured exprs_height actuals → IsMeasured skips_height body → IsMeasured creation_height result }
+{
+    let height = class_height(&class).max(actuals.height).max(body.height);
+    Measured {
+        tree: Creation::Object {
+            class,
+            diamond,
+            actuals: actuals.tree,
+            body: body.tree,
+        },
+        height,
+    }
+}
+
+/// A name behind a point.
+pub fn field_part(name: Ident) -> Measured<MemberTree>
+    ensures { (result.tree ≡ member_of.Field name) × IsMeasured member_height result }
+{
+    Measured {
+        tree: MemberTree::Field(name),
+        height: 0,
+    }
+}
+
+/// A call behind a point.
+pub fn call_part(
+    type_args: Items<TypeArg>,
+    name: Ident,
+    actuals: Measured<Items<Expr>>,
+) -> Measured<MemberTree>
+    ensures tree { result.tree ≡ member_of.Call type_args name actuals.tree }
+    ensures height { IsMeasured exprs_height actuals → IsMeasured member_height result }
+{
+    let height = args_height(type_args.slice()).max(actuals.height);
+    Measured {
+        tree: MemberTree::Call {
+            type_args,
+            name,
+            actuals: actuals.tree,
+        },
+        height,
+    }
+}
+
+/// An index as a selector.
+pub fn index_part(index: Measured<Expr>) -> Measured<SelectorTree>
+    requires { IsMeasured expr_height index }
+    ensures { (result.tree ≡ selector_of.Index index.tree) × IsMeasured selector_height result }
+{
+    Measured {
+        tree: SelectorTree::Index(index.tree),
+        height: index.height,
+    }
+}
+
+/// A creation as a selector.
+pub fn new_part(creation: Measured<Creation>) -> Measured<SelectorTree>
+    requires { IsMeasured creation_height creation }
+    ensures { (result.tree ≡ selector_of.New creation.tree) × IsMeasured selector_height result }
+{
+    Measured {
+        tree: SelectorTree::New(creation.tree),
+        height: creation.height,
+    }
+}
+
+/// A member as a selector.
+pub fn member_part(member: Measured<MemberTree>) -> Measured<SelectorTree>
+    requires { IsMeasured member_height member }
+    ensures { (result.tree ≡ selector_of.Member member.tree) × IsMeasured selector_height result }
+{
+    Measured {
+        tree: SelectorTree::Member(member.tree),
+        height: member.height,
+    }
+}
+
+/// An element of a value.
+fn index_tree(alloc: Global, value: Expr, index: Expr) -> Result<Expr, WantOfMemory>
+    ensures { IfOk result (λ r. r ≡ expr_of.Index value index) }
+{
+    let of = Boxed::new(alloc, value)?;
+    let index = Boxed::new(alloc, index)?;
+    Ok(Expr::Index { of, index })
+}
+
+/// A member of a value.
+fn member_tree(alloc: Global, value: Expr, member: MemberTree) -> Result<Expr, WantOfMemory>
+    ensures { IfOk result (λ r. r ≡ of_member value member) }
+{
+    let of = Boxed::new(alloc, value)?;
+    match member {
+        MemberTree::Field(name) => Ok(Expr::Field { of, name }),
+        MemberTree::Call {
+            type_args,
+            name,
+            actuals,
+        } => Ok(Expr::Call {
+            of,
+            type_args,
+            name,
+            actuals,
+        }),
+    }
+}
+
+/// What a selector selects of a value.
+fn selected_tree(alloc: Global, value: Expr, selector: SelectorTree) -> Result<Expr, WantOfMemory>
+    ensures { IfOk result (λ r. r ≡ of_selector value selector) }
+{
+    match selector {
+        SelectorTree::Index(index) => index_tree(alloc, value, index),
+        SelectorTree::New(creation) => Ok(Expr::InnerNew {
+            of: Boxed::new(alloc, value)?,
+            creation,
+        }),
+        SelectorTree::Member(member) => member_tree(alloc, value, member),
+    }
+}
+
+/// What a selector selects of a value, with its height.
+#[tactic(auto, using(crate::proofs::Selections::selected_height))]
+pub fn selected_node(
+    alloc: Global,
+    value: Measured<Expr>,
+    selector: Measured<SelectorTree>,
+) -> Result<Measured<Expr>, WantOfMemory>
+    requires { IsMeasured expr_height value × IsMeasured selector_height selector }
+    ensures { IfOk result (λ r. (r.tree ≡ of_selector value.tree selector.tree) × IsMeasured expr_height r) }
+{
+    let height = value.height.max(selector.height).saturating_add(1);
+    Ok(Measured {
+        tree: selected_tree(alloc, value.tree, selector.tree)?,
+        height,
+    })
+}
