@@ -1,17 +1,16 @@
 -- The reach of what is read is not behind what is left.
-use Rattle.std.proofs.Common.{◌≡◌, ◌==◌, ℕ, zero, suc, ◌<◌, ◌≤◌, min, Bool, true, false, cond, Option, Some, None, List, [], ◌∷◌, map, length, Result, Ok, Err, IfOk, IfSome, MatchOption, Bor, subst, arith}
+use Rattle.std.proofs.Common.{◌≡◌, ℕ, zero, suc, ◌<◌, ◌≤◌, Bool, true, false, cond, Option, Some, None, List, [], ◌∷◌, length, Result, Ok, Err, IfOk, IfSome, MatchOption, Bor, subst, arith}
 use Rattle.jc_lexer.specs.declared.token.Sign.{Sign}
 use Rattle.jc_lexer.specs.declared.token.Sign.TheVariants as sign_of
 use Rattle.jc_lexer.specs.declared.token.Token.{Token}
 use Rattle.jc_reading.specs.declared.reading.Found as answer
 use Rattle.jc_reading.specs.declared.reading.Halt.{Halt}
 use Rattle.jc_reading.specs.Giving.{Gives}
-use Rattle.jc_reading.specs.Kinds.{kind_code, sign_code, one_of}
-use Rattle.jc_reading.specs.Reading.{Read, Found, Stopped, Run, found, becoming, joined, noting, on_pick, ◌>>=◌, picking, any_number, as_new, in_turn, perhaps, perhaps_from, either, Either, This, That, behind_it, of_kind, at_kind, first_and_more, each_behind, commas_run}
-use Rattle.jc_reading.specs.Further.{with_room, by_value, followed, unless, preferring, or_else, by_second, past, second_is, trying, tried}
-use Rattle.jc_reading.proofs.Steps.{Within}
+use Rattle.jc_reading.specs.Kinds.{sign_code, one_of}
+use Rattle.jc_reading.specs.Reading.{Read, Found, Stopped, Run, found, becoming, joined, noting, on_pick, ◌>>=◌, picking, any_number, as_new, in_turn, perhaps, perhaps_from, either, This, That, of_kind, at_kind, first_and_more, each_behind, commas_run}
+use Rattle.jc_reading.specs.Further.{with_room, by_value, followed, unless, preferring, or_else}
 use Rattle.jc_parse_parts.specs.Lists.{Ahead, GoesAhead, Near, Inside}
-use Rattle.jc_parse_parts.proofs.Growths.{within_times, within_near, behind_ahead}
+use Rattle.jc_parse_parts.proofs.Growths.{within_times, within_near}
 
 near_more : {A : Type 0} (ts q : List Token) (m : Read A) → length q ≤ length ts → Near q m → Near ts m
 near_more ts q (Found a r l) e w = (w.0, omega (arith, e, w.1))

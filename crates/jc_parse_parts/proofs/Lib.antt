@@ -1,2 +1,8 @@
+pub mod ChainSteps
+pub mod FormalSteps
 pub mod Growths
+pub mod HeadSteps
 pub mod Insides
+pub mod OpeningInsides
+pub mod PartInsides
+pub mod PartSteps

@@ -1,5 +1,5 @@
 -- Lists that are read turn by turn.
-use Rattle.std.specs.Prelude.{Option, Some, None, [], ◌∷◌, ◌≡◌, ℕ, Result, Ok, Err, ◌<◌, ◌≤◌, List, ◌++◌, length}
+use Rattle.std.specs.Prelude.{Option, Some, None, [], ◌≡◌, ℕ, Result, Ok, Err, ◌<◌, ◌≤◌, List, ◌++◌, length}
 use Rattle.jc_lexer.specs.declared.token.Token.{Token}
 use Rattle.jc_reading.specs.declared.reading.Found as answer
 use Rattle.jc_reading.specs.declared.reading.Halt.{Halt}

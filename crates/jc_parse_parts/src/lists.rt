@@ -1,5 +1,5 @@
 //! Lists that are read turn by turn.
-ghost use Rattle.std.specs.Prelude.{◌≡◌, ◌<◌, ◌≤◌, ◌∷◌, length, map, IfOk};
+ghost use Rattle.std.specs.Prelude.{◌≡◌, ◌<◌, ◌≤◌, [], ◌∷◌, length, map, IfOk};
 ghost use Rattle.jc_reading.specs.Giving.{Gives, Is};
 ghost use Rattle.jc_reading.specs.Kinds.{sign_code};
 ghost use Rattle.jc_reading.specs.Reading.{Run, any_number, as_new, becoming, behind_it, each_behind, first_and_more, in_turn, noting, of_kind};
@@ -9,6 +9,17 @@ use jc_lexer::{Sign, Token};
 use jc_reading::{Found, Halt, behind_sign};
 use jc_rules::{Items, WantOfMemory};
 use std::alloc::Global;
+
+/// An empty list, with a reach.
+pub fn no_list<T>(alloc: Global, rest: &[Token], left: usize) -> Found<'_, Items<T>>
+    ensures { (result.value ≡ []) × (result.rest.now ≡ rest.now) × (result.left ≡ left) }
+{
+    Found {
+        value: Items::new(alloc),
+        rest,
+        left,
+    }
+}
 
 /// Reads on, as often as something is read, behind what a list holds already.
 fn grow<'a, T: Drop, F: Fn(&'a [Token]) -> Result<Found<'a, T>, Halt>>(

@@ -1,4 +1,4 @@
-use Rattle.std.proofs.Common.{◌≡◌, List, [], length, IfOk, sym, ◌∙◌, ap, subst}
+use Rattle.std.proofs.Common.{List, length, IfOk, sym, ◌∙◌, ap, subst}
 use Rattle.jc_reading.specs.Giving.{Is}
 use Rattle.jc_reading.specs.Kinds.{sign_code}
 use Rattle.jc_reading.specs.Reading.{any_number}

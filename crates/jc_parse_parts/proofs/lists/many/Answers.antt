@@ -1,4 +1,4 @@
-use Rattle.std.proofs.Common.{◌≡◌, List, [], length, IfOk, ◌∙◌, ap, subst}
+use Rattle.std.proofs.Common.{List, length, IfOk, ◌∙◌, ap, subst}
 use Rattle.jc_reading.specs.Giving.{Is}
 use Rattle.jc_reading.specs.Reading.{any_number}
 use Rattle.jc_parse_parts.specs.Lists.{onto}

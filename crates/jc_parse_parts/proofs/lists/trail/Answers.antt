@@ -1,8 +1,8 @@
 use Rattle.std.proofs.Common.{◌≡◌, List, [], ◌∷◌, ◌++◌, min, sym, ap, ◌∙◌, subst, arith}
-use Rattle.jc_reading.specs.Giving.{Gives, Halts}
+use Rattle.jc_reading.specs.Giving.{Halts}
 use Rattle.jc_reading.specs.Kinds.{sign_code}
 use Rattle.jc_reading.specs.declared.reading.Halt.{Halt}
-use Rattle.jc_reading.specs.Reading.{Run, Found, Stopped, any_number}
+use Rattle.jc_reading.specs.Reading.{Found, Stopped, any_number}
 use Rattle.jc_parse_parts.specs.Lists.{onto}
 use Rattle.jc_reading.proofs.Turns.{Resumes}
 use Rattle.jc_parse_parts.proofs.Growths.{ahead_on, ahead_end, ahead_less, behind_ahead, led}

@@ -1,4 +1,4 @@
-use Rattle.std.proofs.Common.{◌≡◌, rules, arith}
+use Rattle.std.proofs.Common.{rules}
 use Rattle.jc_reading.specs.Reading.{an_ident_at}
 use Rattle.jc_part_laws.specs.PartReading.{more_names_run}
 use Rattle.jc_parse_parts.proofs.Insides.{inside_picking}

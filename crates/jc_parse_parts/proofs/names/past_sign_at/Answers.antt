@@ -1,5 +1,4 @@
-use Rattle.jc_reading.specs.Kinds.{sign_code, key_code}
-use Rattle.jc_reading.specs.Reading.{at_kind}
+use Rattle.jc_reading.specs.Kinds.{sign_code}
 use Rattle.jc_parse_parts.proofs.Insides.{shorter_place}
 use Rattle.jc_parse_parts.proofs.names.past_sign_at.Goals as goal
 

@@ -1,5 +1,4 @@
-use Rattle.jc_reading.specs.Kinds.{sign_code, key_code}
-use Rattle.jc_reading.specs.Reading.{of_kind}
+use Rattle.jc_reading.specs.Kinds.{key_code}
 use Rattle.jc_parse_parts.proofs.Insides.{shorter_rest}
 use Rattle.jc_parse_parts.proofs.names.past_word.Goals as goal
 
