@@ -1,4 +1,4 @@
-//! Shows the type that each file begins with (`--type`): its tree in words, the token behind it and the reach;
+//! Shows the expression, or with `--type` the type, that each file begins with: its tree in words, the token behind it and the reach;
 //! or the token of the syntax error, or the lexical rule that the file breaks and at which offset. The repository's own checks compare
 //! that with trees by hand, and with what `javac` takes.
 #![tactic(auto)]
@@ -9,10 +9,12 @@ mod expressions;
 mod types;
 mod words;
 
+use crate::expressions::put_expr;
 use crate::types::put_type;
 use crate::words::put_number;
 use jc_lexer::{Token, tokens};
 use jc_outside::{FolderShelf, Shelf};
+use jc_parse_expr::expr_at;
 use jc_parse_type::type_at;
 use jc_rules::Stop;
 use jc_tree::ParseFault;
@@ -59,6 +61,18 @@ fn put_type_of(alloc: Global, out: &mut String, tokens: &[Token]) -> Result<(), 
     }
 }
 
+fn put_expr_of(alloc: Global, out: &mut String, tokens: &[Token]) -> Result<(), AllocError>
+    requires { length tokens.now < 2 ^ 32 }
+{
+    match expr_at(alloc, tokens, 0) {
+        Ok(found) => {
+            put_expr(alloc, out, &found.tree)?;
+            put_places(alloc, out, found.next, found.reach)
+        }
+        Err(stop) => put_stop(alloc, out, &stop),
+    }
+}
+
 fn put_source(
     alloc: Global,
     out: &mut String,
@@ -75,7 +89,7 @@ fn put_source(
             } else if is_type {
                 put_type_of(alloc, out, list.slice())
             } else {
-                out.push_str("expressions are not read yet")
+                put_expr_of(alloc, out, list.slice())
             }
         }
         Err(Stop::Refused(fault)) => {
