@@ -1,2 +1,15 @@
+pub mod Aheads
+pub mod Contextual
+pub mod Effects
+pub mod Elses
+pub mod Filing
+pub mod Heighted
+pub mod Joinings
+pub mod Kinded
 pub mod LevelAdvances
+pub mod Lowness
+pub mod Moded
+pub mod Opens
+pub mod Starts
+pub mod Tails
 pub mod UnitTurns

@@ -1,0 +1,16 @@
+use Rattle.std.proofs.Common.{◌≡◌, ◌∙◌, ◌∷◌, List, length, sym, ap, subst, arith, rules}
+use Rattle.jc_reading.specs.Giving.{Gives, Halts, Is}
+use Rattle.jc_reading.specs.Reading.{Read, any_number, as_new, in_turn, noting}
+use Rattle.jc_expr_laws.specs.ExprReading.{exprs}
+use Rattle.jc_tree.specs.declared.statement.Stmt.{Stmt}
+use Rattle.jc_parse_unit.proofs.Joinings.{cut, joined_gives, two_gives, two_halts}
+use Rattle.jc_part_laws.specs.PartReading.{modifiers_run}
+use Rattle.jc_tree.specs.declared.statement.TopLevel.{TopLevel}
+use Rattle.jc_parse_unit.specs.UnitCode.{declaration_rest_run}
+use Rattle.jc_parse_unit.proofs.Filing.{declared_is, top_node}
+use Rattle.jc_parse_unit.proofs.files.declared.Goals as goal
+
+pub returns : goal.returns
+returns c =
+    subst (λ (v : Read TopLevel). Gives c.top_of.result v) (sym (declared_is c.args.tokens.now))
+    (two_gives top_node (modifiers_run exprs 198 c.args.tokens.now) (declaration_rest_run 198) c.in_ok-modifiers.modifiers c.rest_at.result c.top_of.result c.in_ok-modifiers.ensures.read c.rest_at.ensures c.top_of.ensures)

@@ -1,0 +1,3 @@
+pub mod Beginnings
+pub mod Joins
+pub mod UnitCode

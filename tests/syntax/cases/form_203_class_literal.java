@@ -1,0 +1,5 @@
+// 203 at line 4, javac takes it
+class A {
+  Object o =
+    int[].class;
+}

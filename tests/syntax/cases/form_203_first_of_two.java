@@ -1,0 +1,5 @@
+// 203 at line 3, javac takes it
+class A {
+  class B { }
+  Object o = A.class;
+}

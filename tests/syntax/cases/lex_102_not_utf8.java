@@ -1,0 +1,2 @@
+// 102 at line 2, javac refuses it
+class A { String s = "Ã"; }

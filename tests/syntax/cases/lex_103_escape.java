@@ -1,0 +1,2 @@
+// 103 at line 2, javac refuses it
+class A { char c = '\u00g0'; }

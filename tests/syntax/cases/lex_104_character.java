@@ -1,0 +1,2 @@
+// 104 at line 2, javac refuses it
+class A { int a = 1 # 2; }

@@ -1,0 +1,2 @@
+// taken
+class A { int äβ_1 = 1; }

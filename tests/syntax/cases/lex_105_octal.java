@@ -1,0 +1,2 @@
+// 105 at line 2, javac refuses it
+class A { int a = 089; }

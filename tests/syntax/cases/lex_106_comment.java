@@ -1,0 +1,2 @@
+// 106 at line 2, javac refuses it
+class A { } /* open

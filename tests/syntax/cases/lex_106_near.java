@@ -1,0 +1,2 @@
+// taken
+class A { /* a /* b **/ /**/ } // last

@@ -1,0 +1,2 @@
+// taken
+class A { String s = "a\"b // no comment /* none */"; }

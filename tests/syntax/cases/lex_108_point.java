@@ -1,0 +1,2 @@
+// 108 at line 2, javac takes it
+class A { int a = 1.5; }

@@ -1,0 +1,2 @@
+// 109 at line 2, javac takes it
+class A$B { }

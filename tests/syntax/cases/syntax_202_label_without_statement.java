@@ -1,0 +1,6 @@
+// 202 at line 5, javac refuses it
+class A {
+  void m() {
+    a:
+  }
+}

@@ -1,0 +1,3 @@
+// 202, javac refuses it
+class A {
+  void m() {

@@ -1,0 +1,2 @@
+// taken
+package a.b.c;

@@ -1,0 +1,3 @@
+// 201 at line 3, javac takes it
+
+class A { void m() { assert true; } }

@@ -1,0 +1,4 @@
+// 201 at line 4, javac takes it
+
+class A { Object o = A.class;
+  double d; }

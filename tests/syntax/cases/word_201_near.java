@@ -1,0 +1,2 @@
+// taken
+class A { int floats, doubled, asserted, enumeration, natives; }
