@@ -1,9 +1,9 @@
 #!/usr/bin/env python3
-"""Compares what the built program says of sources with what is written at their heads, and with javac's parser: check.py JAVAG
+"""Compares what the built program says of sources with what is written at their heads, and with javac's parser: check.py JAVAG ["lexical"]
 
 The first line of each file in cases/ says what is to be: "// taken", or "// 203 at line 4, javac takes it", or "// 202, javac refuses it".
 A source that breaks no rule of the lexical and the syntactic stage is refused with 900 as long as no later stage is built, and javac's
-parser takes it. The comparison with javac is skipped where there is none.
+parser takes it. With "lexical" javag is asked only of the cases of the lexical stage. The comparison with javac is skipped where there is none.
 """
 import os
 import re
@@ -75,15 +75,17 @@ def main():
     javag = os.path.abspath(sys.argv[1])
     cases_folder = os.path.join(os.path.dirname(os.path.abspath(__file__)), "cases")
     cases = [Case(cases_folder, name) for name in sorted(os.listdir(cases_folder)) if name.endswith(".java")]
+    only_lexical = sys.argv[2:] == ["lexical"]
+    asked = [case for case in cases if case.name.startswith("lex_") or not only_lexical]
     bad = []
-    checks = len(cases)
+    checks = len(asked)
     with tempfile.TemporaryDirectory() as folder:
-        for case in cases:
+        for case in asked:
             status, _, line, rule = javag_says(javag, [case.path], folder)
             fault = wrong(case, status, line, rule)
             if fault:
                 bad.append("javag: %s %s" % (case.name, fault))
-        for files, said, wanted in several(javag, folder):
+        for files, said, wanted in () if only_lexical else several(javag, folder):
             checks += 1
             if said != wanted:
                 bad.append("javag: of %s: %s, and not %s" % (files, said, wanted))

@@ -1,4 +1,3 @@
-pub mod Stages
 pub mod Texts
 pub mod Works
 pub mod Calls
