@@ -14,7 +14,7 @@ use crate::types::put_type;
 use crate::words::put_number;
 use jc_lexer::{Token, tokens};
 use jc_outside::{FolderShelf, Shelf};
-use jc_parse_expr::expr_at;
+use jc_parse_expr::{ExprFound, expr_at};
 use jc_parse_type::type_at;
 use jc_rules::Stop;
 use jc_tree::ParseFault;
@@ -61,14 +61,17 @@ fn put_type_of(alloc: Global, out: &mut String, tokens: &[Token]) -> Result<(), 
     }
 }
 
+/// A tree and its places.
+fn put_found(alloc: Global, out: &mut String, found: &ExprFound) -> Result<(), AllocError> {
+    put_expr(alloc, out, &found.tree)?;
+    put_places(alloc, out, found.next, found.reach)
+}
+
 fn put_expr_of(alloc: Global, out: &mut String, tokens: &[Token]) -> Result<(), AllocError>
     requires { length tokens.now < 2 ^ 32 }
 {
     match expr_at(alloc, tokens, 0) {
-        Ok(found) => {
-            put_expr(alloc, out, &found.tree)?;
-            put_places(alloc, out, found.next, found.reach)
-        }
+        Ok(found) => put_found(alloc, out, &found),
         Err(stop) => put_stop(alloc, out, &stop),
     }
 }
