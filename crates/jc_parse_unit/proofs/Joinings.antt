@@ -64,7 +64,7 @@ module _ {A B C : Type 0} (node : (A × B) → C) (m : Read A) (n : Run B) where
   two_gives first (Err h) (Err halt) e g b = subst (λ (v : Read C). Halts halt v) (sym (two_step first e)) (stop_step first h halt g b)
 
 -- what is read of a first part and of the last one behind it, which together make the whole
-pub Splits : {P D C : Type 0} → Run P → Run D → Run C → ((D × C) → P) → Type 0
+unfoldable pub Splits : {P D C : Type 0} → Run P → Run D → Run C → ((D × C) → P) → Type 0
 Splits T F N w = (ts : List Token) → T ts ≡ as_new w (in_turn F N) ts
 
 as_self : {A : Type 0} (m : Read A) → m ≡ becoming (λ a. a) m

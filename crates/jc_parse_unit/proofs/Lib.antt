@@ -1,8 +1,14 @@
 pub mod Aheads
+pub mod CatchForms
+pub mod Chains
 pub mod Contextual
 pub mod Effects
 pub mod Elses
 pub mod Filing
+pub mod ForForms
+pub mod ForInsides
+pub mod ForUpdates
+pub mod HeadInsides
 pub mod Heighted
 pub mod Joinings
 pub mod Kinded
@@ -10,6 +16,7 @@ pub mod LevelAdvances
 pub mod Lowness
 pub mod Moded
 pub mod Opens
+pub mod ResourceForms
 pub mod Starts
 pub mod Tails
 pub mod UnitTurns

@@ -1,3 +1,4 @@
 pub mod Beginnings
+pub mod HeadCode
 pub mod Joins
 pub mod UnitCode

@@ -7,13 +7,17 @@ ghost use Rattle.jc_part_laws.specs.PartReading.{modifier_run};
 ghost use Rattle.jc_unit_laws.specs.UnitReading.{local_run};
 ghost use Rattle.jc_parse_unit.specs.UnitCode.{catch_opening_run, ended_effect_run, ended_strict_run, ended_vars_run, finally_opening_run, for_opening_run, local_or_effect_run, roomy_modifiers_run, roomy_resources_run, typed_or_run, typed_run};
 
+use crate::catching::{catch_head, opened};
 use crate::fronts::name_stands;
+use crate::head_nodes::catch_opening_of;
 use crate::joins::{closed, reaching};
-use crate::nodes::{bare_local_of, local_of, typed_of};
+use crate::looping::for_ended;
+use crate::nodes::{bare_local_of, for_opening_of, local_of, typed_of};
 use crate::pieces::{ForOpening, Opening, Typed};
+use crate::resourcing::some_resources;
 use jc_lexer::{Key, Sign, Token};
 use jc_parse_expr::effect_within;
-use jc_parse_parts::{Vars, modifier_within, row, type_within, vars_within, word_at};
+use jc_parse_parts::{Vars, modifier_within, row, sign, type_within, vars_within, word_at};
 use jc_reading::{Found, Halt};
 use jc_rules::Items;
 use jc_tree::{ClauseHead, Modifier, Resources, Stmt, TypeTree};
@@ -46,10 +50,13 @@ pub fn catch_opening(
     ensures read { Gives result (catch_opening_run height tokens.now) }
     ensures shorter { IfOk result (λ f. length f.rest.now ≤ length tokens.now) }
 {
-    Err(Halt::WantOfMemory)
+    let at = opened(Key::Catch, tokens)?;
+    let rest = at.rest;
+    catch_opening_of(at, catch_head(alloc, rest, height))
 }
 
 /// A `for` up to its body.
+#[tactic(auto, using(crate::proofs::ForForms::for_opening_none))]
 pub fn for_opening(
     alloc: Global,
     tokens: &[Token],
@@ -59,16 +66,26 @@ pub fn for_opening(
     ensures read { Gives result (for_opening_run height tokens.now) }
     ensures shorter { IfOk result (λ f. length f.rest.now ≤ length tokens.now) }
 {
-    Err(Halt::WantOfMemory)
+    if height == 0 {
+        return Err(Halt::Stopped(tokens.len()));
+    }
+    let at = opened(Key::For, tokens)?;
+    let rest = at.rest;
+    for_opening_of(at, for_ended(alloc, rest, height))
 }
 
 /// The resources of a `try`, where there is room for them.
+#[tactic(auto, using(crate::proofs::ResourceForms::resources_none))]
 pub fn resources(alloc: Global, tokens: &[Token], height: u32) -> Result<Found<'_, Resources>, Halt>
     requires { length tokens.now < 2 ^ 32 }
     ensures read { Gives result (roomy_resources_run height tokens.now) }
     ensures shorter { IfOk result (λ f. length f.rest.now ≤ length tokens.now) }
 {
-    Err(Halt::WantOfMemory)
+    if height == 0 {
+        return Err(Halt::Stopped(tokens.len()));
+    }
+    let open = sign(Sign::LeftParen, tokens)?;
+    reaching(open.left, some_resources(alloc, open.rest, height))
 }
 
 /// An effect and a semicolon, as the code reads effects.
