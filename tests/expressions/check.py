@@ -17,7 +17,7 @@ import table
 HEIGHTS = 200
 LEXEME = re.compile(r"[A-Za-z_]\w*|\d\w*|'(?:\\.|[^'\\])*'|\"(?:\\.|[^\"\\])*\"|<<=|==|<=|!=|&&|\|\||\+\+|--|<<|[-+*/&|^%]=|\S")
 LINE = re.compile(r"(.*) next (\d+) reach (\d+)")
-GENEROUS_SECONDS = 10
+GENEROUS_SECONDS = 60
 
 
 def count(source):
