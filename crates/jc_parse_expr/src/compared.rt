@@ -9,8 +9,8 @@ ghost use Rattle.jc_expr_laws.specs.CompareReading.{barred, is_touching, touched
 ghost use Rattle.jc_tree.specs.declared.expression.Operand.TheVariants as operand_of;
 ghost use Rattle.jc_parse_expr.specs.BinaryLevels.{ends_open, measured_operand};
 
-use crate::Measured;
-use crate::making::instance_node;
+use crate::measured::Measured;
+use crate::operator_nodes::instance_node;
 use crate::pieces::is_at;
 use crate::shapes::ends_bare;
 use jc_lexer::{Sign, Token, TokenKind};

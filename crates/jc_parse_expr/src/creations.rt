@@ -10,11 +10,11 @@ ghost use Rattle.jc_parse_type.specs.TypeReading.{dims_run};
 ghost use Rattle.jc_expr_laws.specs.PrimeReading.{array_creation, array_tail_run, class_creation, class_tail_run, creation_run, object_run};
 ghost use Rattle.jc_parse_expr.specs.PrimeCode.{Measures, Reads, array_in, expr_in, exprs_height, initial_made, length_run, object_made, sized_made, sized_run};
 
-use crate::Measured;
-use crate::joints::{noting_creation, object_with, sized_with};
 use crate::lists::{actuals, array_init, inner};
-use crate::makers::{initialised_node, new_node};
+use crate::measured::Measured;
 use crate::pieces::{diamond, is_at};
+use crate::primary_joints::{noting_creation, object_with, sized_with};
+use crate::primary_nodes::{initialised_node, new_node};
 use crate::shapes::ends_bare;
 use crate::skips::body;
 use jc_lexer::{Sign, Token};

@@ -8,9 +8,11 @@ ghost use Rattle.jc_parse_expr.specs.Measuring.{measured, measured_operands};
 ghost use Rattle.jc_parse_expr.specs.BinaryLevels.{level_run, levels_at, measured_operand, measured_right, next_operand_run, operand_run, operands_run, otherwise_run, then_run, tighter_run};
 ghost use Rattle.jc_parse_expr.specs.declared.operators.Level.TheVariants as level_of;
 
-use crate::Measured;
-use crate::built::{alone, with_branches, with_operand, with_operands, with_right, with_value};
 use crate::compared::{ends_open, instance, is_barred, touched_before};
+use crate::measured::Measured;
+use crate::operator_joints::{
+    alone, with_branches, with_operand, with_operands, with_right, with_value,
+};
 use crate::operators::{Level, assign_op, operator, tighter_level};
 use crate::shapes::may_be_target;
 use crate::unaries::unary;

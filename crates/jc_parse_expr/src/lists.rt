@@ -11,11 +11,11 @@ ghost use Rattle.jc_expr_laws.specs.ExprReading.{readers};
 ghost use Rattle.jc_parse_expr.specs.Measuring.{measured_array};
 ghost use Rattle.jc_parse_expr.specs.PrimeCode.{IsMeasured, Measures, Reads, empty_row_tree, expr_in, exprs_height, init_in, init_row_run, inits_height, row_height, row_tree, some_exprs_run};
 
-use crate::Measured;
 use crate::levels::expr;
-use crate::makers::{array_node, nested_init, value_init};
+use crate::measured::Measured;
 use crate::parts::Row;
 use crate::pieces::{closing, ends_row, is_at};
+use crate::primary_nodes::{array_node, nested_init, value_init};
 use jc_lexer::{Sign, Token};
 use jc_reading::{Found, Halt, behind_sign, place_of_sign};
 use jc_rules::{Items, WantOfMemory};

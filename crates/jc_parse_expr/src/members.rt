@@ -9,13 +9,13 @@ ghost use Rattle.jc_reading.specs.Reading.{an_ident_at, as_new, becoming, in_tur
 ghost use Rattle.jc_expr_laws.specs.PrimeReading.{actuals_run, creation_run, dotted_run, member_run, named_run, some_args_run};
 ghost use Rattle.jc_parse_expr.specs.PrimeCode.{IsMeasured, Measures, Reads, array_in, called_tree, dotted_inside, dotted_tree, expr_in, index_tree, member_height, member_tree, named_made, named_tree, pointed_tree, selected_on, selector_at, selector_height, some_args_list, super_made};
 
-use crate::Measured;
 use crate::creations::{creation, index};
-use crate::joints::{called_with, named_with, noting_member, selected_with, started_with};
 use crate::lists::actuals;
-use crate::makers::{index_part, member_part, new_part, super_node};
+use crate::measured::Measured;
 use crate::parts::{MemberTree, SelectorTree};
 use crate::pieces::is_at;
+use crate::primary_joints::{called_with, named_with, noting_member, selected_with, started_with};
+use crate::primary_nodes::{index_part, member_part, new_part, super_node};
 use crate::shapes::is_sized;
 use jc_lexer::{Key, Sign, Token};
 use jc_parse_type::more_args;

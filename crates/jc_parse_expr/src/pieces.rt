@@ -12,7 +12,7 @@ ghost use Rattle.jc_expr_laws.specs.StartReading.{dot_class_run};
 ghost use Rattle.jc_expr_laws.specs.PostReading.{op_of_kind, ops_run};
 ghost use Rattle.jc_parse_expr.specs.PrimeCode.{IsMeasured, literal_made};
 
-use crate::Measured;
+use crate::measured::Measured;
 use jc_lexer::{Key, Sign, Token, TokenKind};
 use jc_reading::{Found, behind_key, behind_sign};
 use jc_rules::{Items, WantOfMemory};

@@ -7,7 +7,7 @@ ghost use Rattle.jc_parse_expr.specs.declared.measured.Measured.{Measured};
 ghost use Rattle.jc_expr_laws.specs.LevelReading.{prefix_op_run};
 ghost use Rattle.jc_parse_expr.specs.BinaryLevels.{cast_type_run};
 
-use crate::Measured;
+use crate::measured::Measured;
 use crate::operators::prefix_op;
 use jc_lexer::{Sign, Token};
 use jc_parse_type::type_within;

@@ -15,13 +15,13 @@ ghost use Rattle.jc_parse_expr.specs.BinaryLevels.{post_at};
 ghost use Rattle.jc_parse_expr.specs.Measuring.{measured};
 ghost use Rattle.jc_parse_expr.specs.PrimeCode.{IsMeasured, Measures, Reads, array_in, changed_on, expr_in, keyed_made, parens_made, void_made};
 
-use crate::Measured;
 use crate::creations::created_at;
-use crate::joints::noting_start;
 use crate::lists::inner;
-use crate::makers::{changed_node, paren_node, this_node, void_node};
+use crate::measured::Measured;
 use crate::members::{selectors, started_name, super_member};
 use crate::pieces::{dot_class, is_word, literal, postfix};
+use crate::primary_joints::noting_start;
+use crate::primary_nodes::{changed_node, paren_node, this_node, void_node};
 use crate::specials::special;
 use jc_lexer::{Key, Sign, Token};
 use jc_reading::{Found, Halt, behind_sign, place_of_key, place_of_sign};

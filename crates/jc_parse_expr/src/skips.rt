@@ -8,7 +8,7 @@ ghost use Rattle.jc_reading.specs.Reading.{any_number, as_new, picking};
 ghost use Rattle.jc_expr_laws.specs.PrimeReading.{body_run, picks_skipped, skip_run};
 ghost use Rattle.jc_parse_expr.specs.PrimeCode.{IsMeasured, Measures, Reads, skip_item_run, skips_height, skip_parts_height, skipped_kind, skipped_token};
 
-use crate::Measured;
+use crate::measured::Measured;
 use crate::pieces::{copy_units, is_at};
 use jc_lexer::{Sign, Token, TokenKind};
 use jc_reading::{Found, Halt, behind_sign};

@@ -12,10 +12,10 @@ ghost use Rattle.jc_expr_laws.specs.StartReading.{bare_class, bare_part, class_d
 ghost use Rattle.jc_parse_expr.specs.PrimeCode.{IsMeasured, Measures, names_special_made, names_special_run, special_tail_run, word_class_made};
 ghost use Rattle.jc_parse_expr.specs.SpecialCode.{dims_tail, dot_name_run, forgetting, key_tail, of_tail, tail_of};
 
-use crate::Measured;
-use crate::makers::{class_node, outer_node};
+use crate::measured::Measured;
 use crate::parts::NamesTail;
 use crate::pieces::{dot_class, is_at};
+use crate::primary_nodes::{class_node, outer_node};
 use jc_lexer::{Key, Sign, Token, TokenKind};
 use jc_parse_type::{dims, primitive};
 use jc_reading::{Found, Halt, behind_key, behind_sign, identifier};

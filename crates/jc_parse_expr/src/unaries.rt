@@ -6,8 +6,8 @@ ghost use Rattle.jc_expr_laws.specs.LevelReading.{cast_run, operand_for};
 ghost use Rattle.jc_parse_expr.specs.Measuring.{measured};
 ghost use Rattle.jc_parse_expr.specs.BinaryLevels.{cast_made, levels_at, prefixed_run};
 
-use crate::Measured;
-use crate::built::{with_prefixes, with_type};
+use crate::measured::Measured;
+use crate::operator_joints::{with_prefixes, with_type};
 use crate::operators::{plain_op, prefix_op};
 use crate::prefixes::{cast_type, noting, prefix_ops};
 use crate::primes::post;

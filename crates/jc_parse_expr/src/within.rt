@@ -13,10 +13,10 @@ ghost use Rattle.jc_expr_laws.specs.LevelReading.{assign_made, assign_run};
 ghost use Rattle.jc_parse_expr.specs.Measuring.{measured};
 ghost use Rattle.jc_parse_expr.specs.BinaryLevels.{levels_at, post_at};
 
-use crate::Measured;
 use crate::levels::{assigned, conditional, expr};
 use crate::lists::array_init;
-use crate::making::assign_node;
+use crate::measured::Measured;
+use crate::operator_nodes::assign_node;
 use crate::operators::crement_op;
 use crate::pieces::is_at;
 use crate::primes::post;

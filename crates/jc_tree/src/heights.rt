@@ -5,5 +5,6 @@ mod statements;
 mod types;
 
 pub use expressions::{array_height, expr_height};
+pub use parts::modifiers_height;
 pub use statements::height;
-pub use types::{class_height, type_height};
+pub use types::{args_height, base_height, class_height, type_height};

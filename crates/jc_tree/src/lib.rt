@@ -18,7 +18,10 @@ pub use expression::{
     PrefixSign, Skip, SkipPart,
 };
 pub use fault::ParseFault;
-pub use heights::{array_height, class_height, expr_height, height, type_height};
+pub use heights::{
+    args_height, array_height, base_height, class_height, expr_height, height, modifiers_height,
+    type_height,
+};
 pub use name::Ident;
 pub use offsets::{
     first_offset_of_arg, first_offset_of_class, first_offset_of_clause, first_offset_of_creation,

@@ -5,7 +5,7 @@ ghost use Rattle.jc_tree.specs.declared.expression.Expr.TheVariants as expr_of;
 ghost use Rattle.jc_tree.specs.declared.expression.Operand.TheVariants as operand_of;
 ghost use Rattle.jc_parse_expr.specs.Nodes.{assign_node, binary_node, cast_node, chain_node, conditional_node, prefix_node};
 
-use crate::Measured;
+use crate::measured::Measured;
 use jc_rules::{Boxed, Items, WantOfMemory};
 use jc_tree::{AssignOp, BinaryOp, Expr, Operand, PrefixOp, TypeTree, type_height};
 use std::alloc::Global;

@@ -11,11 +11,11 @@ ghost use Rattle.jc_expr_laws.specs.PrimeReading.{actuals_run, body_run, named_r
 ghost use Rattle.jc_parse_expr.specs.PrimeCode.{IsMeasured, Measures, Reads, called_tree, expr_in, exprs_height, length_run, member_height, named_made, named_tree, object_made, of_selector, selector_height, sized_made, sized_run, skips_height};
 ghost use Rattle.jc_parse_expr.specs.declared.parts.MemberTree.{MemberTree};
 
-use crate::Measured;
-use crate::makers::{
+use crate::measured::Measured;
+use crate::parts::{MemberTree, SelectorTree};
+use crate::primary_nodes::{
     call_part, field_part, invoke_node, name_node, object_node, selected_node, sized_node,
 };
-use crate::parts::{MemberTree, SelectorTree};
 use jc_parse_type::dims;
 use jc_reading::{Found, Halt};
 use jc_rules::{Items, WantOfMemory};

@@ -4,7 +4,7 @@ use Rattle.jc_tree.specs.declared.expression.Creation.{Creation}
 use Rattle.jc_reading.specs.Reading.{Found, any_number}
 use Rattle.jc_parse_expr.specs.PrimeCode.{Reads, expr_in, exprs_height, length_run}
 use Rattle.jc_parse_expr.proofs.JointCode.{sized_reads}
-use Rattle.jc_parse_expr.proofs.joints.sized_with.Goals as goal
+use Rattle.jc_parse_expr.proofs.primary_joints.sized_with.Goals as goal
 
 pub returns : goal.returns
 returns c = λ h ts e f.

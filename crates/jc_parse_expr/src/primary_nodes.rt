@@ -10,49 +10,14 @@ ghost use Rattle.jc_parse_expr.specs.PrimeCode.{IsMeasured, args_height, exprs_h
 ghost use Rattle.jc_parse_expr.specs.declared.parts.MemberTree.TheVariants as member_of;
 ghost use Rattle.jc_parse_expr.specs.declared.parts.SelectorTree.TheVariants as selector_of;
 
-use crate::Measured;
+use crate::measured::Measured;
 use crate::parts::{MemberTree, Row, SelectorTree};
 use jc_rules::{Boxed, Items, WantOfMemory};
 use jc_tree::{
     ArrayInit, BaseTree, ClassTree, Creation, Expr, Ident, Init, PostfixOp, Skip, TypeArg,
-    TypeTree, class_height, type_height,
+    TypeTree, args_height, base_height, class_height, type_height,
 };
 use std::alloc::Global;
-
-/// The height of a type argument.
-#[tactic(auto, using(crate::proofs::HeightSteps::types))]
-fn arg_height(arg: &TypeArg) -> u32
-    ensures { result ≡ capped (arg_height arg.now) }
-{
-    match arg {
-        TypeArg::Exact(ty) => type_height(ty),
-        TypeArg::Any { .. } => 0,
-        TypeArg::Extends { bound, .. } => type_height(bound),
-        TypeArg::Super { bound, .. } => type_height(bound),
-    }
-}
-
-/// The greatest height of type arguments.
-fn args_height(args: &[TypeArg]) -> u32
-    ensures { result ≡ capped (args_height args.now) }
-{
-    let mut most = 0;
-    for arg in args {
-        most = most.max(arg_height(arg));
-    }
-    most
-}
-
-/// The height of an element type.
-#[tactic(auto, using(crate::proofs::HeightSteps::types))]
-fn base_height(base: &BaseTree) -> u32
-    ensures { result ≡ capped (base_height base.now) }
-{
-    match base {
-        BaseTree::Primitive { .. } => 0,
-        BaseTree::Class(class) => class_height(class),
-    }
-}
 
 /// A name.
 #[tactic(auto, using(crate::proofs::HeightSteps::primes))]

@@ -3,8 +3,8 @@ ghost use Rattle.jc_parse_expr.specs.Nodes.{binary_node, cast_node, chain_node, 
 ghost use Rattle.jc_parse_expr.specs.After.{After, Alone, Built, Chosen, Joined, LeftAlone, assign_right, pair_of};
 ghost use Rattle.std.specs.Prelude.{◌≡◌, Ok};
 
-use crate::Measured;
-use crate::making::{
+use crate::measured::Measured;
+use crate::operator_nodes::{
     assign_node, binary_node, cast_node, chain_node, conditional_node, prefix_node,
 };
 use jc_reading::{Found, Halt};
