@@ -9,9 +9,9 @@ use Rattle.jc_reading.specs.Reading.{as_new, at_kind}
 use Rattle.jc_expr_laws.specs.ExprReading.{exprs}
 use Rattle.jc_unit_laws.specs.UnitReading.{or_others, block_run, body_run, braced_at_run, break_run, case_item_run, continue_run, do_run, empty_run, for_run, if_codes, if_run, local_run, other_run, plain_run, return_run, statement_codes, switch_run, throw_run, try_run, while_run, word_run}
 use Rattle.jc_unit_laws.specs.MemberReading.{instance_made, item_run, levels, member_run, moded_item_run}
-use Rattle.jc_parse_unit.specs.Beginnings.{declaration_codes, modifier_codes}
-use Rattle.jc_parse_unit.specs.UnitCode.{keyed_run, simply_run}
-use Rattle.jc_parse_unit.proofs.Joinings.{or_this, or_that}
+use Rattle.jc_parse_heads.specs.Beginnings.{declaration_codes, modifier_codes}
+use Rattle.jc_parse_heads.specs.UnitCode.{keyed_run, simply_run}
+use Rattle.jc_parse_heads.proofs.Joinings.{or_this, or_that}
 
 pub body_if : (h : ℕ) (ts : List Token) → one_of (key_code key_of.If ∷ []) ts ≡ true → body_run exprs h (levels exprs h) ts ≡ if_run exprs h (levels exprs h) ts
 unfolding body_run other_run simply_run

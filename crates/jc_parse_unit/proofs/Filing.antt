@@ -17,10 +17,10 @@ use Rattle.jc_unit_laws.specs.MemberReading.{declared_made, import_run, levels, 
 use Rattle.jc_unit_laws.proofs.FileForms.{import_coded, import_laws}
 use Rattle.jc_parse_parts.specs.Lists.{GoesAhead}
 use Rattle.jc_parse_parts.proofs.Growths.{advances_ahead}
-use Rattle.jc_parse_unit.specs.declared.pieces.Body.{Body}
-use Rattle.jc_parse_unit.specs.UnitCode.{body_made, declaration_of, declaration_rest_run, declared_top_run}
-use Rattle.jc_parse_unit.proofs.Joinings.{or_this, or_that, second_made}
-use Rattle.jc_parse_unit.proofs.LevelAdvances.{top_advances}
+use Rattle.jc_parse_heads.specs.declared.pieces.Body.{Body}
+use Rattle.jc_parse_heads.specs.UnitCode.{body_made, declaration_of, declaration_rest_run, declared_top_run}
+use Rattle.jc_parse_heads.proofs.Joinings.{or_this, or_that, second_made}
+use Rattle.jc_parse_heads.proofs.LevelAdvances.{top_advances}
 use Rattle.jc_parse_unit.proofs.Moded.{declared_same}
 
 abbrev pub top_node : (List Modifier × Body) → TopLevel

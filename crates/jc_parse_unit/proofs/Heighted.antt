@@ -6,8 +6,8 @@ use Rattle.jc_tree.specs.declared.statement.Stmt.{Stmt}
 use Rattle.jc_expr_laws.specs.ExprReading.{exprs}
 use Rattle.jc_unit_laws.specs.UnitReading.{body_run, case_item_run, other_run}
 use Rattle.jc_unit_laws.specs.MemberReading.{first_run, item_run, levels, rest_run}
-use Rattle.jc_parse_unit.specs.UnitCode.{body_made, declaration_rest_run}
-use Rattle.jc_parse_unit.specs.declared.pieces.Body.{Body}
+use Rattle.jc_parse_heads.specs.UnitCode.{body_made, declaration_rest_run}
+use Rattle.jc_parse_heads.specs.declared.pieces.Body.{Body}
 
 less : (k : ℕ) → k ≡ suc k - 1
 less k = omega arith

@@ -7,12 +7,11 @@ ghost use Rattle.jc_reading.specs.Kinds.{sign_code};
 ghost use Rattle.jc_reading.specs.Reading.{any_number, as_new, at_kind, perhaps};
 ghost use Rattle.jc_expr_laws.specs.ExprReading.{exprs};
 ghost use Rattle.jc_unit_laws.specs.MemberReading.{file_run, import_run, package_run, top_run};
-ghost use Rattle.jc_parse_unit.specs.UnitCode.{declared_top_run};
+ghost use Rattle.jc_parse_heads.specs.UnitCode.{declared_top_run};
 
-use crate::fronts::sign_stands;
 use crate::members::rest_at;
-use crate::nodes::top_of;
 use jc_lexer::{Sign, Token};
+use jc_parse_heads::{sign_stands, top_of};
 use jc_parse_parts::{import, many, modifiers_within, package, sign_at};
 use jc_reading::{Found, Halt};
 use jc_rules::{Items, WantOfMemory};

@@ -3,28 +3,28 @@ ghost use Rattle.std.specs.Prelude.{◌≡◌, ◌<◌, ◌≤◌, ◌^◌, leng
 ghost use Rattle.jc_reading.specs.Giving.{Gives, Is};
 ghost use Rattle.jc_reading.specs.Reading.{any_number, as_new, at_kind, noting};
 ghost use Rattle.jc_expr_laws.specs.ExprReading.{exprs};
-ghost use Rattle.jc_unit_laws.specs.MemberReading.{instance_made, item_run, levels, member_run, moded_item_run, moded_member_run};
-ghost use Rattle.jc_parse_unit.specs.UnitCode.{body_made, braced_members_run, coded_member_run, declaration_rest_run, static_run};
+ghost use Rattle.jc_unit_laws.specs.MemberReading.{first_run, instance_made, item_run, levels, member_run, moded_item_run, moded_member_run};
+ghost use Rattle.jc_parse_heads.specs.UnitCode.{body_made, braced_members_run, coded_member_run, declaration_rest_run, static_run};
+ghost use Rattle.jc_parse_heads.specs.MemberCode.{constructor_list_run, finish_from, first_ended_run, first_items_run, first_row_run, method_items_run, super_or_item_run};
+ghost use Rattle.jc_parse_heads.specs.declared.heads.MemberHead.TheVariants as head_of;
 ghost use Rattle.jc_lexer.specs.declared.token.Sign.TheVariants as sign_of;
 ghost use Rattle.jc_tree.specs.declared.statement.Member.TheVariants as member_of;
 ghost use Rattle.jc_reading.specs.Kinds.{sign_code};
 ghost use Rattle.jc_unit_laws.specs.UnitReading.{braced_at_run};
 
-use crate::fronts::{
-    behind_static, declaration_stands, rest_stands, sign_stands, statement_stands,
-    static_block_stands, word_stands,
-};
-use crate::joins::{closed, reaching};
-use crate::locals::typed;
-use crate::lows::are_low;
-use crate::nodes::{body_of, declared_of, initialiser_of, local_of, nested_of};
-use crate::pieces::Body;
-use crate::statements::{braced_items, if_at, items_until, simple, worded};
+use crate::statements::{braced_items, if_at, item_within, items_until, simple, worded};
 use jc_lexer::{Key, Sign, Token};
-use jc_parse_parts::{head_rest_within, many, modifiers_within, sign, sign_at, word_at};
+use jc_parse_heads::{
+    Body, MemberHead, are_low, behind_key, behind_static, body_of, closed, code_head,
+    constructor_end_of, declaration_stands, declared_of, headed_of, in_some, initialiser_of,
+    key_call_stands, local_of, method_end_of, nested_of, no_items, no_statements, reaching,
+    rest_stands, sign_stands, statement_stands, static_block_stands, super_call, this_call, typed,
+    word_stands,
+};
+use jc_parse_parts::{head_rest_within, many, modifiers_within, row, sign, sign_at, word_at};
 use jc_reading::{Found, Halt};
 use jc_rules::{Items, WantOfMemory};
-use jc_tree::{Member, Modifier, Stmt};
+use jc_tree::{Member, MethodHead, Modifier, Stmt};
 use std::alloc::Global;
 
 /// A declaration behind its modifiers.
@@ -53,7 +53,7 @@ pub fn rest_at(alloc: Global, tokens: &[Token], height: u32) -> Result<Found<'_,
 
 /// Members between braces.
 #[cycle(units)]
-#[tactic(auto, unfolding(crate::specs::UnitCode::braced_members_run))]
+#[tactic(auto, unfolding(jc_parse_heads::specs::UnitCode::braced_members_run))]
 fn braced_members(
     alloc: Global,
     tokens: &[Token],
@@ -155,6 +155,7 @@ fn moded_member(alloc: Global, tokens: &[Token], height: u32) -> Result<Found<'_
 }
 
 /// A method, a constructor or fields, behind their modifiers.
+#[cycle(units)]
 fn coded_member<'a>(
     alloc: Global,
     modifiers: Found<'a, Items<Modifier>>,
@@ -163,7 +164,176 @@ fn coded_member<'a>(
     requires { length modifiers.rest.now < 2 ^ 32 }
     ensures { Gives result (noting modifiers.entry.left (coded_member_run height modifiers.entry.value modifiers.entry.rest.now)) }
 {
-    Err(Halt::WantOfMemory)
+    let rest = modifiers.rest;
+    let head = headed_of(modifiers, code_head(alloc, rest, height))?;
+    member_end(alloc, head, height)
+}
+
+/// A member whose head was read.
+#[cycle(units)]
+fn member_end<'a>(
+    alloc: Global,
+    head: Found<'a, MemberHead>,
+    height: u32,
+) -> Result<Found<'a, Member>, Halt>
+    requires { length head.rest.now < 2 ^ 32 }
+    ensures { Gives result (finish_from height head.entry.value head.entry.rest.now head.entry.left) }
+{
+    let rest = head.rest;
+    let left = head.left;
+    match head.value {
+        MemberHead::Method(value) => method_end(alloc, Found { value, rest, left }, height),
+        MemberHead::Constructor(value) => constructor_end(
+            alloc,
+            Found { value, rest, left },
+            height,
+        ),
+        MemberHead::Fields(vars) => Ok(Found {
+            value: Member::Fields(vars),
+            rest,
+            left,
+        }),
+    }
+}
+
+/// A method whose head was read.
+#[cycle(units)]
+fn method_end<'a>(
+    alloc: Global,
+    head: Found<'a, MethodHead>,
+    height: u32,
+) -> Result<Found<'a, Member>, Halt>
+    requires { length head.rest.now < 2 ^ 32 }
+    ensures { Gives result (finish_from height (head_of.Method head.entry.value) head.entry.rest.now head.entry.left) }
+{
+    let rest = head.rest;
+    method_end_of(head, method_items(alloc, rest, height))
+}
+
+/// A constructor whose head was read.
+#[cycle(units)]
+fn constructor_end<'a>(
+    alloc: Global,
+    head: Found<'a, MethodHead>,
+    height: u32,
+) -> Result<Found<'a, Member>, Halt>
+    requires { length head.rest.now < 2 ^ 32 }
+    ensures { Gives result (finish_from height (head_of.Constructor head.entry.value) head.entry.rest.now head.entry.left) }
+{
+    let rest = head.rest;
+    constructor_end_of(head, constructor_list(alloc, rest, height))
+}
+
+/// The statements of a method, or a semicolon in their place.
+#[cycle(units)]
+#[tactic(auto, using(jc_parse_heads::proofs::MemberEnds::items_braces, jc_parse_heads::proofs::MemberEnds::items_none))]
+fn method_items(
+    alloc: Global,
+    tokens: &[Token],
+    height: u32,
+) -> Result<Found<'_, Option<Items<Stmt>>>, Halt>
+    requires { length tokens.now < 2 ^ 32 }
+    ensures { Gives result (method_items_run height tokens.now) }
+{
+    if sign_stands(Sign::LeftBrace, tokens) {
+        return in_some(braced_items(alloc, tokens, height));
+    }
+    no_items(tokens)
+}
+
+/// The statements of a constructor.
+#[cycle(units)]
+#[tactic(auto, unfolding(jc_parse_heads::specs::MemberCode::constructor_list_run))]
+fn constructor_list(
+    alloc: Global,
+    tokens: &[Token],
+    height: u32,
+) -> Result<Found<'_, Items<Stmt>>, Halt>
+    requires { length tokens.now < 2 ^ 32 }
+    ensures { Gives result (constructor_list_run height tokens.now) }
+{
+    let open = sign(Sign::LeftBrace, tokens)?;
+    reaching(open.left, first_items(alloc, open.rest, height))
+}
+
+/// The statements of a constructor, and a right brace.
+#[cycle(units)]
+#[tactic(auto, using(jc_parse_heads::proofs::MemberEnds::first_closes, jc_parse_heads::proofs::MemberEnds::first_goes))]
+fn first_items(alloc: Global, tokens: &[Token], height: u32) -> Result<Found<'_, Items<Stmt>>, Halt>
+    requires { length tokens.now < 2 ^ 32 }
+    ensures { Gives result (first_items_run height tokens.now) }
+{
+    if sign_stands(Sign::RightBrace, tokens) {
+        return no_statements(alloc, tokens);
+    }
+    first_ended(alloc, tokens, height)
+}
+
+/// One statement or more of a constructor, and a right brace.
+#[cycle(units)]
+#[tactic(auto, unfolding(jc_parse_heads::specs::MemberCode::first_ended_run))]
+fn first_ended(alloc: Global, tokens: &[Token], height: u32) -> Result<Found<'_, Items<Stmt>>, Halt>
+    requires { length tokens.now < 2 ^ 32 }
+    ensures { Gives result (first_ended_run height tokens.now) }
+{
+    let items = first_row(alloc, tokens, height)?;
+    closed(Sign::RightBrace, items)
+}
+
+/// One statement or more of a constructor.
+#[cycle(units)]
+fn first_row(alloc: Global, tokens: &[Token], height: u32) -> Result<Found<'_, Items<Stmt>>, Halt>
+    requires { length tokens.now < 2 ^ 32 }
+    ensures { Gives result (first_row_run height tokens.now) }
+{
+    let first = first_within(alloc, tokens, height)?;
+    Ok(row(
+        alloc,
+        first,
+        |ts|
+            requires { length ts.now < 2 ^ 32 }
+            ensures { Gives result ((levels exprs height).item ts.now) }
+        { item_within(alloc, ts, height) },
+    )?)
+}
+
+/// The first statement of a constructor.
+#[cycle(units)]
+#[tactic(auto, using(crate::proofs::Heighted::first_none, crate::proofs::Heighted::first_next))]
+fn first_within(alloc: Global, tokens: &[Token], height: u32) -> Result<Found<'_, Stmt>, Halt>
+    requires { length tokens.now < 2 ^ 32 }
+    ensures { Gives result ((levels exprs height).first tokens.now) }
+{
+    if height == 0 {
+        return Err(Halt::Stopped(tokens.len()));
+    }
+    first_at(alloc, tokens, height - 1)
+}
+
+/// The first statement of a constructor, whose parts have such a height.
+#[cycle(units)]
+#[tactic(auto, using(jc_parse_heads::proofs::MemberEnds::first_this, jc_parse_heads::proofs::MemberEnds::first_other))]
+fn first_at(alloc: Global, tokens: &[Token], height: u32) -> Result<Found<'_, Stmt>, Halt>
+    requires { length tokens.now < 2 ^ 32 }
+    ensures { Gives result (first_run exprs height (levels exprs height) tokens.now) }
+{
+    if key_call_stands(Key::This, tokens) {
+        return this_call(alloc, tokens, height);
+    }
+    behind_key(Key::This, tokens, super_or_item(alloc, tokens, height))
+}
+
+/// A call of a constructor of the superclass, or an item.
+#[cycle(units)]
+#[tactic(auto, using(jc_parse_heads::proofs::MemberEnds::super_there, jc_parse_heads::proofs::MemberEnds::item_there))]
+fn super_or_item(alloc: Global, tokens: &[Token], height: u32) -> Result<Found<'_, Stmt>, Halt>
+    requires { length tokens.now < 2 ^ 32 }
+    ensures { Gives result (super_or_item_run height tokens.now) }
+{
+    if key_call_stands(Key::Super, tokens) {
+        return super_call(alloc, tokens, height);
+    }
+    behind_key(Key::Super, tokens, item_at(alloc, tokens, height))
 }
 
 /// A declaration or variables, with their modifiers.

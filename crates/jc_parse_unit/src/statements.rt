@@ -5,25 +5,18 @@ ghost use Rattle.jc_reading.specs.Reading.{any_number, as_new, in_turn, noting};
 ghost use Rattle.jc_expr_laws.specs.ExprReading.{exprs};
 ghost use Rattle.jc_unit_laws.specs.MemberReading.{levels};
 ghost use Rattle.jc_unit_laws.specs.UnitReading.{arm_run, block_run, body_run, case_item_run, case_run, catch_run, clauses_run, do_run, finally_run, for_run, if_run, label_run, labeled_made, other_run, plain_run, some_clauses_run, switch_run, try_run, while_run, word_run};
-ghost use Rattle.jc_parse_unit.specs.UnitCode.{arms_run, braced_groups_run, braced_items_run, branch_once_run, guarded_run, items_until_run, keyed_run, plain_guarded_run, roomy_resources_run, simply_run, some_catches_run, with_node};
+ghost use Rattle.jc_parse_heads.specs.UnitCode.{arms_run, braced_groups_run, braced_items_run, branch_once_run, guarded_run, items_until_run, keyed_run, plain_guarded_run, roomy_resources_run, simply_run, some_catches_run, with_node};
 
-use crate::arms::{arm_branch, if_else_of, if_of, is_open, last_branch, with_last};
-use crate::fronts::{
-    behind_name, label_stands, modifier_stands, sign_stands, statement_stands, word_stands,
-};
-use crate::joins::{boxed, closed, reaching, single, some};
-use crate::locals::{
-    catch_opening, ended_effect, finally_opening, for_opening, local, local_or_effect, resources,
-};
 use crate::members::item_at;
-use crate::nodes::{
-    arm_of, block_of, clause_of, do_of, for_of, guarded_of, labeled_of, switch_of, try_of,
-    try_with_of, while_of,
-};
-use crate::openings::{do_test, label, named_label, roomy_tested, tested};
-use crate::pieces::{Branch, Guarded};
-use crate::simple::{break_at, continue_at, empty, return_at, throw_at};
 use jc_lexer::{Key, Sign, Token};
+use jc_parse_heads::{
+    Branch, Guarded, arm_branch, arm_of, behind_name, block_of, boxed, break_at, catch_opening,
+    clause_of, closed, continue_at, do_of, do_test, empty, ended_effect, finally_opening, for_of,
+    for_opening, guarded_of, if_else_of, if_of, is_open, label, label_stands, labeled_of,
+    last_branch, local, local_or_effect, modifier_stands, named_label, reaching, resources,
+    return_at, roomy_tested, sign_stands, single, some, statement_stands, switch_of, tested,
+    throw_at, try_of, try_with_of, while_of, with_last, word_stands,
+};
 use jc_parse_parts::{many, row, sign, sign_at, word, word_at};
 use jc_reading::{Found, Halt};
 use jc_rules::{Items, WantOfMemory};
@@ -124,7 +117,7 @@ fn case_items(
 
 /// Statements up to a right brace.
 #[cycle(units)]
-#[tactic(auto, unfolding(crate::specs::UnitCode::items_until_run))]
+#[tactic(auto, unfolding(jc_parse_heads::specs::UnitCode::items_until_run))]
 pub fn items_until(
     alloc: Global,
     tokens: &[Token],
@@ -139,7 +132,7 @@ pub fn items_until(
 
 /// Statements between braces.
 #[cycle(units)]
-#[tactic(auto, unfolding(crate::specs::UnitCode::braced_items_run, crate::specs::UnitCode::items_until_run))]
+#[tactic(auto, unfolding(jc_parse_heads::specs::UnitCode::braced_items_run, jc_parse_heads::specs::UnitCode::items_until_run))]
 pub fn braced_items(
     alloc: Global,
     tokens: &[Token],
@@ -245,7 +238,7 @@ fn groups(
 
 /// The parts of a switch, between braces.
 #[cycle(units)]
-#[tactic(auto, unfolding(crate::specs::UnitCode::braced_groups_run))]
+#[tactic(auto, unfolding(jc_parse_heads::specs::UnitCode::braced_groups_run))]
 fn braced_groups(
     alloc: Global,
     tokens: &[Token],

@@ -11,23 +11,23 @@ use Rattle.jc_reading.specs.Kinds.{key_code, sign_code}
 use Rattle.jc_reading.specs.Reading.{Read, Run, Found, Stopped, any_number, as_new, at_kind, becoming, in_turn, noting, of_kind, perhaps}
 use Rattle.jc_expr_laws.specs.ExprReading.{exprs}
 use Rattle.jc_unit_laws.specs.MemberReading.{levels, member_run}
-use Rattle.jc_parse_unit.proofs.Joinings.{closed_is, cut, joined_gives, two_gives, two_halts}
+use Rattle.jc_parse_heads.proofs.Joinings.{closed_is, cut, joined_gives, two_gives, two_halts}
 use Rattle.jc_unit_laws.specs.UnitReading.{case_run, catch_run, clauses_run, do_made, some_clauses_run}
 use Rattle.jc_parse_parts.proofs.Insides.{ahead_inside, kept, shorter_by}
-use Rattle.jc_parse_unit.specs.Joins.{alone}
-use Rattle.jc_parse_unit.specs.UnitCode.{braced_groups_run, braced_items_run, catch_opening_run, clause_made, do_test_run, finally_opening_run, for_opening_run, guarded_run, items_until_run, label_run, named_label_run, plain_guarded_run, roomy_resources_run, roomy_tested_run, some_catches_run, tested_run, with_last, with_node}
-use Rattle.jc_parse_unit.specs.declared.pieces.Guarded.{Guarded}
-use Rattle.jc_parse_unit.proofs.Aheads.{body_ahead, braced_items_inside, case_item_ahead, group_ahead, item_ahead, member_ahead}
-use Rattle.jc_parse_unit.proofs.Starts.{arm_is, arm_node, block_is, block_node, case_is, for_is, for_node, labeled_is, labeled_node, switch_is, switch_node, while_is, while_node}
+use Rattle.jc_parse_heads.specs.Joins.{alone}
+use Rattle.jc_parse_heads.specs.UnitCode.{braced_groups_run, braced_items_run, catch_opening_run, clause_made, do_test_run, finally_opening_run, for_opening_run, guarded_run, items_until_run, label_run, named_label_run, plain_guarded_run, roomy_resources_run, roomy_tested_run, some_catches_run, tested_run, with_last, with_node}
+use Rattle.jc_parse_heads.specs.declared.pieces.Guarded.{Guarded}
+use Rattle.jc_parse_heads.proofs.Aheads.{body_ahead, braced_items_inside, case_item_ahead, group_ahead, item_ahead, member_ahead}
+use Rattle.jc_parse_heads.proofs.Starts.{arm_is, arm_node, block_is, block_node, case_is, for_is, for_node, labeled_is, labeled_node, switch_is, switch_node, while_is, while_node}
 use Rattle.jc_parse_unit.proofs.Tails.{Catch, Finally, catch_is, clauses_is, do_is, do_node, do_there, finally_is, guarded_is, guarded_node, plain_guarded_is, some_clauses_catch, branch_halts, if_halts, try_halts, try_node, try_plain_is}
 use Rattle.jc_parse_parts.specs.Parts.{head_tree}
 use Rattle.jc_part_laws.specs.PartReading.{head_rest_run}
 use Rattle.jc_parse_type.specs.TypeReading.{class_run}
 use Rattle.std.proofs.Common.{Bool, true, false}
 use Rattle.jc_unit_laws.specs.UnitReading.{arm_run}
-use Rattle.jc_parse_unit.specs.UnitCode.{arms_run, braced_members_run}
-use Rattle.jc_parse_unit.specs.declared.pieces.Body.{Body}
-use Rattle.jc_parse_unit.proofs.Aheads.{catch_ahead}
+use Rattle.jc_parse_heads.specs.UnitCode.{arms_run, braced_members_run}
+use Rattle.jc_parse_heads.specs.declared.pieces.Body.{Body}
+use Rattle.jc_parse_heads.proofs.Aheads.{catch_ahead}
 use Rattle.jc_parse_unit.proofs.Elses.{Turns}
 use Rattle.jc_parse_unit.proofs.Moded.{block_member, body_node, instance_is, rest_is, static_is}
 use Rattle.jc_tree.specs.declared.statement.Modifier.{Modifier}
@@ -35,15 +35,19 @@ use Rattle.jc_tree.specs.declared.statement.Stmt.TheVariants as stmt_of
 use Rattle.jc_reading.specs.declared.reading.Halt.{Halt}
 use Rattle.jc_unit_laws.specs.MemberReading.{is_low, moded_item_run, moded_member_run}
 use Rattle.jc_parse_parts.proofs.Growths.{ahead_less}
-use Rattle.jc_parse_unit.specs.UnitCode.{body_made, branch_once_run, coded_member_run, declaration_rest_run, listed, typed_run}
-use Rattle.jc_parse_unit.specs.declared.pieces.Branch.{Branch}
-use Rattle.jc_parse_unit.specs.declared.pieces.Branch.TheVariants as branch_is
-use Rattle.jc_parse_unit.proofs.Aheads.{arm_ahead, branch_ahead, stop_near}
+use Rattle.jc_parse_heads.specs.UnitCode.{body_made, branch_once_run, coded_member_run, declaration_rest_run, listed, typed_run}
+use Rattle.jc_parse_heads.specs.declared.pieces.Branch.{Branch}
+use Rattle.jc_parse_heads.specs.declared.pieces.Branch.TheVariants as branch_is
+use Rattle.jc_parse_heads.proofs.Aheads.{arm_ahead, branch_ahead, stop_near}
 use Rattle.jc_parse_unit.proofs.Elses.{last_gives, turn_arm, turn_last, turn_stops}
-use Rattle.jc_parse_unit.proofs.Joinings.{found_same}
+use Rattle.jc_parse_heads.proofs.Joinings.{found_same}
 use Rattle.jc_parse_unit.proofs.Moded.{declared_node, item_lines, item_none, item_stands, lines_node, member_high, member_nested, member_other, nested_node}
 use Rattle.jc_parse_unit.proofs.Tails.{some_catches_is, try_with_is}
 use Rattle.jc_parse_unit.proofs.+units.Goals.{members::moded_item-then-is_empty-via-then-is_empty, members::moded_item-then-is_empty-via-else-is_empty+then-rest_stands, members::moded_member-else-rest_stands-via-then-rest_stands+else-are_low, members::moded_member-else-rest_stands-via-else-rest_stands}
+use Rattle.jc_parse_heads.specs.MemberCode.{code_head_run, constructor_list_run, finish, first_row_run, method_items_run, method_member, with_head}
+use Rattle.jc_parse_heads.proofs.Aheads.{first_ahead}
+use Rattle.jc_parse_unit.proofs.MemberInsides.{head_leaves}
+use Rattle.jc_parse_heads.proofs.MemberEnds.{coded_goes, constructor_goes_on, constructor_of, finish_halts, method_goes_on}
 use Rattle.jc_parse_unit.proofs.+units.Goals as goal
 
 pub statements::block-returns-in_err-at : goal.statements::block-returns-in_err-at
@@ -383,3 +387,66 @@ statements::try_at-returns-then-sign_stands t c =
     let at = c.in_ok-at.at in
     subst (λ (v : Read Stmt). Gives c.reaching.result v) (sym (try_with_is c.args.height c.args.tokens.now at.value at.rest.now at.left c.in_ok-at.ensures.read (search rules)))
     (c.reaching.ensures.read (as_new (with_node at.value) (in_turn (roomy_resources_run c.args.height) (guarded_run c.args.height)) at.rest.now) c.try_with.ensures)
+
+pub members::coded_member-returns-in_err-head : goal.members::coded_member-returns-in_err-head
+members::coded_member-returns-in_err-head t c =
+    let h = c.args.height in
+    let ms = c.args.modifiers in
+    let e = c.in_err-head.field-0.0 in
+    let p = err_from_is_err_and c.from_residual.result c.from_residual.ensures.1 in
+    rw (p.1, p.2) (subst (λ (v : Read Member). Halts e v) (sym (coded_goes h ms.left ms.value ms.rest.now))
+    (finish_halts h (noting ms.left (becoming (with_head ms.value) (code_head_run h ms.rest.now))) e (joined_gives with_head ms (code_head_run h ms.rest.now) c.code_head.result (Err e) c.code_head.ensures c.in_err-head.ensures)))
+
+pub members::coded_member-returns : goal.members::coded_member-returns
+members::coded_member-returns t c =
+    let h = c.args.height in
+    let ms = c.args.modifiers in
+    let head = c.in_ok-head.head in
+    let e : noting ms.left (becoming (with_head ms.value) (code_head_run h ms.rest.now)) ≡ Found head.value head.rest.now head.left =
+    joined_gives with_head ms (code_head_run h ms.rest.now) c.code_head.result (Ok head) c.code_head.ensures c.in_ok-head.ensures in
+    subst (λ (v : Read Member). Gives c.member_end.result v) (sym (coded_goes h ms.left ms.value ms.rest.now ∙ ap (finish h) e)) c.member_end.ensures
+
+pub members::coded_member-member_end-requires : goal.members::coded_member-member_end-requires
+members::coded_member-member_end-requires t c =
+    let h = c.args.height in
+    let ms = c.args.modifiers in
+    let head = c.in_ok-head.head in
+    let e : noting ms.left (becoming (with_head ms.value) (code_head_run h ms.rest.now)) ≡ Found head.value head.rest.now head.left =
+    joined_gives with_head ms (code_head_run h ms.rest.now) c.code_head.result (Ok head) c.code_head.ensures c.in_ok-head.ensures in
+    let lt = head_leaves h ms.left ms.value ms.rest.now head.rest.now head.value head.left e in
+    omega (arith, lt, c.requires)
+
+pub members::method_end-returns : goal.members::method_end-returns
+members::method_end-returns t c =
+    let h = c.args.height in
+    let head = c.args.head in
+    subst (λ (v : Read Member). Gives c.method_end_of.result v) (sym (method_goes_on h head.value head.rest.now head.left))
+    (joined_gives method_member head (method_items_run h head.rest.now) c.method_items.result c.method_end_of.result c.method_items.ensures c.method_end_of.ensures)
+
+pub members::constructor_end-returns : goal.members::constructor_end-returns
+members::constructor_end-returns t c =
+    let h = c.args.height in
+    let head = c.args.head in
+    subst (λ (v : Read Member). Gives c.constructor_end_of.result v) (sym (constructor_goes_on h head.value head.rest.now head.left))
+    (joined_gives constructor_of head (constructor_list_run h head.rest.now) c.constructor_list.result c.constructor_end_of.result c.constructor_list.ensures c.constructor_end_of.ensures)
+
+pub members::first_row-returns-in_err-first : goal.members::first_row-returns-in_err-first
+unfolding first_row_run
+members::first_row-returns-in_err-first t c =
+    let p = err_from_is_err_and c.from_residual.result c.from_residual.ensures.1 in
+    rw (p.1, p.2) (two_halts listed ((levels exprs c.args.height).first c.args.tokens.now) (any_number (levels exprs c.args.height).item) c.in_err-first.field-0.0 c.in_err-first.ensures)
+
+pub members::first_row-row-requires : goal.members::first_row-row-requires
+members::first_row-row-requires t c κs =
+    let h = c.args.height in
+    let first = c.in_ok-first.first in
+    let lt = ahead_less (levels exprs h).first c.args.tokens.now first.rest.now first.value first.left (first_ahead h) c.in_ok-first.ensures in
+    (search rules, (λ ts e. (omega arith, omega (arith, e, lt)), ((levels exprs h).item, item_ahead h, λ ts r p. search rules)))
+
+pub members::first_row-returns : goal.members::first_row-returns
+unfolding first_row_run
+members::first_row-returns t c =
+    let h = c.args.height in
+    let first = c.in_ok-first.first in
+    let item = (levels exprs h).item in
+    subst (λ (v : Read (List Stmt)). Is c.in_ok-row.field-0 v) (sym (cut listed (levels exprs h).first (any_number item) c.args.tokens.now first.rest.now first.value first.left c.in_ok-first.ensures)) (c.in_ok-row.ensures.read item (item_ahead h) (λ ts r p. search rules))

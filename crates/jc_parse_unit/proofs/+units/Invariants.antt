@@ -3,7 +3,7 @@ use Rattle.jc_reading.specs.Reading.{noting}
 use Rattle.jc_expr_laws.specs.ExprReading.{exprs}
 use Rattle.jc_unit_laws.specs.UnitReading.{arm_run}
 use Rattle.jc_unit_laws.specs.MemberReading.{levels}
-use Rattle.jc_parse_unit.specs.UnitCode.{arms_run}
+use Rattle.jc_parse_heads.specs.UnitCode.{arms_run}
 use Rattle.jc_parse_unit.proofs.Elses.{Turns}
 use Rattle.jc_parse_unit.proofs.+units.Given as goal
 
@@ -175,3 +175,42 @@ decreases-statements::items-many l = 60 * l.height + 1
 
 abbrev pub decreases-statements::some_catches-row : goal.decreases-statements::some_catches-row
 decreases-statements::some_catches-row l = 60 * l.height + 7
+
+abbrev pub decreases-members::member_end : goal.decreases-members::member_end
+decreases-members::member_end l = 60 * l.height + 19
+
+abbrev pub decreases-members::method_end : goal.decreases-members::method_end
+decreases-members::method_end l = 60 * l.height + 18
+
+abbrev pub decreases-members::constructor_end : goal.decreases-members::constructor_end
+decreases-members::constructor_end l = 60 * l.height + 18
+
+abbrev pub decreases-members::method_items : goal.decreases-members::method_items
+decreases-members::method_items l = 60 * l.height + 17
+
+abbrev pub decreases-members::constructor_list : goal.decreases-members::constructor_list
+decreases-members::constructor_list l = 60 * l.height + 17
+
+abbrev pub decreases-members::first_items : goal.decreases-members::first_items
+decreases-members::first_items l = 60 * l.height + 16
+
+abbrev pub decreases-members::first_ended : goal.decreases-members::first_ended
+decreases-members::first_ended l = 60 * l.height + 15
+
+abbrev pub decreases-members::first_row : goal.decreases-members::first_row
+decreases-members::first_row l = 60 * l.height + 14
+
+abbrev pub decreases-members::first_within : goal.decreases-members::first_within
+decreases-members::first_within l = 60 * l.height
+
+abbrev pub decreases-members::first_at : goal.decreases-members::first_at
+decreases-members::first_at l = 60 * l.height + 39
+
+abbrev pub decreases-members::super_or_item : goal.decreases-members::super_or_item
+decreases-members::super_or_item l = 60 * l.height + 38
+
+abbrev pub decreases-members::coded_member : goal.decreases-members::coded_member
+decreases-members::coded_member l = 60 * l.height + 20
+
+abbrev pub decreases-members::first_row-row : goal.decreases-members::first_row-row
+decreases-members::first_row-row l = 60 * l.height + 13

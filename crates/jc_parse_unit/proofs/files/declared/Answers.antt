@@ -3,10 +3,10 @@ use Rattle.jc_reading.specs.Giving.{Gives, Halts, Is}
 use Rattle.jc_reading.specs.Reading.{Read, any_number, as_new, in_turn, noting}
 use Rattle.jc_expr_laws.specs.ExprReading.{exprs}
 use Rattle.jc_tree.specs.declared.statement.Stmt.{Stmt}
-use Rattle.jc_parse_unit.proofs.Joinings.{cut, joined_gives, two_gives, two_halts}
+use Rattle.jc_parse_heads.proofs.Joinings.{cut, joined_gives, two_gives, two_halts}
 use Rattle.jc_part_laws.specs.PartReading.{modifiers_run}
 use Rattle.jc_tree.specs.declared.statement.TopLevel.{TopLevel}
-use Rattle.jc_parse_unit.specs.UnitCode.{declaration_rest_run}
+use Rattle.jc_parse_heads.specs.UnitCode.{declaration_rest_run}
 use Rattle.jc_parse_unit.proofs.Filing.{declared_is, top_node}
 use Rattle.jc_parse_unit.proofs.files.declared.Goals as goal
 

@@ -1,0 +1,112 @@
+-- What is read of a `for` up to its body has its reach not behind what is left.
+use Rattle.std.proofs.Common.{ℕ, zero, suc, Bool, true, false, cond, ◌≤◌, min, List, [], ◌∷◌, length, arith}
+use Rattle.jc_lexer.specs.declared.token.Key.TheVariants as key_of
+use Rattle.jc_lexer.specs.declared.token.Sign.TheVariants as sign_of
+use Rattle.jc_lexer.specs.declared.token.Token.{Token}
+use Rattle.jc_tree.specs.declared.expression.Expr.{Expr}
+use Rattle.jc_tree.specs.declared.statement.Modifier.{Modifier}
+use Rattle.jc_tree.specs.declared.types.TypeTree.{TypeTree}
+use Rattle.jc_reading.specs.Kinds.{sign_code, key_code, word_code, one_of}
+use Rattle.jc_reading.specs.Reading.{Read, Found, Stopped, Run, noting, becoming, in_turn, perhaps, of_kind, at_kind, an_ident_at, each_behind, commas_run, Either, This, That, either}
+use Rattle.jc_reading.specs.Further.{tried, trying, with_room}
+use Rattle.jc_parse_type.specs.TypeReading.{dims_run, type_run}
+use Rattle.jc_parse_type.proofs.TypeForms.{dims_laws}
+use Rattle.jc_part_laws.specs.PartReading.{modifier_run, modifiers_run, var_made, var_run}
+use Rattle.jc_expr_laws.specs.ExprReading.{exprs, readers}
+use Rattle.jc_expr_laws.proofs.ExprWhole.{expr_laws}
+use Rattle.jc_unit_laws.specs.UnitReading.{effect_in_run, expr_in_run, for_head_made, for_head_run, for_named_run, for_rest_run, semicolon_run}
+use Rattle.jc_parse_parts.specs.Lists.{Near, Inside}
+use Rattle.jc_parse_parts.proofs.Growths.{within_near}
+use Rattle.jc_parse_parts.proofs.Insides.{ahead_inside, inside_as, inside_commas, inside_each, inside_either, inside_perhaps, inside_picking, inside_room, inside_turn}
+use Rattle.jc_parse_heads.specs.UnitCode.{for_opening, for_opening_run}
+use Rattle.jc_parse_heads.specs.Beginnings.{modifier_codes}
+use Rattle.jc_parse_heads.specs.HeadCode.{effecting_run, given_run, kinds_run, moded_run, resting_run, colon_codes, each_kind_run, tried_run}
+use Rattle.jc_parse_heads.proofs.Aheads.{modifier_ahead}
+use Rattle.jc_parse_heads.proofs.ForUpdates.{effect_inside}
+use Rattle.jc_parse_heads.proofs.HeadInsides.{modifiers_inside, type_inside, value_inside}
+
+dims_inside : Inside dims_run
+dims_inside ts = within_near ts (dims_run ts) (dims_laws.within ts)
+
+semicolon : Inside semicolon_run
+semicolon = inside_picking _
+
+init_inside : (k : ℕ) → Inside (exprs.init (suc k))
+init_inside k ts = within_near ts (exprs.init (suc k) ts) ((expr_laws.init k).within ts)
+
+given_inside : (h : ℕ) → Inside (given_run h)
+unfolding with_room
+given_inside zero = inside_perhaps (with_room zero (in_turn (of_kind (sign_code sign_of.Assign)) (exprs.init zero))) (λ ts. omega arith)
+given_inside (suc k) = inside_perhaps (with_room (suc k) (in_turn (of_kind (sign_code sign_of.Assign)) (exprs.init (suc k)))) (λ ts. inside_turn (of_kind (sign_code sign_of.Assign)) (exprs.init (suc k)) (inside_picking _) (init_inside k) ts)
+
+var_inside : (h : ℕ) → Inside (var_run exprs h)
+unfolding var_run
+var_inside h = inside_as var_made _ (inside_turn an_ident_at (in_turn dims_run (given_run h)) (inside_picking _) (inside_turn dims_run (given_run h) dims_inside (given_inside h)))
+
+updating_inside : (h : ℕ) → Inside (effect_in_run exprs h)
+unfolding with_room
+updating_inside zero ts = omega arith
+updating_inside (suc k) ts = effect_inside k ts
+
+rest_inside : (h : ℕ) → Inside (for_rest_run exprs h)
+unfolding for_rest_run
+rest_inside h =
+    inside_turn semicolon_run _ semicolon (inside_turn (perhaps (expr_in_run exprs h)) _ (inside_perhaps (expr_in_run exprs h) (inside_room h (exprs.expr h) (value_inside h)))
+    (inside_turn semicolon_run (perhaps (commas_run (effect_in_run exprs h))) semicolon (inside_perhaps (commas_run (effect_in_run exprs h)) (inside_commas (effect_in_run exprs h) (updating_inside h)))))
+
+kinds_inside : (h : ℕ) → Inside (kinds_run h)
+kinds_inside h =
+    inside_either colon_codes (each_kind_run h) (in_turn (given_run h) (resting_run h))
+    (inside_turn (of_kind (sign_code sign_of.Colon)) (exprs.expr h) (inside_picking _) (value_inside h))
+    (inside_turn (given_run h) (resting_run h) (given_inside h) (inside_turn (each_behind sign_of.Comma (var_run exprs h)) (for_rest_run exprs h) (inside_each sign_of.Comma (var_run exprs h) (var_inside h)) (rest_inside h)))
+
+named_inside : (h : ℕ) → Inside (for_named_run exprs h)
+unfolding for_named_run
+named_inside h = inside_turn an_ident_at (in_turn dims_run (kinds_run h)) (inside_picking _) (inside_turn dims_run (kinds_run h) dims_inside (kinds_inside h))
+
+moded_inside : (h : ℕ) → Inside (moded_run h)
+moded_inside h =
+    inside_turn (modifier_run exprs h) _ (ahead_inside (modifier_run exprs h) (modifier_ahead h)) (inside_turn (modifiers_run exprs h) _ (modifiers_inside h)
+    (inside_turn (type_run h) (for_named_run exprs h) (type_inside h) (named_inside h)))
+
+effecting_inside : (k : ℕ) → Inside (effecting_run (suc k))
+effecting_inside k = inside_turn (commas_run (exprs.effect (suc k))) (for_rest_run exprs (suc k)) (inside_commas (exprs.effect (suc k)) (effect_inside k)) (rest_inside (suc k))
+
+-- one and more behind it, or the other
+
+near_note : {A B : Type 0} (ts q : List Token) (l : ℕ) (f : A → B) (m : Read A) → l ≤ length ts → length q ≤ length ts → Near q m → Near ts (noting l (becoming f m))
+near_note ts q l f (Found a r k) e g w = (omega (arith, w.0), omega (arith, w.1, g))
+near_note ts q l f (Stopped k) e g w = omega (arith, w, e, g)
+
+near_choice : {A : Type 0} (ts : List Token) (b : Bool) (m n : Read A) → Near ts m → Near ts n → Near ts (cond b m n)
+near_choice ts true m n v w = v
+near_choice ts false m n v w = w
+
+near_tried : {A B C : Type 0} (codes : List ℕ) (ts : List Token) (m : Read A) (k : Run C) (n : Run B) → Near ts m → Inside k → Inside n → Near ts (tried codes ts m k n)
+near_tried {A = A} {B = B} {C = C} codes ts (Found a r l) k n w v u =
+    let near : l ≤ length ts = omega (arith, w.0, w.1) in
+    let same : length ts ≤ length ts = omega arith in
+    let one : C → Either (A × C) B = λ c. This (a, c) in
+    let other : B → Either (A × C) B = λ b. That b in
+    near_choice ts (one_of codes r) (noting l (becoming one (k r))) (noting l (becoming other (n ts))) (near_note ts r l one (k r) near w.1 (v r)) (near_note ts ts l other (n ts) near same (u ts))
+near_tried {A = A} {B = B} {C = C} codes ts (Stopped l) k n w v u =
+    let same : length ts ≤ length ts = omega arith in
+    let other : B → Either (A × C) B = λ b. That b in
+    near_note ts ts l other (n ts) w same (u ts)
+
+tried_inside : (k : ℕ) → Inside (tried_run (suc k))
+tried_inside k ts = near_tried (word_code ∷ []) ts (type_run (suc k) ts) (for_named_run exprs (suc k)) (effecting_run (suc k)) (type_inside (suc k) ts) (named_inside (suc k)) (effecting_inside k)
+
+head_inside : (k : ℕ) → Inside (for_head_run exprs (suc k))
+unfolding for_head_run
+head_inside k =
+    inside_as for_head_made _
+    (inside_either (sign_code sign_of.Semicolon ∷ []) (for_rest_run exprs (suc k)) (either modifier_codes (moded_run (suc k)) (tried_run (suc k))) (rest_inside (suc k))
+    (inside_either modifier_codes (moded_run (suc k)) (tried_run (suc k)) (moded_inside (suc k)) (tried_inside k)))
+
+pub for_inside : (h : ℕ) → Inside (for_opening_run h)
+unfolding for_opening_run with_room
+for_inside zero ts = omega arith
+for_inside (suc k) ts =
+    inside_as for_opening _ (inside_turn (at_kind (key_code key_of.For)) _ (inside_picking _) (inside_turn (of_kind (sign_code sign_of.LeftParen)) _ (inside_picking _)
+    (inside_turn (for_head_run exprs (suc k)) (of_kind (sign_code sign_of.RightParen)) (head_inside k) (inside_picking _)))) ts

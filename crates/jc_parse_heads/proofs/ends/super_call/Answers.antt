@@ -1,0 +1,20 @@
+use Rattle.std.proofs.Common.{◌≡◌, ℕ, List, [], ◌∷◌, length, Result, Ok, Err, refl, sym, ap, ◌∙◌, subst, arith, rules}
+use Rattle.std.proofs.lemmas.Result.{err_from_is_err_and}
+use Rattle.jc_lexer.specs.declared.token.Key.TheVariants as key_of
+use Rattle.jc_tree.specs.declared.statement.Stmt.{Stmt}
+use Rattle.jc_reading.specs.Giving.{Gives, Halts, Is}
+use Rattle.jc_reading.specs.Kinds.{key_code}
+use Rattle.jc_reading.specs.Reading.{Read, at_kind}
+use Rattle.jc_expr_laws.specs.ExprReading.{exprs}
+use Rattle.jc_unit_laws.specs.UnitReading.{expr_in_run}
+use Rattle.jc_parse_heads.specs.MemberCode.{ended_actuals_run}
+use Rattle.jc_parse_heads.proofs.Joinings.{two_gives, two_halts}
+use Rattle.jc_parse_heads.proofs.MemberEnds.{super_is, super_node, this_is, this_node}
+use Rattle.jc_parse_heads.proofs.Aheads.{expr_in_inside}
+use Rattle.jc_parse_heads.proofs.ends.super_call.Goals as goal
+
+pub returns-in_err-at : goal.returns-in_err-at
+returns-in_err-at c = let p = err_from_is_err_and c.from_residual.result c.from_residual.ensures.1 in rw (p.1, p.2) (subst (λ (v : Read Stmt). Halts c.in_err-at.field-0.0 v) (sym (super_is c.args.height c.args.tokens.now)) (two_halts super_node (at_kind (key_code key_of.Super) c.args.tokens.now) (ended_actuals_run c.args.height) c.in_err-at.field-0.0 c.in_err-at.ensures.read))
+
+pub returns : goal.returns
+returns c = subst (λ (v : Read Stmt). Gives c.super_call_of.result v) (sym (super_is c.args.height c.args.tokens.now)) (two_gives super_node (at_kind (key_code key_of.Super) c.args.tokens.now) (ended_actuals_run c.args.height) c.in_ok-at.at c.ended_actuals.result c.super_call_of.result c.in_ok-at.ensures.read c.ended_actuals.ensures c.super_call_of.ensures)

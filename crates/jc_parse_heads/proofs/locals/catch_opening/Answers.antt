@@ -1,0 +1,31 @@
+use Rattle.std.proofs.Common.{◌≡◌, ℕ, List, Option, map, length, sym, ap, ◌∙◌, subst, arith, rules}
+use Rattle.std.proofs.lemmas.Result.{err_from_is_err_and}
+use Rattle.jc_lexer.specs.declared.token.Key.TheVariants as key_of
+use Rattle.jc_lexer.specs.declared.token.Sign.TheVariants as sign_of
+use Rattle.jc_tree.specs.declared.statement.ClauseHead.{ClauseHead}
+use Rattle.jc_tree.specs.declared.statement.ForHead.{ForHead}
+use Rattle.jc_tree.specs.declared.statement.Resource.{Resource}
+use Rattle.jc_tree.specs.declared.statement.Resources.{Resources}
+use Rattle.jc_reading.specs.Giving.{Gives, Halts, Is}
+use Rattle.jc_reading.specs.Reading.{Read, as_new, behind_it, each_behind}
+use Rattle.jc_parse_type.specs.TypeReading.{class_run, dims_run, type_run}
+use Rattle.jc_part_laws.specs.PartReading.{closing_run, modifier_run, modifiers_run}
+use Rattle.jc_expr_laws.specs.ExprReading.{exprs}
+use Rattle.jc_parse_heads.specs.declared.pieces.Opening.{Opening}
+use Rattle.jc_parse_heads.specs.declared.pieces.ForOpening.{ForOpening}
+use Rattle.jc_parse_heads.proofs.Joinings.{cut, joined_gives, two_gives, two_halts}
+use Rattle.jc_parse_heads.specs.UnitCode.{catch_opening_run}
+use Rattle.jc_parse_heads.specs.HeadCode.{catch_head_run, opened_run}
+use Rattle.jc_parse_heads.proofs.CatchForms.{catch_opening_is, catch_node}
+use Rattle.jc_parse_heads.proofs.HeadInsides.{catch_inside}
+use Rattle.jc_parse_parts.proofs.Insides.{kept, shorter_by}
+use Rattle.jc_parse_heads.proofs.locals.catch_opening.Goals as goal
+
+pub returns-in_err-at-clause-read : goal.returns-in_err-at-clause-read
+returns-in_err-at-clause-read c = let p = err_from_is_err_and c.from_residual.result c.from_residual.ensures.1 in rw (p.1, p.2) (subst (λ (v : Read Opening). Halts c.in_err-at.field-0.0 v) (sym (catch_opening_is c.args.height c.args.tokens.now)) (two_halts catch_node (opened_run key_of.Catch c.args.tokens.now) (catch_head_run c.args.height) c.in_err-at.field-0.0 (c.in_err-at.ensures.read)))
+
+pub returns-clause-read : goal.returns-clause-read
+returns-clause-read c = subst (λ (v : Read Opening). Gives c.catch_opening_of.result v) (sym (catch_opening_is c.args.height c.args.tokens.now)) (two_gives catch_node (opened_run key_of.Catch c.args.tokens.now) (catch_head_run c.args.height) c.in_ok-at.at c.catch_head.result c.catch_opening_of.result (c.in_ok-at.ensures.read) (c.catch_head.ensures) c.catch_opening_of.ensures)
+
+pub returns-clause-shorter : goal.returns-clause-shorter
+returns-clause-shorter c = shorter_by (catch_opening_run c.args.height) c.args.tokens.now c.catch_opening_of.result (catch_inside c.args.height) (returns-clause-read c)

@@ -1,0 +1,20 @@
+use Rattle.std.proofs.Common.{◌≡◌, ◌∙◌, ◌∷◌, List, length, sym, ap, subst, arith, rules}
+use Rattle.std.proofs.lemmas.Result.{err_from_is_err_and}
+use Rattle.jc_reading.specs.Giving.{Gives, Halts, Is}
+use Rattle.jc_reading.specs.Reading.{Read, any_number, as_new, in_turn, noting}
+use Rattle.jc_expr_laws.specs.ExprReading.{exprs}
+use Rattle.jc_tree.specs.declared.statement.Stmt.{Stmt}
+use Rattle.jc_parse_heads.proofs.Joinings.{cut, joined_gives, two_gives, two_halts}
+use Rattle.jc_parse_type.specs.TypeReading.{type_run}
+use Rattle.jc_parse_heads.specs.declared.pieces.Typed.{Typed}
+use Rattle.jc_parse_heads.specs.UnitCode.{ended_vars_run}
+use Rattle.jc_parse_heads.proofs.Effects.{typed_is, typed_node}
+use Rattle.jc_parse_heads.proofs.locals.typed.Goals as goal
+
+pub returns-in_err-ty : goal.returns-in_err-ty
+returns-in_err-ty c = let p = err_from_is_err_and c.from_residual.result c.from_residual.ensures.1 in rw (p.1, p.2) (subst (λ (v : Read Typed). Halts c.in_err-ty.field-0.0 v) (sym (typed_is c.args.height c.args.tokens.now)) (two_halts typed_node (type_run c.args.height c.args.tokens.now) (ended_vars_run c.args.height) c.in_err-ty.field-0.0 c.in_err-ty.ensures.read))
+
+pub returns : goal.returns
+returns c =
+    subst (λ (v : Read Typed). Gives c.typed_of.result v) (sym (typed_is c.args.height c.args.tokens.now))
+    (two_gives typed_node (type_run c.args.height c.args.tokens.now) (ended_vars_run c.args.height) c.in_ok-ty.ty c.ended_vars.result c.typed_of.result c.in_ok-ty.ensures.read c.ended_vars.ensures c.typed_of.ensures)

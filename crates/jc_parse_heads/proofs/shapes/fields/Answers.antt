@@ -1,0 +1,36 @@
+use Rattle.std.proofs.Common.{◌≡◌, ℕ, List, [], ◌∷◌, length, Option, Some, None, Result, Ok, Err, refl, sym, ap, ◌∙◌, subst, arith, rules}
+use Rattle.std.proofs.lemmas.Result.{err_from_is_err_and}
+use Rattle.jc_lexer.specs.declared.token.Key.TheVariants as key_of
+use Rattle.jc_lexer.specs.declared.token.Sign.TheVariants as sign_of
+use Rattle.jc_reading.specs.Giving.{Gives, Halts, Is}
+use Rattle.jc_reading.specs.Kinds.{key_code, sign_code}
+use Rattle.jc_reading.specs.Reading.{Read, Run, an_ident_at, as_new, at_kind, becoming, either, in_turn, noting}
+use Rattle.jc_expr_laws.specs.ExprReading.{exprs}
+use Rattle.jc_unit_laws.specs.MemberReading.{paren_codes}
+use Rattle.jc_parse_type.specs.TypeReading.{class_run, type_run}
+use Rattle.jc_part_laws.specs.PartReading.{formal_run, formals_run, keyed_run, params_of_run}
+use Rattle.jc_parse_parts.specs.Parts.{initial_run}
+use Rattle.jc_parse_heads.specs.MemberCode.{ended_more_run, fields_run, generic_head, generic_head_run, generic_shape_run, method_shape, method_shape_run, named_made, named_signature_run, named_tail_run, signature_made, signature_run, tail_made, typed_shape, typed_shape_run, void_shape, void_shape_run}
+use Rattle.jc_parse_heads.specs.declared.heads.FieldsTail.{FieldsTail}
+use Rattle.jc_parse_heads.specs.declared.heads.NamedTail.{NamedTail}
+use Rattle.jc_parse_heads.proofs.Joinings.{joined_gives, two_gives, two_halts}
+use Rattle.jc_parse_heads.proofs.Shaping.{fields_are, fields_node, named_fields, named_method, tail_fields, tail_method}
+use Rattle.jc_parse_heads.proofs.shapes.fields.Goals as goal
+
+pub returns-in_err-init : goal.returns-in_err-init
+returns-in_err-init c =
+    let dims = c.dims-dims.result in
+    let p = err_from_is_err_and c.from_residual.result c.from_residual.ensures.1 in rw (p.1, p.2) (subst (λ (v : Read FieldsTail). Halts c.in_err-init.field-0.0 v) (sym (fields_are c.args.height c.args.tokens.now dims.rest.now dims.value dims.left c.dims-dims.ensures.read))
+    (two_halts (fields_node dims.value) (noting dims.left (initial_run c.args.height dims.rest.now)) (ended_more_run c.args.height) c.in_err-init.field-0.0 (c.in_err-init.ensures.read (initial_run c.args.height dims.rest.now) (c.some.ensures.read (initial_run c.args.height dims.rest.now) c.initial_within.ensures.read))))
+
+pub returns : goal.returns
+returns c =
+    let dims = c.dims-dims.result in
+    subst (λ (v : Read FieldsTail). Gives c.parts_of.result v) (sym (fields_are c.args.height c.args.tokens.now dims.rest.now dims.value dims.left c.dims-dims.ensures.read))
+    (two_gives (fields_node dims.value) (noting dims.left (initial_run c.args.height dims.rest.now)) (ended_more_run c.args.height) c.in_ok-init.init c.ended_more.result c.parts_of.result (c.in_ok-init.ensures.read (initial_run c.args.height dims.rest.now) (c.some.ensures.read (initial_run c.args.height dims.rest.now) c.initial_within.ensures.read)) c.ended_more.ensures c.parts_of.ensures)
+
+pub ended_more-requires : goal.ended_more-requires
+ended_more-requires c =
+    let room = length c.dims-dims.result.rest.now in
+    let lt = c.in_ok-init.ensures.shorter room (c.some.ensures.shorter room c.initial_within.ensures.shorter) in
+    omega (arith, lt, c.dims-dims.ensures.shorter, c.requires)

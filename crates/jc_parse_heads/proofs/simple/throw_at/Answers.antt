@@ -1,0 +1,23 @@
+use Rattle.std.proofs.Common.{◌≡◌, ◌+◌, ◌<◌, ◌≤◌, ◌^◌, ℕ, min, List, [], ◌∷◌, ◌++◌, length, Option, Some, None, Result, Ok, Err, IfOk, refl, sym, ap, ◌∙◌, subst, arith, rules}
+use Rattle.std.proofs.lemmas.Result.{err_from_is_err_and}
+use Rattle.jc_lexer.specs.declared.token.Key.TheVariants as key_of
+use Rattle.jc_lexer.specs.declared.token.Sign.TheVariants as sign_of
+use Rattle.jc_lexer.specs.declared.token.Token.{Token}
+use Rattle.jc_tree.specs.declared.statement.Clause.{Clause}
+use Rattle.jc_tree.specs.declared.statement.Member.{Member}
+use Rattle.jc_tree.specs.declared.statement.Stmt.{Stmt}
+use Rattle.jc_reading.specs.Giving.{Gives, Halts, Is}
+use Rattle.jc_reading.specs.Kinds.{key_code, sign_code}
+use Rattle.jc_reading.specs.Reading.{Read, Run, Found, Stopped, any_number, as_new, at_kind, becoming, in_turn, noting, of_kind, perhaps}
+use Rattle.jc_expr_laws.specs.ExprReading.{exprs}
+use Rattle.jc_unit_laws.specs.MemberReading.{levels, member_run}
+use Rattle.jc_parse_heads.proofs.Joinings.{closed_is, cut, joined_gives, two_gives, two_halts}
+use Rattle.jc_parse_heads.specs.UnitCode.{ended_expr_run}
+use Rattle.jc_parse_heads.proofs.Starts.{throw_there, throw_node}
+use Rattle.jc_parse_heads.proofs.simple.throw_at.Goals as goal
+
+pub returns-in_err-at : goal.returns-in_err-at
+returns-in_err-at c = let p = err_from_is_err_and c.from_residual.result c.from_residual.ensures.1 in rw (p.1, p.2) (subst (λ (v : Read Stmt). Halts c.in_err-at.field-0.0 v) (sym (throw_there c.args.height (levels exprs c.args.height) c.args.tokens.now c.if-height-eq0.false)) (two_halts throw_node (at_kind (key_code key_of.Throw) c.args.tokens.now) (ended_expr_run c.args.height) c.in_err-at.field-0.0 (c.in_err-at.ensures.read)))
+
+pub returns : goal.returns
+returns c = subst (λ (v : Read Stmt). Gives c.throw_of.result v) (sym (throw_there c.args.height (levels exprs c.args.height) c.args.tokens.now c.if-height-eq0.false)) (two_gives throw_node (at_kind (key_code key_of.Throw) c.args.tokens.now) (ended_expr_run c.args.height) c.in_ok-at.at c.ended_expr.result c.throw_of.result (c.in_ok-at.ensures.read) (c.ended_expr.ensures) c.throw_of.ensures)

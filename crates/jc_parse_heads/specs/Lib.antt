@@ -1,0 +1,5 @@
+pub mod Beginnings
+pub mod HeadCode
+pub mod Joins
+pub mod MemberCode
+pub mod UnitCode

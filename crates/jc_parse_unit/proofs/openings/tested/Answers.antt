@@ -1,7 +1,0 @@
-use Rattle.std.proofs.Common.{length, arith}
-use Rattle.jc_parse_unit.proofs.openings.tested.Goals as goal
-
-pub returns-clause-shorter : goal.returns-clause-shorter
-returns-clause-shorter c =
-    let lt = c.in_ok-test.ensures.shorter (length c.in_ok-at.at.rest.now) c.inner.ensures.shorter in
-    omega (arith, lt, c.in_ok-at.ensures.shorter)

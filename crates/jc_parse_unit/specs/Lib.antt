@@ -1,4 +1,0 @@
-pub mod Beginnings
-pub mod HeadCode
-pub mod Joins
-pub mod UnitCode
