@@ -1,11 +1,11 @@
 -- Breaks of the stages, one behind the other.
-use Rattle.std.proofs.Common.{◌≡◌, ℕ, List, [], ◌∷◌, Ok, Err, refl, sym, ap, ◌∙◌, inl, inr}
+use Rattle.std.proofs.Common.{◌≡◌, ℕ, List, [], Ok, Err, sym, ap, ◌∙◌, inl, inr}
 use Rattle.std.specs.Prelude.{Result}
 use Rattle.jc_rules.specs.declared.rule.Refusal.{Refusal}
 use Rattle.jc_rules.specs.declared.stop.Stop.{Stop}
 use Rattle.jc_rules.specs.declared.stop.Stop.TheVariants as stop_of
 use Rattle.jc_lexer.specs.declared.token.Token.{Token}
-use Rattle.jc_lexer.specs.Files.{IsRefusal, lexed_files}
+use Rattle.jc_lexer.specs.Files.{IsRefusal}
 use Rattle.jc_syntax.specs.Stage.{AreUnits, IsStageStop}
 use Rattle.javag.specs.Causes.{AreRead, HaveTokens, IsBreak}
 

@@ -1,5 +1,5 @@
 -- Sources break the syntax in one way, or they have trees.
-use Rattle.std.proofs.Common.{◌≡◌, ℕ, suc, ◌+◌, ◌<◌, ◌≤◌, false, List, [], ◌∷◌, ◌++◌, length, take, drop, Option, Some, None, refl, sym, ap, ◌∙◌, subst, arith, append_assoc, ◌⊎◌, inl, inr}
+use Rattle.std.proofs.Common.{◌≡◌, ℕ, ◌+◌, ◌<◌, ◌≤◌, false, List, [], ◌∷◌, ◌++◌, length, take, drop, Option, Some, None, refl, sym, ap, ◌∙◌, subst, arith, append_assoc, ◌⊎◌, inl, inr}
 use Rattle.std.proofs.lemmas.List.{take-append-drop, take-take}
 use Rattle.std.specs.Prelude.{slice_index_or}
 use Rattle.jc_rules.specs.declared.rule.Refusal.{Refusal}
@@ -9,7 +9,7 @@ use Rattle.jc_tree.specs.declared.fault.ParseFault.TheVariants as fault_of
 use Rattle.jc_tree.specs.declared.statement.SourceFile.{SourceFile}
 use Rattle.jc_grammar.specs.Spelling.{most_height, BeginsFile, NoFileBegins, SpellsFile}
 use Rattle.jc_left_out.specs.LeftOut.{first_left_out_form, left_out_forms, least_of, place_of}
-use Rattle.jc_unit_laws.specs.UnitAnswers.{FileStands, FormStands, IsFilePlace, NoUnitFault, UnitStands, WordStands}
+use Rattle.jc_unit_laws.specs.UnitAnswers.{FileStands, IsFilePlace, NoUnitFault, UnitStands}
 use Rattle.jc_unit_laws.proofs.UnitWhole.{only_file}
 use Rattle.jc_syntax.specs.Stage.{BreaksIn, BreaksSyntax, HaveUnits, SyntaxIsTold, refusal_of}
 
