@@ -1,3 +1,4 @@
+pub mod Stages
 pub mod Texts
 pub mod Works
 pub mod Calls

@@ -3,6 +3,8 @@ use Rattle.std.specs.Prelude.{◌≡◌, ◌≢◌, ◌⊎◌, ℕ, ◌+◌, ◌
 use Rattle.std.specs.declared.option.Option.{Option}
 use Rattle.std.specs.declared.option.Option.TheVariants.{Some, None}
 use Rattle.jc_rules.specs.declared.rule.Refusal.{Refusal}
+use Rattle.jc_rules.specs.declared.stop.Stop.{Stop}
+use Rattle.jc_rules.specs.declared.stop.Stop.TheVariants as stop_of
 use Rattle.jc_class_out.specs.declared.model.ClassModel.{ClassModel}
 use Rattle.jc_class_out.specs.Format.{IsClassFile}
 use Rattle.jc_machine.specs.declared.machine.Ran.{Ran}
@@ -10,6 +12,7 @@ use Rattle.jc_machine.specs.declared.machine.Ran.TheVariants.{Ended as RanEnded,
 use Rattle.jc_machine.specs.Runs.{Seen}
 use Rattle.jc_lexer.specs.declared.token.Token.{Token}
 use Rattle.jc_lexer.specs.Files.{lexed_files}
+use Rattle.jc_syntax.specs.Stage.{AreUnits, BreaksSyntax}
 use Rattle.jc_outside.specs.Told.{Files}
 use Rattle.javag.specs.Objects.{Object, Unchanged, Puts, PutsPart, Failed, Closes, HaveTexts, IsUnread}
 use Rattle.jc_small.specs.Small.{Program, IsProgram}
@@ -35,26 +38,42 @@ pub record Call : Type 0 where
 abbrev pub HaveTokens : List (List ℕ) → List (List Token) → Type 0
 HaveTokens texts lists = lexed_files 1 0 texts ≡ Ok lists
 
+-- the sources have these tokens, and are source files of the language: they break no rule of a stage that is built
+pub record AreRead (texts : List (List ℕ)) (lists : List (List Token)) : Type 0 where
+  pub tokens : HaveTokens texts lists
+  pub trees : AreUnits lists
+
 -- one source, whose tokens are this program, and no argument
 pub record IsSmall (job : Job) (texts : List (List ℕ)) (program : Program) : Type 0 where
   pub tokens : List Token
-  pub only : HaveTokens texts (tokens ∷ [])
+  pub only : AreRead texts (tokens ∷ [])
   pub no_argument : job.arguments ≡ []
   pub is_program : IsProgram tokens program
 
 -- the sources are one program, and this class is one of it
 pub record IsClassOf (job : Job) (texts : List (List ℕ)) (class : ClassModel) : Type 0 where
   pub tokens : List Token
-  pub only : HaveTokens texts (tokens ∷ [])
+  pub only : AreRead texts (tokens ∷ [])
   pub no_argument : job.arguments ≡ []
   pub compiled : Compiled tokens class
 
 -- ---- rules that sources break
 
--- The lexical stage is the first one, and the only one that is built. It goes through the sources in order: a source breaks rule 101 at its first
--- byte where it and those before it have too many bytes, or else the rule of its first fault.
+-- The lexical stage is the first one. It goes through the sources in order: a source breaks rule 101 at its first byte where it and those
+-- before it have too many bytes, or else the rule of its first fault.
+abbrev pub BreaksLexical : List (List ℕ) → Refusal → Type 0
+BreaksLexical texts refusal = lexed_files 1 0 texts ≡ Err refusal
+
+-- The syntactic stage is the next one, which is entered where no source breaks a lexical rule, and the last one that is built.
+abbrev pub BreaksTree : List (List ℕ) → Refusal → Type 0
+BreaksTree texts refusal = (lists : List (List Token)) × HaveTokens texts lists × BreaksSyntax texts lists refusal
+
 abbrev pub Breaks : List (List ℕ) → Refusal → Type 0
-Breaks texts refusal = lexed_files 1 0 texts ≡ Err refusal
+Breaks texts refusal = BreaksLexical texts refusal ⊎ BreaksTree texts refusal
+
+abbrev pub IsBreak : List (List ℕ) → Stop Refusal → Type 0
+IsBreak texts (stop_of.Refused refusal) = Breaks texts refusal
+IsBreak texts stop_of.WantOfMemory = ⊤
 
 -- the refusal of a form that is not built yet
 abbrev pub not_built : Refusal
@@ -63,7 +82,7 @@ not_built = record { rule = 900; place = record { file = 1; at = 0 }; have = 0 }
 -- no source breaks a rule of a stage that is built, and the job isn't small
 pub record IsUnbuilt (job : Job) (texts : List (List ℕ)) : Type 0 where
   pub lists : List (List Token)
-  pub unbroken : HaveTokens texts lists
+  pub unbroken : AreRead texts lists
   pub not_small : (program : Program) → IsSmall job texts program → ⊥
 
 -- ---- class files

@@ -128,6 +128,27 @@ fn calls_end_with_their_status_and_last_line(rt: HostRuntime) -> Result<(), Test
             "Main.java:2: error 105: bad literal\n",
         ),
         (
+            "javag --run Main Main.java",
+            "class Main {\n  int }\nfloat",
+            3,
+            "",
+            "Main.java:3: error 201: word left out\n",
+        ),
+        (
+            "javag --run Main Main.java",
+            "@interface Main { }\nclass {",
+            3,
+            "",
+            "Main.java:2: error 202: syntax error or nesting above 200\n",
+        ),
+        (
+            "javag --run Main Main.java",
+            "\n@interface Main { }",
+            3,
+            "",
+            "Main.java:2: error 203: form left out\n",
+        ),
+        (
             "javag",
             HI,
             2,

@@ -42,6 +42,10 @@ HaveUnits [] (unit ∷ units) = ⊥
 HaveUnits (tokens ∷ lists) [] = ⊥
 HaveUnits (tokens ∷ lists) (unit ∷ units) = UnitStands false tokens unit × HaveUnits lists units
 
+-- each list of tokens is that of some source file
+abbrev pub AreUnits : List (List Token) → Type 0
+AreUnits lists = (units : List SourceFile) × HaveUnits lists units
+
 -- a source breaks a rule of the syntax, and none before it does; the sources count from 1
 pub record BreaksSyntax (texts : List (List ℕ)) (lists : List (List Token)) (refused : Refusal) : Type 0 where
   pub before : List (List Token)
@@ -55,3 +59,8 @@ pub record BreaksSyntax (texts : List (List ℕ)) (lists : List (List Token)) (r
 abbrev pub IsStageStop : List (List ℕ) → List (List Token) → Stop Refusal → Type 0
 IsStageStop texts lists (stop_of.Refused refused) = BreaksSyntax texts lists refused
 IsStageStop texts lists stop_of.WantOfMemory = Unit {0}
+
+-- sources that break a rule of the syntax break it in one way, and have no trees
+pub record SyntaxIsTold : Type 0 where
+  pub one_break : (texts : List (List ℕ)) (lists : List (List Token)) (refused other : Refusal) → BreaksSyntax texts lists refused → BreaksSyntax texts lists other → refused ≡ other
+  pub not_both : (texts : List (List ℕ)) (lists : List (List Token)) (units : List SourceFile) (refused : Refusal) → HaveUnits lists units → BreaksSyntax texts lists refused → ⊥

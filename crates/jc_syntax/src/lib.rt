@@ -1,6 +1,8 @@
 //! The syntactic stage (JLS 7.3): the trees of all sources of a job, or the rule of the syntax that the first faulty one breaks.
 #![tactic(auto)]
 
+mod laws;
 mod stage;
 
-pub use stage::units_of;
+pub use laws::syntax_is_told;
+pub use stage::{check_units, units_of};

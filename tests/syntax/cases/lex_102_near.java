@@ -1,0 +1,2 @@
+// taken
+class A { String s = "é 中 𝄞"; /* € */ char c = '€'; }
