@@ -2,8 +2,16 @@
 #![tactic(auto)]
 
 mod expressions;
+mod files;
+mod heads;
+mod parts;
 mod plain;
 mod skips;
+mod statements;
+#[cfg(test)]
+mod tests;
 mod together;
 
 pub use expressions::{copy_expr, copy_init};
+pub use files::copy_file;
+pub use statements::{copy_declaration, copy_member, copy_stmt};
