@@ -1,2 +1,2 @@
 // 203 at line 2, javac takes it
-@interface A { int value() default 1; }
+@interface A { int value(); }
