@@ -66,15 +66,13 @@ formals_inside h ts = within_near ts (formals_run (formal_run exprs h) ts) ((for
 params_of_inside : (h : ℕ) → Inside (params_of_run (class_run h))
 params_of_inside h ts = within_near ts (params_of_run (class_run h) ts) ((params_of_laws h).within ts)
 
-init_inside : (h : ℕ) → Inside (exprs.init h)
-unfolding readers
-init_inside zero ts = omega arith
-init_inside (suc h) ts = within_near ts (exprs.init (suc h) ts) ((expr_laws.init h).within ts)
+init_inside : (h : ℕ) → Inside (exprs.init (suc h))
+init_inside h ts = within_near ts (exprs.init (suc h) ts) ((expr_laws.init h).within ts)
 
 assigned_inside : (h : ℕ) → Inside (with_room h (in_turn (of_kind (sign_code sign_of.Assign)) (exprs.init h)))
 unfolding with_room
 assigned_inside zero ts = omega arith
-assigned_inside (suc h) ts = inside_turn (of_kind (sign_code sign_of.Assign)) (exprs.init (suc h)) (inside_picking _) (init_inside (suc h)) ts
+assigned_inside (suc h) ts = inside_turn (of_kind (sign_code sign_of.Assign)) (exprs.init (suc h)) (inside_picking _) (init_inside h) ts
 
 given_inside : (h : ℕ) → Inside (perhaps (with_room h (in_turn (of_kind (sign_code sign_of.Assign)) (exprs.init h))))
 given_inside h = inside_perhaps (with_room h (in_turn (of_kind (sign_code sign_of.Assign)) (exprs.init h))) (assigned_inside h)
