@@ -21,5 +21,3 @@ pub use streams::{StdKeys, StdPaper};
 pub use sure::{SureClasses, SureKeys, SurePaper, SureShelf};
 pub use traits::{ClassShelf, Keys, Paper, Shelf};
 
-#[cfg(test)]
-mod tests;

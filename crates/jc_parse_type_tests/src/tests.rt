@@ -1,6 +1,6 @@
 ghost use Rattle.std.specs.Prelude.{◌<◌, ◌^◌, length, IfSome};
 
-use crate::type_at;
+use jc_parse_type::type_at;
 use jc_lexer::{Token, tokens};
 use jc_rules::{Items, Stop};
 use jc_tree::{BaseTree, ClassTree, ParseFault, TypeArg, TypePart, TypeTree};

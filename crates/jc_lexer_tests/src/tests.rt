@@ -1,4 +1,4 @@
-use crate::{TokenKind, lex_all, tokens};
+use jc_lexer::{TokenKind, lex_all, tokens};
 use jc_rules::{Items, Stop};
 use std::alloc::Global;
 use std::process::Abort;

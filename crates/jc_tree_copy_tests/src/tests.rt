@@ -1,4 +1,4 @@
-use crate::{copy_declaration, copy_expr, copy_file, copy_init, copy_member, copy_stmt};
+use jc_tree_copy::{copy_declaration, copy_expr, copy_file, copy_init, copy_member, copy_stmt};
 use jc_rules::{Boxed, Items, Text};
 use jc_tree::{
     Declaration, DeclarationHead, Expr, Ident, Import, Init, Member, Package, SourceFile, Stmt,

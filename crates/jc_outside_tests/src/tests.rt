@@ -1,4 +1,4 @@
-use crate::*;
+use jc_outside::*;
 use jc_rules::{Items, Text};
 use std::alloc::{AllocError, Global};
 use std::io::{ErrorKind, Read, Write};

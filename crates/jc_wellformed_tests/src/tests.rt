@@ -1,4 +1,4 @@
-use crate::{TypeFault, check_type};
+use jc_wellformed::{TypeFault, check_type};
 use jc_rules::{Items, Stop, WantOfMemory};
 use jc_sample::{library, typed};
 use jc_types::{ClassId, Env, Ty};

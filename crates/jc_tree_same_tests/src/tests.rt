@@ -1,4 +1,4 @@
-use crate::{
+use jc_tree_same::{
     same, same_class, same_declaration, same_expr, same_ident, same_init, same_stmt, same_type,
 };
 use jc_rules::{Boxed, Items, Text};

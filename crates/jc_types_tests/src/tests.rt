@@ -1,4 +1,4 @@
-use crate::*;
+use jc_types::*;
 use jc_rules::{Boxed, Items, Place, Refusal, Rule, Text, WantOfMemory};
 use std::alloc::Global;
 use std::test::Fail;

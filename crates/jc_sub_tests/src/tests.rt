@@ -1,4 +1,4 @@
-use crate::{Answer, below, capture, contained};
+use jc_sub::{Answer, below, capture, contained};
 use jc_rules::{Items, WantOfMemory};
 use jc_sample::{library, typed};
 use jc_types::{Arg, CaptureId, ClassId, Env, Table, Ty, same_type};

@@ -1,4 +1,4 @@
-use crate::compile;
+use jc_small::compile;
 use jc_lexer::tokens;
 use std::test::Fail;
 

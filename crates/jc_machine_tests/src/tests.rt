@@ -1,4 +1,4 @@
-use crate::{Machine, Ran, Stepped};
+use jc_machine::{Machine, Ran, Stepped};
 use jc_class_out::{ClassModel, CodeModel, Ins, Loaded, MethodModel, Operand};
 use jc_outside::{Fail, MemPaper, SureKeys, SurePaper};
 use jc_rules::{Items, NoMain, Stop, Text, WantOfMemory};

@@ -1,4 +1,4 @@
-use crate::{
+use jc_tree::{
     BaseTree, ClassTree, Expr, Formal, Ident, Init, Literal, Member, MethodHead, Modifier,
     ModifierWord, PostfixOp, PrimitiveWord, SourceFile, Stmt, TypeArg, TypeParam, TypeParams,
     TypePart, TypeTree, copy_type, expr_height, first_offset_of_expr, first_offset_of_formal,
