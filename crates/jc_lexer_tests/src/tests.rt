@@ -1,3 +1,4 @@
+//! What no clause says of `jc_lexer`.
 use jc_lexer::{TokenKind, lex_all, tokens};
 use jc_rules::{Items, Stop};
 use std::alloc::Global;

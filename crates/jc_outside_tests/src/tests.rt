@@ -1,3 +1,4 @@
+//! What no clause says of `jc_outside`.
 use jc_outside::*;
 use jc_rules::{Items, Text};
 use std::alloc::{AllocError, Global};

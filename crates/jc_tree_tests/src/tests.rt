@@ -1,3 +1,5 @@
+//! What no clause says of `jc_tree`.
+use jc_rules::{Boxed, Items, Text};
 use jc_tree::{
     BaseTree, ClassTree, Expr, Formal, Ident, Init, Literal, Member, MethodHead, Modifier,
     ModifierWord, PostfixOp, PrimitiveWord, SourceFile, Stmt, TypeArg, TypeParam, TypeParams,
@@ -5,7 +7,6 @@ use jc_tree::{
     first_offset_of_init, first_offset_of_member, first_offset_of_method, first_offset_of_stmt,
     first_offset_of_type, height, type_height,
 };
-use jc_rules::{Boxed, Items, Text};
 use std::alloc::Global;
 use std::test::Fail;
 
