@@ -1,5 +1,5 @@
 -- What a call leaves behind: its exit status, and its last line on the stream of errors.
-use Rattle.std.specs.Prelude.{ℕ, ◌+◌, ◌-◌, ◌%◌, ◌^◌, min, List, [], ◌∷◌, ◌++◌, codes, slice_get}
+use Rattle.std.specs.Prelude.{ℕ, ◌+◌, ◌-◌, ◌%◌, ◌^◌, min, List, [], ◌∷◌, ◌++◌, ◌==◌, if◌then◌else◌, codes, slice_get}
 use Rattle.std.specs.Int.{w32, cast_unsigned}
 use Rattle.std.specs.Fmt.{decimal}
 use Rattle.std.specs.declared.option.Option.{Option}
@@ -41,9 +41,13 @@ abbrev pub or_empty : Option (List ℕ) → List ℕ
 or_empty None = []
 or_empty (Some text) = text
 
--- the name and the text of a file of this number; the sources count from 1
+-- the name or the text of the source of this number; the sources count from 1
 abbrev pub nth : List (List ℕ) → ℕ → List ℕ
-nth texts number = or_empty (slice_get texts (number - 1))
+nth texts number = if number == 0 then [] else or_empty (slice_get texts (number - 1))
+
+-- the name of a file, where file 0 is the library's texts
+abbrev pub file_name : List (List ℕ) → ℕ → List ℕ
+file_name names number = if number == 0 then codes "prelude" else nth names number
 
 -- the number of the line that holds a place
 abbrev pub line_number : List (List ℕ) → Place → ℕ
@@ -52,7 +56,7 @@ line_number texts place = min (line_ends_by (nth texts place.file) place.at + 1)
 -- NAME:LINE: error NUMBER: TEXT
 abbrev pub refusal_line : List (List ℕ) → List (List ℕ) → Refusal → List ℕ
 refusal_line names texts refusal =
-    line (nth names refusal.place.file ++ codes ":" ++ decimal (line_number texts refusal.place) ++ codes ": error " ++ decimal refusal.rule ++ codes ": " ++ text_at refusal.rule)
+    line (file_name names refusal.place.file ++ codes ":" ++ decimal (line_number texts refusal.place) ++ codes ": error " ++ decimal refusal.rule ++ codes ": " ++ text_at refusal.rule)
 
 -- the last line of a job, by its outcome
 abbrev pub closing : Job → List (List ℕ) → Outcome → List ℕ

@@ -3,7 +3,7 @@ ghost use Rattle.std.specs.Prelude.{◌≡◌, ◌++◌, IfOk, OnOk, OnErr, stri
 ghost use Rattle.std.specs.Fmt.{decimal};
 ghost use Rattle.std.specs.Option.{option_copied};
 ghost use Rattle.jc_outside.specs.Told.{Stays};
-ghost use Rattle.javag.specs.Closing.{closing, refusal_line, nth, memory_line, or_empty, line};
+ghost use Rattle.javag.specs.Closing.{closing, refusal_line, file_name as the_file_name, nth, memory_line, or_empty, line};
 ghost use Rattle.javag.specs.Objects.{Closes, PutsPart};
 
 use crate::outcome::Outcome;
@@ -17,23 +17,40 @@ pub const USAGE_LINE: &str =
 
 const MEMORY_LINE: &str = "javag: out of memory\n";
 
-/// The name of the file of this number, where the sources count from 1.
+/// The name of the source of this number, where the sources count from 1.
 fn nth_name(names: &[Text], number: u64) -> &str
     ensures { result.now ≡ nth names.now number }
 {
-    match names.get(number.saturating_sub(1) as usize) {
+    if number == 0 {
+        return "";
+    }
+    match names.get((number - 1) as usize) {
         Some(name) => name.str(),
         None => "",
     }
 }
 
-/// The text of the file of this number.
+/// The text of the source of this number.
 fn nth_text(texts: &[Items<u8>], number: u64) -> &[u8]
     ensures { result.now ≡ nth texts.now number }
 {
-    match texts.get(number.saturating_sub(1) as usize) {
+    if number == 0 {
+        return b"";
+    }
+    match texts.get((number - 1) as usize) {
         Some(text) => text.slice(),
         None => b"",
+    }
+}
+
+/// The name of a file, where file 0 is the library's texts.
+fn file_name(names: &[Text], number: u64) -> &str
+    ensures { result.now ≡ the_file_name names.now number }
+{
+    if number == 0 {
+        "prelude"
+    } else {
+        nth_name(names, number)
     }
 }
 
@@ -46,7 +63,7 @@ fn refusal_line(
 ) -> Result<String, WantOfMemory>
     ensures { IfOk result (λ line. string_bytes line ≡ refusal_line names.now texts.now refusal) }
 {
-    let name = nth_name(names, refusal.place.file);
+    let name = file_name(names, refusal.place.file);
     let line = line_of(nth_text(texts, refusal.place.file), refusal.place.at);
     let number = refusal.rule.number();
     let text = text_of(refusal.rule);

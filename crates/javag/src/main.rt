@@ -5,8 +5,6 @@ mod closing;
 mod drive;
 mod outcome;
 mod sources;
-#[cfg(test)]
-mod tests;
 mod work;
 
 use drive::{drive, end_short, refuse_words};
