@@ -1,4 +1,4 @@
-// 203 at line 4, javac refuses it
+// 202 at line 5, javac refuses it
 class A {
   int B() { return 1; }
   @Deprecated
