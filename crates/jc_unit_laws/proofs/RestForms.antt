@@ -72,9 +72,6 @@ module _ (x : Exprs) (h : ℕ) (l : Level) where
       ∙ told_head x h modifiers rest (braced (map member_tokens members) r)
       ∙ ap (λ (t : List Told). modifiers_tokens modifiers ((head_rest_form h).tell rest (sign sign_of.LeftBrace ∷ t))) (told_members members (sign sign_of.RightBrace ∷ r))
 
-  rest_bits : (m a : Bool) → (m && a) ≡ (m && (true && (a && true)))
-  rest_bits m a = grind (arith, common_steps)
-
   members_fit : (members : List Member) → (nat_le (most (map member_height members)) h && all_true (map is_member members)) ≡ fits_all member_coded.fits members
   members_fit members = ap (λ b. nat_le (most (map member_height members)) h && b) (all_mapped is_member members) ∙ room_and member_height is_member h members
 

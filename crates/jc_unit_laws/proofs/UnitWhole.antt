@@ -13,9 +13,6 @@ use Rattle.jc_unit_laws.proofs.UnitPlaces.{found_all, all_found, one_file, left_
 pub file_found : (tokens : List Token) (file : SourceFile) (l : ℕ) → file_run exprs 199 tokens ≡ Found file [] l → FileStands tokens file
 file_found tokens file l e = found_all exprs expr_laws tokens file l e
 
-pub finds_file : (tokens : List Token) (file : SourceFile) → FileStands tokens file → IsFound file [] (file_run exprs 199 tokens)
-finds_file tokens file p = all_found exprs expr_laws tokens file p
-
 -- the grammar is unambiguous
 pub only_file : (tokens : List Token) (file other : SourceFile) → FileStands tokens file → FileStands tokens other → file ≡ other
 only_file tokens file other p q = one_file exprs expr_laws tokens file other p q

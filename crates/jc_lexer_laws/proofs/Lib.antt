@@ -1,0 +1,5 @@
+mod Decoded
+mod Numerals
+mod Steps
+mod Tables
+mod Telling
