@@ -1,12 +1,14 @@
 -- The left-out forms of values, statements and declarations by their parts.
 use Rattle.std.proofs.Common.{◌≡◌, ℕ, Bool, true, false, List, [], ◌∷◌, ◌++◌, map, Option, Some, None, refl, sym, ap, ◌∙◌}
-use Rattle.std.specs.Prelude.{◌&&◌}
+use Rattle.std.specs.Prelude.{cond, ◌&&◌}
 use Rattle.jc_tree.specs.declared.name.Ident.{Ident}
 use Rattle.jc_tree.specs.declared.expression.Expr.{Expr}
 use Rattle.jc_tree.specs.declared.statement.AnnotationValue.{AnnotationValue, AnnotationValue-F, out-AnnotationValue, map-AnnotationValue}
 use Rattle.jc_tree.specs.declared.statement.AnnotationValue.TheVariants as value_of
 use Rattle.jc_tree.specs.declared.statement.Clause.{Clause, out-Clause}
 use Rattle.jc_tree.specs.declared.statement.Declaration.{Declaration, out-Declaration}
+use Rattle.jc_tree.specs.declared.statement.DeclarationHead.{DeclarationHead}
+use Rattle.jc_tree.specs.declared.statement.DeclarationHead.TheVariants as head_of
 use Rattle.jc_tree.specs.declared.statement.ForHead.{ForHead}
 use Rattle.jc_tree.specs.declared.statement.LocalVars.{LocalVars}
 use Rattle.jc_tree.specs.declared.statement.Member.{Member}
@@ -17,7 +19,7 @@ use Rattle.jc_tree.specs.declared.statement.Stmt.{Stmt}
 use Rattle.jc_tree.specs.declared.statement.Stmt.TheVariants as stmt_of
 use Rattle.jc_tree.specs.Offsets.{first_offset_of_declaration, first_offset_of_head}
 use Rattle.jc_tree.proofs.OffsetsOfStatements.{first_offset_of_declaration-parts}
-use Rattle.jc_left_out.specs.LeftOut.{Membered, Declared, counted, forms_of_clause, forms_of_declaration, forms_of_member, forms_of_stmt, head_forms, in_each, in_some_of, is_class, is_inner, joined_all, left_out_of_clause_head, left_out_of_declaration, left_out_of_expr, left_out_of_for, left_out_of_locals, left_out_of_member, left_out_of_method, left_out_of_resources, left_out_of_value, only_if, value_forms}
+use Rattle.jc_left_out.specs.LeftOut.{Membered, Declared, Standing, Anywhere, InnerClass, Initialiser, counted, misplaced, standing_of_method, forms_of_clause, forms_of_declaration, forms_of_member, forms_of_stmt, head_forms, in_each, in_some_of, is_class, is_inner, joined_all, left_out_of_clause_head, left_out_of_declaration, left_out_of_expr, left_out_of_for, left_out_of_locals, left_out_of_member, left_out_of_method, left_out_of_resources, left_out_of_value, only_if, value_forms}
 use Rattle.jc_left_out.proofs.LeftOutForms.{forms_of_clause-out, forms_of_declaration-out, forms_of_member-at, forms_of_stmt-at, left_out_of_value-out}
 
 value-at : (node : AnnotationValue) (l : AnnotationValue-F AnnotationValue) → out-AnnotationValue node ≡ l → left_out_of_value node ≡ value_forms (map-AnnotationValue AnnotationValue (List ℕ) left_out_of_value l)
@@ -97,42 +99,47 @@ clause_forms-parts node = forms_of_clause-out node
 
 -- members
 
-both_ways : (in_class : Bool) (m : Membered) (list : List ℕ) → m ≡ record { inner = []; forms = list } → counted in_class m ≡ list
-both_ways true m list e = ap (counted true) e
-both_ways false m list e = ap (counted false) e
+pub member-Semicolon : (owner : DeclarationHead) (at : ℕ) → left_out_of_member owner (member_of.Semicolon at) ≡ []
+member-Semicolon owner at = ap (counted owner) (forms_of_member-at (member_of.Semicolon at) _ (member_of.outs-Semicolon at))
 
-pub member-Semicolon : (in_class : Bool) (at : ℕ) → left_out_of_member in_class (member_of.Semicolon at) ≡ []
-member-Semicolon in_class at = both_ways in_class (forms_of_member (member_of.Semicolon at)) _ (forms_of_member-at (member_of.Semicolon at) _ (member_of.outs-Semicolon at))
+pub member-Initialiser : (owner : DeclarationHead) (at : ℕ) (is_static : Bool) (items : List Stmt) → left_out_of_member owner (member_of.Initialiser at is_static items) ≡ misplaced owner (Initialiser at) ++ in_each forms_of_stmt items
+member-Initialiser owner at is_static items = ap (counted owner) (forms_of_member-at (member_of.Initialiser at is_static items) _ (member_of.outs-Initialiser at is_static items))
 
-pub member-Initialiser : (in_class : Bool) (at : ℕ) (is_static : Bool) (items : List Stmt) → left_out_of_member in_class (member_of.Initialiser at is_static items) ≡ in_each forms_of_stmt items
-member-Initialiser in_class at is_static items = both_ways in_class (forms_of_member (member_of.Initialiser at is_static items)) _ (forms_of_member-at (member_of.Initialiser at is_static items) _ (member_of.outs-Initialiser at is_static items))
+pub member-Fields : (owner : DeclarationHead) (vars : LocalVars) → left_out_of_member owner (member_of.Fields vars) ≡ left_out_of_locals vars
+member-Fields owner vars = ap (counted owner) (forms_of_member-at (member_of.Fields vars) _ (member_of.outs-Fields vars))
 
-pub member-Fields : (in_class : Bool) (vars : LocalVars) → left_out_of_member in_class (member_of.Fields vars) ≡ left_out_of_locals vars
-member-Fields in_class vars = both_ways in_class (forms_of_member (member_of.Fields vars)) _ (forms_of_member-at (member_of.Fields vars) _ (member_of.outs-Fields vars))
+pub member-Bare : (owner : DeclarationHead) (head : MethodHead) → left_out_of_member owner (member_of.Bare head) ≡ misplaced owner (standing_of_method head) ++ left_out_of_method head
+member-Bare owner head = ap (counted owner) (forms_of_member-at (member_of.Bare head) _ (member_of.outs-Bare head))
 
-pub member-Bare : (in_class : Bool) (head : MethodHead) → left_out_of_member in_class (member_of.Bare head) ≡ left_out_of_method head
-member-Bare in_class head = both_ways in_class (forms_of_member (member_of.Bare head)) _ (forms_of_member-at (member_of.Bare head) _ (member_of.outs-Bare head))
+pub member-Method : (owner : DeclarationHead) (head : MethodHead) (items : List Stmt) → left_out_of_member owner (member_of.Method head items) ≡ misplaced owner (standing_of_method head) ++ (left_out_of_method head ++ in_each forms_of_stmt items)
+member-Method owner head items = ap (counted owner) (forms_of_member-at (member_of.Method head items) _ (member_of.outs-Method head items))
 
-pub member-Method : (in_class : Bool) (head : MethodHead) (items : List Stmt) → left_out_of_member in_class (member_of.Method head items) ≡ left_out_of_method head ++ in_each forms_of_stmt items
-member-Method in_class head items = both_ways in_class (forms_of_member (member_of.Method head items)) _ (forms_of_member-at (member_of.Method head items) _ (member_of.outs-Method head items))
+if_inner : (owner : DeclarationHead) (inner : Bool) (at : ℕ) → misplaced owner (cond inner (InnerClass at) Anywhere) ≡ only_if (is_class owner && inner) at
+if_inner (head_of.Class modifiers from name params extends implements) true at = refl
+if_inner (head_of.Class modifiers from name params extends implements) false at = refl
+if_inner (head_of.Interface modifiers from name params extends) true at = refl
+if_inner (head_of.Interface modifiers from name params extends) false at = refl
+if_inner (head_of.Annotation modifiers from name) true at = refl
+if_inner (head_of.Annotation modifiers from name) false at = refl
 
-nested_forms : (d : Declaration) → forms_of_member (member_of.Nested d) ≡ record { inner = only_if (is_inner (out-Declaration d).head) (first_offset_of_declaration d); forms = left_out_of_declaration d }
+nested_forms : (d : Declaration) → forms_of_member (member_of.Nested d) ≡ record { standing = cond (is_inner (out-Declaration d).head) (InnerClass (first_offset_of_declaration d)) Anywhere; forms = left_out_of_declaration d }
 nested_forms d =
     forms_of_member-at (member_of.Nested d) _ (member_of.outs-Nested d)
-    ∙ ap (λ b. record { inner = only_if b (forms_of_declaration d).at; forms = left_out_of_declaration d }) (ap (λ (v : Declared). v.inner) (forms_of_declaration-out d))
-    ∙ ap (λ n. record { inner = only_if (is_inner (out-Declaration d).head) n; forms = left_out_of_declaration d }) (declared_at d)
+    ∙ ap (λ b. record { standing = cond b (InnerClass (forms_of_declaration d).at) Anywhere; forms = left_out_of_declaration d }) (ap (λ (v : Declared). v.inner) (forms_of_declaration-out d))
+    ∙ ap (λ n. record { standing = cond (is_inner (out-Declaration d).head) (InnerClass n) Anywhere; forms = left_out_of_declaration d }) (declared_at d)
 
-pub member-Nested : (in_class : Bool) (d : Declaration) → left_out_of_member in_class (member_of.Nested d) ≡ only_if (in_class && is_inner (out-Declaration d).head) (first_offset_of_declaration d) ++ left_out_of_declaration d
-member-Nested true d = ap (counted true) (nested_forms d)
-member-Nested false d = ap (counted false) (nested_forms d)
+pub member-Nested : (owner : DeclarationHead) (d : Declaration) → left_out_of_member owner (member_of.Nested d) ≡ only_if (is_class owner && is_inner (out-Declaration d).head) (first_offset_of_declaration d) ++ left_out_of_declaration d
+member-Nested owner d =
+    ap (counted owner) (nested_forms d)
+    ∙ ap (λ (l : List ℕ). l ++ left_out_of_declaration d) (if_inner owner (is_inner (out-Declaration d).head) (first_offset_of_declaration d))
 
-members_forms : (in_class : Bool) (list : List Member) → joined_all (map (counted in_class) (map forms_of_member list)) ≡ in_each (left_out_of_member in_class) list
-members_forms in_class [] = refl
-members_forms in_class (m ∷ list) = ap (λ (l : List ℕ). left_out_of_member in_class m ++ l) (members_forms in_class list)
+members_forms : (owner : DeclarationHead) (list : List Member) → joined_all (map (counted owner) (map forms_of_member list)) ≡ in_each (left_out_of_member owner) list
+members_forms owner [] = refl
+members_forms owner (m ∷ list) = ap (λ (l : List ℕ). left_out_of_member owner m ++ l) (members_forms owner list)
 
 pub declaration_forms-parts : (d : Declaration)
-    → left_out_of_declaration d ≡ head_forms (out-Declaration d).head (first_offset_of_declaration d) ++ in_each (left_out_of_member (is_class (out-Declaration d).head)) (out-Declaration d).members
+    → left_out_of_declaration d ≡ head_forms (out-Declaration d).head (first_offset_of_declaration d) ++ in_each (left_out_of_member (out-Declaration d).head) (out-Declaration d).members
 declaration_forms-parts d =
     ap (λ (v : Declared). v.forms) (forms_of_declaration-out d)
-    ∙ ap (λ (l : List ℕ). head_forms (out-Declaration d).head (first_offset_of_head (out-Declaration d).head) ++ l) (members_forms (is_class (out-Declaration d).head) (out-Declaration d).members)
-    ∙ ap (λ n. head_forms (out-Declaration d).head n ++ in_each (left_out_of_member (is_class (out-Declaration d).head)) (out-Declaration d).members) (sym (first_offset_of_declaration-parts d))
+    ∙ ap (λ (l : List ℕ). head_forms (out-Declaration d).head (first_offset_of_head (out-Declaration d).head) ++ l) (members_forms (out-Declaration d).head (out-Declaration d).members)
+    ∙ ap (λ n. head_forms (out-Declaration d).head n ++ in_each (left_out_of_member (out-Declaration d).head) (out-Declaration d).members) (sym (first_offset_of_declaration-parts d))

@@ -43,7 +43,7 @@ use Rattle.jc_tree.specs.declared.statement.TopLevel.{TopLevel}
 use Rattle.jc_tree.specs.declared.statement.TopLevel.TheVariants as top_of
 use Rattle.jc_tree.specs.declared.statement.TypeParams.{TypeParams}
 use Rattle.jc_tree.specs.declared.statement.Var.{Var}
-use Rattle.jc_tree.specs.Offsets.{creation_first, expr_first, first_offset_of_head}
+use Rattle.jc_tree.specs.Offsets.{creation_first, expr_first, first_offset_of_head, first_offset_of_method}
 
 -- the first token that passes
 
@@ -259,16 +259,6 @@ pub record Declared : Type 0 where
   pub inner : Bool
   pub forms : List ℕ
 
--- of a member: where an inner class begins, and the left-out forms
-pub record Membered : Type 0 where
-  pub inner : List ℕ
-  pub forms : List ℕ
-
--- in a class an inner class counts
-abbrev pub counted : Bool → Membered → List ℕ
-counted true m = m.inner ++ m.forms
-counted false m = m.forms
-
 abbrev pub is_static : Modifier → Bool
 is_static (modifier_of.Annotation a) = false
 is_static (modifier_of.Word at word_of.Static) = true
@@ -278,13 +268,55 @@ abbrev pub some_static : List Modifier → Bool
 some_static [] = false
 some_static (m ∷ modifiers) = is_static m || some_static modifiers
 
+abbrev pub is_class : DeclarationHead → Bool
+is_class (head_of.Class modifiers from name params extends implements) = true
+is_class (head_of.Interface modifiers from name params extends) = false
+is_class (head_of.Annotation modifiers from name) = false
+
+abbrev pub is_class_of_name : DeclarationHead → List ℕ → Bool
+is_class_of_name (head_of.Class modifiers from name params extends implements) text = bytes_eq name.text text
+is_class_of_name (head_of.Interface modifiers from name params extends) text = false
+is_class_of_name (head_of.Annotation modifiers from name) text = false
+
+-- what a member is, where some declarations can't have it, and where it begins: an inner class, a constructor of a name, an initialiser
+pub data Standing : Type 0 where
+  Anywhere : Standing
+  InnerClass : ℕ → Standing
+  Constructor : List ℕ → ℕ → Standing
+  Initialiser : ℕ → Standing
+
+-- an inner class in a class (8.1.3), a constructor anywhere but in the class of its name (8.8, 9.1.4), and an initialiser anywhere but in a
+-- class (8.6, 8.7, 9.1.4)
+abbrev pub misplaced : DeclarationHead → Standing → List ℕ
+misplaced head Anywhere = []
+misplaced head (InnerClass at) = only_if (is_class head) at
+misplaced head (Constructor name at) = only_if (not (is_class_of_name head name)) at
+misplaced head (Initialiser at) = only_if (not (is_class head)) at
+
+-- a method has a result, and a constructor has none
+abbrev pub unless_result : Option ResultType → Standing → Standing
+unless_result (Some result) standing = Anywhere
+unless_result None standing = standing
+
+abbrev pub standing_of_method : MethodHead → Standing
+standing_of_method head = unless_result head.result (Constructor head.name.text (first_offset_of_method head))
+
+-- of a member: what it is, and the forms in it that are left out wherever it stands
+pub record Membered : Type 0 where
+  pub standing : Standing
+  pub forms : List ℕ
+
+-- of a member of a declaration
+abbrev pub counted : DeclarationHead → Membered → List ℕ
+counted head m = misplaced head m.standing ++ m.forms
+
 abbrev pub member_forms : Member-F Membered (List ℕ) (List ℕ) Declared → Membered
-member_forms (Member-F.Semicolon at) = record { inner = []; forms = [] }
-member_forms (Member-F.Initialiser at is_static items) = record { inner = []; forms = joined_all items }
-member_forms (Member-F.Fields vars) = record { inner = []; forms = left_out_of_locals vars }
-member_forms (Member-F.Bare head) = record { inner = []; forms = left_out_of_method head }
-member_forms (Member-F.Method head items) = record { inner = []; forms = left_out_of_method head ++ joined_all items }
-member_forms (Member-F.Nested d) = record { inner = only_if d.inner d.at; forms = d.forms }
+member_forms (Member-F.Semicolon at) = record { standing = Anywhere; forms = [] }
+member_forms (Member-F.Initialiser at is_static items) = record { standing = Initialiser at; forms = joined_all items }
+member_forms (Member-F.Fields vars) = record { standing = Anywhere; forms = left_out_of_locals vars }
+member_forms (Member-F.Bare head) = record { standing = standing_of_method head; forms = left_out_of_method head }
+member_forms (Member-F.Method head items) = record { standing = standing_of_method head; forms = left_out_of_method head ++ joined_all items }
+member_forms (Member-F.Nested d) = record { standing = cond d.inner (InnerClass d.at) Anywhere; forms = d.forms }
 
 -- a declaration of a type in a block (14.3), and resources (14.20.3)
 abbrev pub stmt_forms : Stmt-F Membered (List ℕ) (List ℕ) Declared → List ℕ
@@ -311,11 +343,6 @@ stmt_forms (Stmt-F.SuperCall at actuals) = in_each left_out_of_expr actuals
 abbrev pub clause_forms : Clause-F Membered (List ℕ) (List ℕ) Declared → List ℕ
 clause_forms clause = left_out_of_clause_head clause.head ++ joined_all clause.items
 
-abbrev pub is_class : DeclarationHead → Bool
-is_class (head_of.Class modifiers from name params extends implements) = true
-is_class (head_of.Interface modifiers from name params extends) = false
-is_class (head_of.Annotation modifiers from name) = false
-
 -- of an inner class, where it stands in a class (8.1.3)
 abbrev pub is_inner : DeclarationHead → Bool
 is_inner (head_of.Class modifiers from name params extends implements) = not (some_static modifiers)
@@ -329,7 +356,7 @@ head_forms (head_of.Interface modifiers from name params extends) at = left_out_
 head_forms (head_of.Annotation modifiers from name) at = at ∷ left_out_of_modifiers modifiers
 
 abbrev pub declared_with : DeclarationHead → ℕ → List Membered → Declared
-declared_with head at members = record { at = at; inner = is_inner head; forms = head_forms head at ++ joined_all (map (counted (is_class head)) members) }
+declared_with head at members = record { at = at; inner = is_inner head; forms = head_forms head at ++ joined_all (map (counted head) members) }
 
 abbrev pub declaration_forms : Declaration-F Membered (List ℕ) (List ℕ) Declared → Declared
 declaration_forms node = declared_with node.head (first_offset_of_head node.head) node.members
@@ -349,9 +376,9 @@ forms_of_declaration node = fold-Declaration Membered (List ℕ) (List ℕ) Decl
 abbrev pub left_out_of_declaration : Declaration → List ℕ
 left_out_of_declaration d = (forms_of_declaration d).forms
 
--- of a member of a class, or of an interface
-abbrev pub left_out_of_member : Bool → Member → List ℕ
-left_out_of_member in_class member = counted in_class (forms_of_member member)
+-- of a member of the declaration with a head
+abbrev pub left_out_of_member : DeclarationHead → Member → List ℕ
+left_out_of_member head member = counted head (forms_of_member member)
 
 -- an import of static members (7.5.3, 7.5.4)
 abbrev pub left_out_of_import : Import → List ℕ

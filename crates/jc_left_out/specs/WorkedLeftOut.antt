@@ -77,6 +77,13 @@ an_import is_static = record { at = 3; is_static = is_static; first = letter_at 
 abbrev pub generic_head : Option ResultType → MethodHead
 generic_head result = record { modifiers = []; params = Some (record { at = 5; first = record { name = letter_at 84 6; bounds = [] }; more = [] }); result = result; name = letter_at 88 9; formals = []; throws = [] }
 
+-- `A() {}` and `static A() {}` with the letter, and `{}`
+abbrev pub constructor_of : List Modifier → ℕ → ℕ → Member
+constructor_of modifiers code at = member_of.Method (record { modifiers = modifiers; params = None; result = None; name = letter_at code at; formals = []; throws = [] }) []
+
+abbrev pub initialiser_at : ℕ → Member
+initialiser_at at = member_of.Initialiser at false []
+
 pub record WorkedLeftOut : Type 0 where
   pub native_outside : first_left_out_word false native_source ≡ Some 1
   pub native_inside : first_left_out_word true native_source ≡ None
@@ -101,6 +108,14 @@ pub record WorkedLeftOut : Type 0 where
   pub nested_class : left_out_of_declaration (class_of [] 0 (member_of.Nested (class_of (static_at 10 ∷ []) 17 []) ∷ [])) ≡ []
   pub class_in_interface : left_out_of_declaration (interface_of (member_of.Nested (class_of [] 14 []) ∷ [])) ≡ []
   pub interface_in_class : left_out_of_declaration (class_of [] 0 (member_of.Nested (interface_of []) ∷ [])) ≡ []
+  -- `class A { A() {} }`, `class A { B() {} }`, `class A { static B() {} }` and `interface I { I() {} }`
+  pub constructor_of_its_class : left_out_of_declaration (class_of [] 0 (constructor_of [] 65 10 ∷ [])) ≡ []
+  pub constructor_of_another : left_out_of_declaration (class_of [] 0 (constructor_of [] 66 10 ∷ [])) ≡ 10 ∷ []
+  pub constructor_at_its_modifier : left_out_of_declaration (class_of [] 0 (constructor_of (static_at 10 ∷ []) 66 17 ∷ [])) ≡ 10 ∷ []
+  pub constructor_in_interface : left_out_of_declaration (interface_of (constructor_of [] 73 14 ∷ [])) ≡ 14 ∷ []
+  -- `class A { {} }` and `interface I { {} }`
+  pub initialiser_in_class : left_out_of_declaration (class_of [] 0 (initialiser_at 10 ∷ [])) ≡ []
+  pub initialiser_in_interface : left_out_of_declaration (interface_of (initialiser_at 14 ∷ [])) ≡ 14 ∷ []
   pub local_class : forms_of_stmt (stmt_of.Declared (class_of [] 8 [])) ≡ 8 ∷ []
   pub declared_annotation : left_out_of_declaration annotation_type ≡ 2 ∷ []
   pub the_least : least_of (7 ∷ 3 ∷ 5 ∷ []) ≡ Some 3

@@ -1,6 +1,6 @@
-// The earlier of two offsets.
+// The earlier of two offsets, and one that may be none.
 ghost use Rattle.std.specs.Prelude.{◌≡◌};
-ghost use Rattle.jc_left_out.specs.LeftOut.{earlier};
+ghost use Rattle.jc_left_out.specs.LeftOut.{earlier, least_of, only_if};
 
 pub fn earlier(a: Option<u32>, b: Option<u32>) -> Option<u32>
     ensures { result ≡ earlier a b }
@@ -12,4 +12,11 @@ pub fn earlier(a: Option<u32>, b: Option<u32>) -> Option<u32>
             Some(m) => Some(n.min(m)),
         },
     }
+}
+
+/// The offset, if the test holds.
+pub fn only_if(holds: bool, at: u32) -> Option<u32>
+    ensures { result ≡ least_of (only_if holds at) }
+{
+    if holds { Some(at) } else { None }
 }

@@ -1,23 +1,34 @@
 // Left-out forms of statements, declarations and source files.
-ghost use Rattle.std.specs.Prelude.{◌≡◌, ◌<◌, ◌^◌, length};
-ghost use Rattle.jc_left_out.specs.LeftOut.{first_left_out_form, forms_of_clause, forms_of_stmt, head_forms, in_each, is_class, is_inner, least_of, left_out_forms, left_out_of_declaration, left_out_of_import, left_out_of_member, left_out_of_top};
+ghost use Rattle.std.specs.Prelude.{◌≡◌, ◌<◌, ◌^◌, ◌++◌, length};
+ghost use Rattle.jc_left_out.specs.LeftOut.{first_left_out_form, forms_of_clause, forms_of_stmt, head_forms, in_each, is_class, is_class_of_name, is_inner, least_of, left_out_forms, left_out_of_declaration, left_out_of_import, left_out_of_member, left_out_of_method, left_out_of_top, misplaced, standing_of_method};
 
 use crate::expressions::{in_expr, in_exprs, in_some_expr};
-use crate::least::earlier;
+use crate::least::{earlier, only_if};
 use crate::parts::{
     in_clause_head, in_for, in_locals, in_method, in_modifiers, in_resources, some_static,
 };
 use crate::words::tokens_before;
 use jc_lexer::Token;
 use jc_tree::{
-    Clause, Declaration, DeclarationHead, Import, Member, SourceFile, Stmt, TopLevel,
-    first_offset_of_declaration,
+    Clause, Declaration, DeclarationHead, Import, Member, MethodHead, SourceFile, Stmt, TopLevel,
+    first_offset_of_declaration, first_offset_of_method,
 };
 
 pub fn is_class(head: &DeclarationHead) -> bool
     ensures { result ≡ is_class head.now }
 {
     matches!(head, DeclarationHead::Class { .. })
+}
+
+/// Whether the head is that of a class of this name.
+pub fn is_class_of_name(head: &DeclarationHead, text: &str) -> bool
+    ensures { result ≡ is_class_of_name head.now text.now }
+{
+    match head {
+        DeclarationHead::Class { name, .. } => name.text.str() == text,
+        DeclarationHead::Interface { .. } => false,
+        DeclarationHead::Annotation { .. } => false,
+    }
 }
 
 pub fn is_inner(head: &DeclarationHead) -> bool
@@ -41,6 +52,26 @@ pub fn in_head(head: &DeclarationHead, at: u32) -> Option<u32>
             earlier(Some(at), in_modifiers(modifiers.slice()))
         }
     }
+}
+
+/// The offset of a constructor where the declaration isn't the class of its name.
+pub fn misplaced_constructor(method: &MethodHead, owner: &DeclarationHead) -> Option<u32>
+    ensures { result ≡ least_of (misplaced owner.now (standing_of_method method.now)) }
+{
+    match method.result {
+        Some(_) => None,
+        None => only_if(
+            !is_class_of_name(owner, method.name.text.str()),
+            first_offset_of_method(method),
+        ),
+    }
+}
+
+#[tactic(auto, using(crate::proofs::LeftOutRules::lists))]
+pub fn in_method_of(method: &MethodHead, owner: &DeclarationHead) -> Option<u32>
+    ensures { result ≡ least_of (misplaced owner.now (standing_of_method method.now) ++ left_out_of_method method.now) }
+{
+    earlier(misplaced_constructor(method, owner), in_method(method))
 }
 
 #[cycle(statements_left_out)]
@@ -124,17 +155,21 @@ pub fn in_clauses(nodes: &[Clause]) -> Option<u32>
 
 #[cycle(statements_left_out)]
 #[tactic(auto, using(crate::proofs::LeftOutRules::statements))]
-pub fn in_member(node: &Member, in_class: bool) -> Option<u32>
-    ensures { result ≡ least_of (left_out_of_member in_class node.now) }
+pub fn in_member(node: &Member, owner: &DeclarationHead) -> Option<u32>
+    ensures { result ≡ least_of (left_out_of_member owner.now node.now) }
 {
     match node {
         Member::Semicolon { .. } => None,
-        Member::Initialiser { items, .. } => in_stmts(items.slice()),
+        Member::Initialiser { at, items, .. } => {
+            earlier(only_if(!is_class(owner), *at), in_stmts(items.slice()))
+        }
         Member::Fields(it) => in_locals(it),
-        Member::Bare { head } => in_method(head),
-        Member::Method { head, items } => earlier(in_method(head), in_stmts(items.slice())),
+        Member::Bare { head } => in_method_of(head, owner),
+        Member::Method { head, items } => {
+            earlier(in_method_of(head, owner), in_stmts(items.slice()))
+        }
         Member::Nested(it) => {
-            if in_class && is_inner(&it.head) {
+            if is_class(owner) && is_inner(&it.head) {
                 earlier(Some(first_offset_of_declaration(it)), in_declaration(it))
             } else {
                 in_declaration(it)
@@ -145,12 +180,12 @@ pub fn in_member(node: &Member, in_class: bool) -> Option<u32>
 
 #[cycle(statements_left_out)]
 #[tactic(auto, using(crate::proofs::LeftOutRules::statements))]
-pub fn in_members(nodes: &[Member], in_class: bool) -> Option<u32>
-    ensures { result ≡ least_of (in_each (left_out_of_member in_class) nodes.now) }
+pub fn in_members(nodes: &[Member], owner: &DeclarationHead) -> Option<u32>
+    ensures { result ≡ least_of (in_each (left_out_of_member owner.now) nodes.now) }
 {
     let mut first = None;
     for node in nodes {
-        first = earlier(first, in_member(node, in_class));
+        first = earlier(first, in_member(node, owner));
     }
     first
 }
@@ -162,7 +197,7 @@ pub fn in_declaration(node: &Declaration) -> Option<u32>
 {
     earlier(
         in_head(&node.head, first_offset_of_declaration(node)),
-        in_members(node.members.slice(), is_class(&node.head)),
+        in_members(node.members.slice(), &node.head),
     )
 }
 

@@ -9,4 +9,4 @@ pub in_clauses-loop-node-preserved : goal.in_clauses-loop-node-preserved
 in_clauses-loop-node-preserved t c = least_turn forms_of_clause c.args.nodes.now c.loop-node.node-index c.node-item.result c.loop-node.first _ c.earlier-first.result c.loop-node-test.true c.node-item.is c.in_clause.ensures c.earlier-first.ensures c.loop-node.invariant
 
 pub in_members-loop-node-preserved : goal.in_members-loop-node-preserved
-in_members-loop-node-preserved t c = least_turn (left_out_of_member c.args.in_class) c.args.nodes.now c.loop-node.node-index c.node-item.result c.loop-node.first _ c.earlier-first.result c.loop-node-test.true c.node-item.is c.in_member.ensures c.earlier-first.ensures c.loop-node.invariant
+in_members-loop-node-preserved t c = least_turn (left_out_of_member c.args.owner.now) c.args.nodes.now c.loop-node.node-index c.node-item.result c.loop-node.first _ c.earlier-first.result c.loop-node-test.true c.node-item.is c.in_member.ensures c.earlier-first.ensures c.loop-node.invariant

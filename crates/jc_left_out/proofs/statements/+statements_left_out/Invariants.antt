@@ -9,4 +9,4 @@ abbrev pub invariant-in_clauses-loop-node : goal.invariant-in_clauses-loop-node
 invariant-in_clauses-loop-node l = earlier l.first (least_of (in_each forms_of_clause (drop l.node-index l.nodes))) ≡ least_of (in_each forms_of_clause l.nodes)
 
 abbrev pub invariant-in_members-loop-node : goal.invariant-in_members-loop-node
-invariant-in_members-loop-node l = earlier l.first (least_of (in_each (left_out_of_member l.in_class) (drop l.node-index l.nodes))) ≡ least_of (in_each (left_out_of_member l.in_class) l.nodes)
+invariant-in_members-loop-node l = earlier l.first (least_of (in_each (left_out_of_member l.owner) (drop l.node-index l.nodes))) ≡ least_of (in_each (left_out_of_member l.owner) l.nodes)

@@ -1,6 +1,0 @@
-use Rattle.std.proofs.Common.{ℕ, List, Option, Some, None, Bool, rules}
-use Rattle.jc_tree.specs.declared.expression.Expr.{Expr}
-use Rattle.jc_parse_heads.proofs.nodes.tested_of.Goals as goal
-
-pub returns : goal.returns
-returns c = c.join.ensures (λ (a : ℕ) (b : Expr). record { at = a; test = b }) (λ a b r p. search rules)

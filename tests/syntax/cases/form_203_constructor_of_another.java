@@ -1,0 +1,7 @@
+// 203 at line 5, javac refuses it
+class A {
+  A() { }
+  static class B {
+    A() { }
+  }
+}

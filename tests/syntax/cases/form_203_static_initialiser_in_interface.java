@@ -1,0 +1,5 @@
+// 203 at line 3, javac refuses it
+interface I {
+  static
+  { }
+}
