@@ -213,3 +213,34 @@ fn a_stream_gives_bytes_and_then_ends(rt: HostRuntime) -> Result<(), TestFail> {
     assert_eq!(rt; keys.next()?, None);
     Ok(())
 }
+
+// A stream that shows what it took only when it is flushed.
+#[derive(Drop)]
+struct Buffered {
+    kept: Vec<u8>,
+    shown: Vec<u8>,
+}
+
+impl Write for Buffered {
+    fn write(&mut self, piece: &[u8]) -> io::Result<usize> {
+        self.kept.extend_from_slice(piece)?;
+        Ok(piece.len())
+    }
+
+    fn flush(&mut self) -> io::Result<()> {
+        self.shown.append(&mut self.kept)?;
+        Ok(())
+    }
+}
+
+#[test]
+fn a_put_leaves_nothing_in_a_buffer(rt: HostRuntime) -> Result<(), TestFail> {
+    let alloc = rt.alloc();
+    let mut paper = StdPaper::new(Buffered {
+        kept: Vec::new(alloc),
+        shown: Vec::new(alloc),
+    });
+    paper.put(b"Hi")?;
+    assert_eq!(rt; paper.inner().shown.as_slice(), b"Hi".as_slice());
+    Ok(())
+}

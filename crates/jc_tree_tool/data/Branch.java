@@ -1,0 +1,1 @@
+class A { void m() { if (a) b(); } }

@@ -1,0 +1,1 @@
+@Deprecated class A { List<List<int[]>> x; }
