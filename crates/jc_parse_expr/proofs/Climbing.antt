@@ -1,5 +1,6 @@
 -- Level after level of binary operators, the tightest first: a level whose operators cannot begin behind an operand adds nothing to it.
-use Rattle.std.proofs.Common.{◌≡◌, ℕ, ◌-◌, ◌+◌, ◌<◌, ◌≤◌, ◌^◌, min, Bool, true, false, cond, ◌==◌, ◌||◌, map, List, [], ◌∷◌, length, refl, sym, ap, ◌∙◌, subst, ⊎_elim, arith}
+use Rattle.std.proofs.Common.{◌≡◌, ℕ, ◌-◌, ◌+◌, ◌<◌, ◌≤◌, ◌^◌, min, Bool, true, false, cond, ◌==◌, ◌||◌, map, List, [], ◌∷◌, length, Result, Ok, Err, refl, sym, ap, ◌∙◌, subst, ⊎_elim, arith}
+use Rattle.std.specs.Prelude.{IfOk}
 use Rattle.std.proofs.lemmas.Bool.{cases_lt, or_parts}
 use Rattle.jc_lexer.specs.declared.token.Key.TheVariants as key_of
 use Rattle.jc_lexer.specs.declared.token.Sign.TheVariants as sign_of
@@ -10,7 +11,7 @@ use Rattle.jc_reading.specs.declared.reading.Found as its
 use Rattle.jc_reading.specs.declared.reading.Halt.{Halt}
 use Rattle.jc_reading.specs.Giving.{Halts, Is}
 use Rattle.jc_reading.specs.Kinds.{key_code, one_of, sign_code}
-use Rattle.jc_reading.specs.Reading.{Read, Found, Stopped, Run, found, becoming, in_turn, of_kind}
+use Rattle.jc_reading.specs.Reading.{Read, Found, Stopped, Run, found, becoming, either, in_turn, of_kind}
 use Rattle.jc_reading.specs.Further.{preferring}
 use Rattle.jc_reading.specs.Growing.{one_then}
 use Rattle.jc_parse_type.specs.TypeReading.{type_run}
@@ -52,7 +53,8 @@ operator_quiet level_of.Compared ts e =
     let r = or_parts less equal q.0 in
     let last = in_turn touching_run (of_kind (sign_code sign_of.Assign)) in
     let far = prefer_quiet last (of_kind (sign_code sign_of.Greater)) ts (pair_first touching_run (of_kind (sign_code sign_of.Assign)) ts (length ts) (touching_quiet ts q.1)) (kind_quiet (sign_code sign_of.Greater) ts q.1) in
-    ap (becoming less_op) (either_quiet (sign_code sign_of.Less) (of_kind (sign_code sign_of.Less)) _ ts r.0 (either_quiet (sign_code sign_of.LessEqual) (of_kind (sign_code sign_of.LessEqual)) (preferring last (of_kind (sign_code sign_of.Greater))) ts r.1 far))
+    let more = preferring last (of_kind (sign_code sign_of.Greater)) in
+    ap (becoming less_op) (either_quiet (sign_code sign_of.Less) (of_kind (sign_code sign_of.Less)) (either (sign_code sign_of.LessEqual ∷ []) (of_kind (sign_code sign_of.LessEqual)) more) ts r.0 (either_quiet (sign_code sign_of.LessEqual) (of_kind (sign_code sign_of.LessEqual)) more ts r.1 far))
 operator_quiet level_of.Shift ts e =
     let p = or_parts (one_of (sign_code sign_of.ShiftLeft ∷ []) ts) (one_of (sign_code sign_of.Greater ∷ []) ts) e in
     let more = preferring (in_turn touching_run (of_kind (sign_code sign_of.Greater))) (of_kind (sign_code sign_of.Greater)) in
@@ -63,7 +65,8 @@ operator_quiet level_of.Plus ts e =
 operator_quiet level_of.Times ts e =
     let p = or_parts (one_of (sign_code sign_of.Star ∷ []) ts || one_of (sign_code sign_of.Slash ∷ []) ts) (one_of (sign_code sign_of.Percent ∷ []) ts) e in
     let q = or_parts (one_of (sign_code sign_of.Star ∷ []) ts) (one_of (sign_code sign_of.Slash ∷ []) ts) p.0 in
-    ap (becoming times_op) (either_quiet (sign_code sign_of.Star) (of_kind (sign_code sign_of.Star)) _ ts q.0 (either_quiet (sign_code sign_of.Slash) (of_kind (sign_code sign_of.Slash)) (of_kind (sign_code sign_of.Percent)) ts q.1 (kind_quiet (sign_code sign_of.Percent) ts p.1)))
+    let more = either (sign_code sign_of.Slash ∷ []) (of_kind (sign_code sign_of.Slash)) (of_kind (sign_code sign_of.Percent)) in
+    ap (becoming times_op) (either_quiet (sign_code sign_of.Star) (of_kind (sign_code sign_of.Star)) more ts q.0 (either_quiet (sign_code sign_of.Slash) (of_kind (sign_code sign_of.Slash)) (of_kind (sign_code sign_of.Percent)) ts q.1 (kind_quiet (sign_code sign_of.Percent) ts p.1)))
 
 operand_quiet : (level : Level) (next : Run Expr) (ts : List Token) → may_operate level ts ≡ false → operand_run level next ts ≡ Stopped (length ts)
 operand_quiet level next ts e = ap (becoming operand_made) (pair_first (operator_run level) next ts (length ts) (operator_quiet level ts e))
@@ -111,6 +114,11 @@ module _ (level : Level) (h : ℕ) (ts : List Token) where
       → Is r (becoming measured (level_run level (levels_at h) ts))
   level_chained v p r e g w m b =
       found_same _ (chain_node v.value p.value) r.value p.rest.now r.rest.now (min v.left p.left) r.left (binary_chain level h ts v.value v.rest.now v.left p.left p.value (chain_node v.value p.value) p.rest.now e g w m refl) b.0 b.1 b.2
+
+pub chain_answers : {E : Type 0} (level : Level) (h : ℕ) (v : its.Found M) (more : its.Found (Measured (List Operand))) (result : Result (its.Found M) E) → v.value.height < h → h < 2 ^ 32 → Is more (becoming measured_operands (operands_run level (h - 1) (tighter_run level (levels_at (h - 1))) v.rest.now)) → IfOk result (λ r. Both chain_node v more r)
+    → IfOk result (λ f. (ts : List Token) → Is v (becoming measured (tighter_run level (levels_at h) ts)) → Is f (becoming measured (level_run level (levels_at h) ts)))
+chain_answers level h v more (Ok r) g w m b = λ ts e. level_chained level h ts v more r e g w m b
+chain_answers level h v more (Err fault) g w m b = tt
 
 -- what halts the operand halts each level
 

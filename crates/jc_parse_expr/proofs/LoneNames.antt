@@ -1,5 +1,5 @@
 -- A name that is a whole operand, as each level down to primaries reads it (JLS 15.14.1).
-use Rattle.std.proofs.Common.{◌≡◌, ℕ, zero, suc, ◌-◌, ◌<◌, min, Bool, true, false, not, ◌||◌, ◌&&◌, nat_le, map, List, [], ◌∷◌, length, None, refl, sym, ap, ◌∙◌, subst, arith}
+use Rattle.std.proofs.Common.{◌≡◌, ℕ, zero, suc, ◌-◌, ◌<◌, min, Bool, true, false, not, ◌==◌, ◌||◌, ◌&&◌, nat_le, map, List, [], ◌∷◌, length, None, refl, sym, ap, ◌∙◌, subst, arith}
 use Rattle.std.proofs.lemmas.Bool.{and_parts, cond-false, false≢true, or_parts}
 use Rattle.jc_lexer.specs.declared.token.Sign.{Sign}
 use Rattle.jc_lexer.specs.declared.token.Sign.TheVariants as sign_of
@@ -13,7 +13,7 @@ use Rattle.jc_tree.specs.declared.expression.PostfixOp.{PostfixOp}
 use Rattle.jc_tree.specs.Heights.{capped, expr_height}
 use Rattle.jc_grammar.specs.Shapes.{expr_shape}
 use Rattle.jc_reading.specs.Kinds.{front_code, is_in, kind_code, one_of, sign_code, word_code}
-use Rattle.jc_reading.specs.Reading.{Read, Found, Stopped, Run, found, noting, becoming, as_new, in_turn, on_pick, picking, of_kind, an_ident_at, ident_of_kind, behind_it}
+use Rattle.jc_reading.specs.Reading.{Read, Found, Stopped, Run, found, noting, becoming, as_new, in_turn, on_pick, picking, of_kind, an_ident_at, ident_of_kind, behind_it, That}
 use Rattle.jc_reading.proofs.Steps.{within_becoming}
 use Rattle.jc_reading.proofs.Turns.{noting_far}
 use Rattle.jc_parse_type.specs.TypeReading.{primitive_codes}

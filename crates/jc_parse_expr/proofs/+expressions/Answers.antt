@@ -2,7 +2,8 @@ use Rattle.std.proofs.Common.{◌≡◌, ◌-◌, min, max, [], ◌∷◌, ◌++
 use Rattle.std.proofs.lemmas.Bool.Decides.{nat_tests}
 use Rattle.std.proofs.lemmas.Result.{err_from_is_err_and}
 use Rattle.jc_reading.specs.declared.reading.Halt.{Halt}
-use Rattle.jc_reading.specs.Giving.{Gives, Halts}
+use Rattle.jc_reading.specs.declared.reading.Found as its
+use Rattle.jc_reading.specs.Giving.{Gives, Halts, Is}
 use Rattle.jc_reading.specs.Kinds.{sign_code}
 use Rattle.jc_reading.specs.Reading.{Run, Read, Stopped, becoming, Found, any_number, as_new, behind_it, commas_run, in_turn, of_kind, times}
 use Rattle.jc_tree.specs.declared.expression.Expr.{Expr}
@@ -11,10 +12,10 @@ use Rattle.jc_tree.specs.Heights.{operand_height, capped, creation_height, expr_
 use Rattle.jc_expr_laws.specs.LevelReading.{cast_run, operand_for}
 use Rattle.jc_parse_expr.specs.declared.measured.Measured.{Measured}
 use Rattle.jc_parse_expr.specs.declared.operators.Level.{Level}
-use Rattle.jc_parse_expr.specs.BinaryLevels.{cast_made, levels_at, measured_operand, next_operand_run, operand_run, post_at, then_run, tighter_run}
+use Rattle.jc_parse_expr.specs.BinaryLevels.{cast_made, level_run, levels_at, measured_operand, next_operand_run, operand_run, post_at, then_run, tighter_run}
 use Rattle.jc_parse_expr.specs.Measuring.{measured}
 use Rattle.jc_parse_expr.proofs.BinarySteps.{binary_tall, conditional_halts, conditional_tall}
-use Rattle.jc_parse_expr.proofs.Climbing.{level_chained, level_quiet, levels_halt}
+use Rattle.jc_parse_expr.proofs.Climbing.{chain_answers, level_quiet, levels_halt}
 use Rattle.jc_parse_expr.proofs.LoneNames.{bare_plain, unary_name}
 use Rattle.jc_parse_expr.proofs.Bounds.{conditional_rest, level_rest, operator_rest, plain_rest, prefix_rest, tighter_rest}
 use Rattle.jc_parse_expr.proofs.CastCode.{bare_cast, bare_low, bare_post, cast_first, cast_halts}
@@ -45,6 +46,7 @@ use Rattle.jc_lexer.specs.declared.token.Sign.TheVariants as sign_of
 use Rattle.jc_parse_expr.specs.declared.operators.Level.TheVariants as level_of
 use Rattle.jc_tree.specs.declared.expression.Expr.TheVariants as expr_of
 use Rattle.jc_parse_expr.proofs.+expressions.Goals as goal
+use Rattle.jc_parse_expr.proofs.+expressions.Goals.{levels::binary-then-may_operate+in_ok-found-2, levels::binary-else-may_operate}
 
 -- assignments
 
@@ -156,7 +158,8 @@ levels::chained-returns-then-first-height t c =
     binary_tall c.args.level c.args.height ts v.value v.rest.now v.left e c.if-first-height.true
 
 pub levels::chained-returns-in-Ok : goal.levels::chained-returns-in-Ok
-levels::chained-returns-in-Ok t c = ?
+levels::chained-returns-in-Ok t c =
+    chain_answers c.args.level c.args.height c.args.first c.in-Ok.more c.with_operands.result c.if-first-height.false (omega arith) c.in-Ok.ensures c.with_operands.ensures
 
 pub levels::binary-returns-in_err-found : goal.levels::binary-returns-in_err-found
 levels::binary-returns-in_err-found t c =
@@ -166,8 +169,43 @@ levels::binary-returns-in_err-found t c =
 pub levels::binary-levels-init : goal.levels::binary-levels-init
 levels::binary-levels-init t c = record { read = c.in_ok-found.ensures; tighter = omega arith }
 
+pub levels::binary-chained-requires : goal.levels::binary-chained-requires
+levels::binary-chained-requires t c =
+    let v = c.levels.found in
+    let w = tighter_rest c.levels.next c.args.height c.args.tokens.now v.value v.rest.now v.left c.levels.invariant.read in
+    (omega arith, omega (arith, w))
+
 pub levels::binary-levels-preserved : goal.levels::binary-levels-preserved
-levels::binary-levels-preserved t c = ?
+levels::binary-levels-preserved t c =
+    let level = c.levels.next in
+    let h = c.args.height in
+    let ts = c.args.tokens.now in
+    let v = c.levels.found in
+    let found = c.if-may_operate.found in
+    let reads = λ (f : its.Found (Measured Expr)). Is f (becoming measured (level_run level (levels_at h) ts)) in
+    let step : Is found (becoming measured (level_run level (levels_at h) ts)) =
+        elim c.if-may_operate.branch [
+          levels::binary-then-may_operate+in_ok-found-2 w ↦ subst reads (sym w.found-is) (w.in_ok-found-2.ensures ts c.levels.invariant.read)
+          | levels::binary-else-may_operate w ↦ subst reads (sym w.found-is) (level_quiet level h ts v.value v.rest.now v.left c.levels.invariant.read (omega arith) (sym c.may_operate.ensures ∙ w.if-may_operate.false))
+        ] in record {
+          read = subst (λ (run : Run Expr). becoming measured (run ts) ≡ Found found.value found.rest.now found.left) (sym (c.in-Some.ensures.2 (levels_at h))) step;
+          tighter = c.in-Some.ensures.1;
+        }
+
+pub levels::binary-returns-in-None : goal.levels::binary-returns-in-None
+levels::binary-returns-in-None t c =
+    let level = c.levels.next in
+    let h = c.args.height in
+    let ts = c.args.tokens.now in
+    let v = c.levels.found in
+    let found = c.if-may_operate.found in
+    let reads = λ (f : its.Found (Measured Expr)). Is f (becoming measured (level_run level (levels_at h) ts)) in
+    let step : Is found (becoming measured (level_run level (levels_at h) ts)) =
+        elim c.if-may_operate.branch [
+          levels::binary-then-may_operate+in_ok-found-2 w ↦ subst reads (sym w.found-is) (w.in_ok-found-2.ensures ts c.levels.invariant.read)
+          | levels::binary-else-may_operate w ↦ subst reads (sym w.found-is) (level_quiet level h ts v.value v.rest.now v.left c.levels.invariant.read (omega arith) (sym c.may_operate.ensures ∙ w.if-may_operate.false))
+        ] in
+    subst (λ (last : Level). Is found (becoming measured (level_run last (levels_at h) ts))) c.in-None.ensures step
 
 pub levels::tighter-returns-in-Some : goal.levels::tighter-returns-in-Some
 levels::tighter-returns-in-Some t c =
