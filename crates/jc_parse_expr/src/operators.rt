@@ -101,9 +101,7 @@ pub fn may_operate(level: Level, tokens: &[Token]) -> bool
         Level::Shift => is_at(Sign::ShiftLeft, tokens) || is_at(Sign::Greater, tokens),
         Level::Plus => is_at(Sign::Plus, tokens) || is_at(Sign::Minus, tokens),
         Level::Times => {
-            is_at(Sign::Star, tokens)
-                || is_at(Sign::Slash, tokens)
-                || is_at(Sign::Percent, tokens)
+            is_at(Sign::Star, tokens) || is_at(Sign::Slash, tokens) || is_at(Sign::Percent, tokens)
         }
     }
 }

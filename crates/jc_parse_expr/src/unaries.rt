@@ -21,6 +21,7 @@ use jc_tree::{Expr, PrefixOp};
 use std::alloc::Global;
 
 /// The name at the front.
+#[inline(never)]
 fn lone_name(alloc: Global, tokens: &[Token]) -> Result<Found<'_, Measured<Expr>>, Halt>
     ensures { Gives result (becoming measured (as_new expr_of.Name an_ident_at tokens.now)) }
 {

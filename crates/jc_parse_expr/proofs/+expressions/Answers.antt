@@ -184,13 +184,13 @@ levels::binary-levels-preserved t c =
     let found = c.if-may_operate.found in
     let reads = λ (f : its.Found (Measured Expr)). Is f (becoming measured (level_run level (levels_at h) ts)) in
     let step : Is found (becoming measured (level_run level (levels_at h) ts)) =
-        elim c.if-may_operate.branch [
-          levels::binary-then-may_operate+in_ok-found-2 w ↦ subst reads (sym w.found-is) (w.in_ok-found-2.ensures ts c.levels.invariant.read)
-          | levels::binary-else-may_operate w ↦ subst reads (sym w.found-is) (level_quiet level h ts v.value v.rest.now v.left c.levels.invariant.read (omega arith) (sym c.may_operate.ensures ∙ w.if-may_operate.false))
-        ] in record {
-          read = subst (λ (run : Run Expr). becoming measured (run ts) ≡ Found found.value found.rest.now found.left) (sym (c.in-Some.ensures.2 (levels_at h))) step;
-          tighter = c.in-Some.ensures.1;
-        }
+    elim c.if-may_operate.branch [
+      | levels::binary-then-may_operate+in_ok-found-2 w ↦ subst reads (sym w.found-is) (w.in_ok-found-2.ensures ts c.levels.invariant.read)
+      | levels::binary-else-may_operate w ↦ subst reads (sym w.found-is) (level_quiet level h ts v.value v.rest.now v.left c.levels.invariant.read (omega arith) (sym c.may_operate.ensures ∙ w.if-may_operate.false))
+    ] in record {
+      read = subst (λ (run : Run Expr). becoming measured (run ts) ≡ Found found.value found.rest.now found.left) (sym (c.in-Some.ensures.2 (levels_at h))) step;
+      tighter = c.in-Some.ensures.1;
+    }
 
 pub levels::binary-returns-in-None : goal.levels::binary-returns-in-None
 levels::binary-returns-in-None t c =
@@ -201,10 +201,10 @@ levels::binary-returns-in-None t c =
     let found = c.if-may_operate.found in
     let reads = λ (f : its.Found (Measured Expr)). Is f (becoming measured (level_run level (levels_at h) ts)) in
     let step : Is found (becoming measured (level_run level (levels_at h) ts)) =
-        elim c.if-may_operate.branch [
-          levels::binary-then-may_operate+in_ok-found-2 w ↦ subst reads (sym w.found-is) (w.in_ok-found-2.ensures ts c.levels.invariant.read)
-          | levels::binary-else-may_operate w ↦ subst reads (sym w.found-is) (level_quiet level h ts v.value v.rest.now v.left c.levels.invariant.read (omega arith) (sym c.may_operate.ensures ∙ w.if-may_operate.false))
-        ] in
+    elim c.if-may_operate.branch [
+      | levels::binary-then-may_operate+in_ok-found-2 w ↦ subst reads (sym w.found-is) (w.in_ok-found-2.ensures ts c.levels.invariant.read)
+      | levels::binary-else-may_operate w ↦ subst reads (sym w.found-is) (level_quiet level h ts v.value v.rest.now v.left c.levels.invariant.read (omega arith) (sym c.may_operate.ensures ∙ w.if-may_operate.false))
+    ] in
     subst (λ (last : Level). Is found (becoming measured (level_run last (levels_at h) ts))) c.in-None.ensures step
 
 pub levels::tighter-returns-in-Some : goal.levels::tighter-returns-in-Some
