@@ -65,11 +65,6 @@ module _ (h : ℕ) (ts : List Token) where
   assigned_gives op (Err halt_of.WantOfMemory) (Ok r) e m b = absurd b
   assigned_gives op (Err halt_of.WantOfMemory) (Err halt) e m b = wants _ halt b
 
-  pub binary_gives : (level : Level) (v : Found M) (more : Found (Measured (List Operand))) (result : Result (Found M) Halt) → Is v (becoming measured (tighter_run level (levels_at h) ts)) → v.value.height < h → h < 2 ^ 32 → Is more (becoming measured_operands (operands_run level (h - 1) (tighter_run level (levels_at (h - 1))) v.rest.now)) → Built chain_node v more result → Gives result (becoming measured (level_run level (levels_at h) ts))
-  binary_gives level v p (Ok r) e g w m b =
-      found_same _ (chain_node v.value p.value) r.value p.rest.now r.rest.now (min v.left p.left) r.left (binary_chain level h ts v.value v.rest.now v.left p.left p.value (chain_node v.value p.value) p.rest.now e g w m refl) b.0 b.1 b.2
-  binary_gives level v p (Err halt) e g w m b = wants _ halt b
-
   pub cast_gives : (at : ℕ) (q : List Token) (ty : Found TypeTree) (more : Result (Found M) Halt) (result : Result (Found M) Halt) → at_kind (sign_code sign_of.LeftParen) ts ≡ found at q → Is ty (cast_type_run h q) → Gives more (becoming measured (operand_for (is_primitive ty.value) (levels_at h).unary (levels_at h).plain ty.rest.now)) → Joined (cast_node at) ty more result → Gives result (becoming measured (becoming cast_made (cast_run h (levels_at h).unary (levels_at h).plain ts)))
   cast_gives at q ty (Ok p) (Ok r) f e m b =
       found_same _ (cast_node at ty.value p.value) r.value p.rest.now r.rest.now (min ty.left p.left) r.left (cast_found h at ts q ty.rest.now p.rest.now ty.value p.value (cast_node at ty.value p.value) ty.left p.left f e m refl) b.0 b.1 b.2

@@ -2,6 +2,7 @@ pub mod AssignCode
 pub mod BinarySteps
 pub mod Bounds
 pub mod CastCode
+pub mod Climbing
 pub mod CodeFacts
 pub mod CompareTurns
 pub mod ConditionalCode
@@ -19,6 +20,7 @@ pub mod LevelNears
 pub mod LevelSteps
 pub mod LinkTurns
 pub mod ListSteps
+pub mod LoneNames
 pub mod LoopSteps
 pub mod MeasuredRead
 pub mod MeasuredSteps
@@ -35,6 +37,7 @@ pub mod PrimeNears
 pub mod PrimeSteps
 pub mod Rests
 pub mod Selections
+pub mod Quiets
 pub mod RungSteps
 pub mod Rungs
 pub mod Shorters

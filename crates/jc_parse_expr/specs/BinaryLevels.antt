@@ -1,6 +1,9 @@
 -- The levels of binary operators by name, loosest first, as the code goes over them (JLS 15.17 to 15.24), and parts of readers for which the
 -- code has functions of their own.
-use Rattle.std.specs.Prelude.{ℕ, Bool, false, List, [], ◌∷◌, map, length}
+use Rattle.std.specs.Prelude.{ℕ, Bool, true, false, not, ◌&&◌, ◌||◌, List, [], ◌∷◌, map, length}
+use Rattle.jc_lexer.specs.declared.token.Token.{Token}
+use Rattle.jc_lexer.specs.declared.token.TokenKind.{TokenKind}
+use Rattle.jc_lexer.specs.declared.token.TokenKind.TheVariants as kind_of
 use Rattle.jc_lexer.specs.declared.token.Key.TheVariants as key_of
 use Rattle.jc_lexer.specs.declared.token.Sign.TheVariants as sign_of
 use Rattle.jc_tree.specs.declared.types.TypeTree.{TypeTree}
@@ -17,7 +20,7 @@ use Rattle.jc_tree.specs.declared.expression.Init.{Init}
 use Rattle.jc_tree.specs.declared.expression.ArrayInit.{ArrayInit}
 use Rattle.jc_grammar.specs.Shapes.{takes_args}
 use Rattle.jc_tree.specs.Heights.{operand_height}
-use Rattle.jc_reading.specs.Kinds.{sign_code, key_code}
+use Rattle.jc_reading.specs.Kinds.{sign_code, key_code, one_of}
 use Rattle.jc_reading.specs.Reading.{Run, noting, becoming, as_new, in_turn, any_number, Either, This, That, either, of_kind, behind_it, before_it}
 use Rattle.jc_reading.specs.Further.{preferring}
 use Rattle.jc_parse_type.specs.TypeReading.{type_run}
@@ -80,6 +83,35 @@ looseness level_of.Compared = 3
 looseness level_of.Shift = 2
 looseness level_of.Plus = 1
 looseness level_of.Times = 0
+
+-- an operator of a level, or at the level of comparisons `instanceof`, may begin with the token at the front
+abbrev pub may_operate : Level → List Token → Bool
+may_operate level_of.OrElse ts = one_of (sign_code sign_of.OrOr ∷ []) ts
+may_operate level_of.AndAlso ts = one_of (sign_code sign_of.AndAnd ∷ []) ts
+may_operate level_of.Or ts = one_of (sign_code sign_of.Or ∷ []) ts
+may_operate level_of.Xor ts = one_of (sign_code sign_of.Caret ∷ []) ts
+may_operate level_of.And ts = one_of (sign_code sign_of.And ∷ []) ts
+may_operate level_of.Equal ts = one_of (sign_code sign_of.Equal ∷ []) ts || one_of (sign_code sign_of.NotEqual ∷ []) ts
+may_operate level_of.Compared ts =
+    one_of (sign_code sign_of.Less ∷ []) ts || one_of (sign_code sign_of.LessEqual ∷ []) ts || one_of (sign_code sign_of.Greater ∷ []) ts || one_of (key_code key_of.Instanceof ∷ []) ts
+may_operate level_of.Shift ts = one_of (sign_code sign_of.ShiftLeft ∷ []) ts || one_of (sign_code sign_of.Greater ∷ []) ts
+may_operate level_of.Plus ts = one_of (sign_code sign_of.Plus ∷ []) ts || one_of (sign_code sign_of.Minus ∷ []) ts
+may_operate level_of.Times ts = one_of (sign_code sign_of.Star ∷ []) ts || one_of (sign_code sign_of.Slash ∷ []) ts || one_of (sign_code sign_of.Percent ∷ []) ts
+
+-- what makes more of a name before it: arguments, members, indices and postfix operators
+abbrev pub takes_more : List Token → Bool
+takes_more ts =
+    one_of (sign_code sign_of.LeftParen ∷ []) ts || one_of (sign_code sign_of.Dot ∷ []) ts || one_of (sign_code sign_of.LeftBracket ∷ []) ts || one_of (sign_code sign_of.Increment ∷ []) ts
+    || one_of (sign_code sign_of.Decrement ∷ []) ts
+
+abbrev pub is_name : TokenKind → Bool
+is_name (kind_of.Word text) = true
+is_name _ = false
+
+-- a name that is a whole operand
+abbrev pub is_lone_name : List Token → Bool
+is_lone_name [] = false
+is_lone_name (t ∷ ts) = is_name t.kind && not (takes_more ts)
 
 -- `!` or `~`
 abbrev pub plain_op_codes : List ℕ

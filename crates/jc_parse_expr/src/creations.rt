@@ -104,6 +104,7 @@ fn lengths(
 /// An array with lengths, behind its first bracket.
 #[cycle(expressions)]
 #[tactic(auto, using(crate::proofs::CreationSteps::sized_stops))]
+#[inline(never)]
 fn with_lengths(
     alloc: Global,
     element: BaseTree,
@@ -246,6 +247,7 @@ pub fn creation(
 
 /// A creation whose `new` stands at an offset.
 #[cycle(expressions)]
+#[inline(never)]
 pub fn created_at(
     alloc: Global,
     at: u32,

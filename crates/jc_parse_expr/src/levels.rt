@@ -1,6 +1,7 @@
 //! The levels of expressions from assignments to binary operators (JLS 15.17 to 15.26), read from left to right where there is room for so
 //! many heights.
-ghost use Rattle.std.specs.Prelude.{◌<◌, ◌^◌, length, IfOk};
+ghost use Rattle.std.specs.Prelude.{◌<◌, ◌^◌, List, length, IfOk};
+ghost use Rattle.jc_lexer.specs.declared.token.Token.{Token};
 ghost use Rattle.jc_reading.specs.Giving.{Gives, Is};
 ghost use Rattle.jc_reading.specs.Reading.{any_number, becoming, in_turn};
 ghost use Rattle.jc_expr_laws.specs.LevelReading.{assign_run};
@@ -13,7 +14,7 @@ use crate::measured::Measured;
 use crate::operator_joints::{
     alone, with_branches, with_operand, with_operands, with_right, with_value,
 };
-use crate::operators::{Level, assign_op, operator, tighter_level};
+use crate::operators::{Level, assign_op, looser_level, may_operate, operator, tighter_level};
 use crate::shapes::may_be_target;
 use crate::unaries::unary;
 use jc_lexer::{Key, Sign, Token};
@@ -28,7 +29,23 @@ pub fn expr(alloc: Global, tokens: &[Token], height: u32) -> Result<Found<'_, Me
     requires { length tokens.now < 2 ^ 32 }
     ensures { Gives result (becoming measured ((levels_at height).expr tokens.now)) }
 {
-    let target = conditional(alloc, tokens, height)?;
+    match conditional(alloc, tokens, height) {
+        Ok(target) => with_assignment(alloc, target, height),
+        Err(halt) => Err(halt),
+    }
+}
+
+/// A conditional, with an assignment operator and a value where they stand behind it.
+#[cycle(expressions)]
+#[inline(never)]
+fn with_assignment<'a>(
+    alloc: Global,
+    target: Found<'a, Measured<Expr>>,
+    height: u32,
+) -> Result<Found<'a, Measured<Expr>>, Halt>
+    requires { length target.rest.now < 2 ^ 32 }
+    ensures { (ts : List Token) → Is target.entry (becoming measured ((levels_at height).conditional ts)) → Gives result (becoming measured ((levels_at height).expr ts)) }
+{
     if target.value.height >= height {
         return Ok(target);
     }
@@ -64,7 +81,23 @@ pub fn conditional(
     requires { length tokens.now < 2 ^ 32 }
     ensures { Gives result (becoming measured ((levels_at height).conditional tokens.now)) }
 {
-    let test = binary(alloc, Level::OrElse, tokens, height)?;
+    match binary(alloc, Level::OrElse, tokens, height) {
+        Ok(test) => with_choice(alloc, test, height),
+        Err(halt) => Err(halt),
+    }
+}
+
+/// A test, with two branches where they stand behind it.
+#[cycle(expressions)]
+#[inline(never)]
+fn with_choice<'a>(
+    alloc: Global,
+    test: Found<'a, Measured<Expr>>,
+    height: u32,
+) -> Result<Found<'a, Measured<Expr>>, Halt>
+    requires { length test.rest.now < 2 ^ 32 }
+    ensures { (ts : List Token) → Is test.entry (becoming measured ((levels_at height).or_else ts)) → Gives result (becoming measured ((levels_at height).conditional ts)) }
+{
     if test.value.height >= height {
         return Ok(test);
     }
@@ -110,7 +143,8 @@ fn otherwise(
     }
 }
 
-/// A chain of operators of a level, or an operand alone.
+/// A chain of operators of a level, or an operand alone: the operand is read first, and then the operators of level after level behind it,
+/// the tightest first.
 #[cycle(expressions)]
 fn binary(
     alloc: Global,
@@ -121,12 +155,38 @@ fn binary(
     requires { length tokens.now < 2 ^ 32 }
     ensures { Gives result (becoming measured (level_run level (levels_at height) tokens.now)) }
 {
-    let first = tighter(alloc, level, tokens, height)?;
+    let mut found = unary(alloc, tokens, height)?;
+    let mut next = Level::Times;
+    'levels: loop {
+        if may_operate(next, found.rest) {
+            found = chained(alloc, next, found, height)?;
+        }
+        match looser_level(next, level) {
+            Some(looser) => next = looser,
+            None => return Ok(found),
+        }
+    }
+}
+
+/// An operand, with the operators of a level and their operands behind it.
+#[cycle(expressions)]
+#[inline(never)]
+fn chained<'a>(
+    alloc: Global,
+    level: Level,
+    first: Found<'a, Measured<Expr>>,
+    height: u32,
+) -> Result<Found<'a, Measured<Expr>>, WantOfMemory>
+    requires { length first.rest.now < 2 ^ 32 }
+    ensures { IfOk result (λ f. (ts : List Token) → Is first.entry (becoming measured (tighter_run level (levels_at height) ts)) → Is f (becoming measured (level_run level (levels_at height) ts))) }
+{
     if first.value.height >= height {
         return Ok(first);
     }
-    let more = operands(alloc, level, first.rest, height - 1)?;
-    with_operands(alloc, first, more)
+    match operands(alloc, level, first.rest, height - 1) {
+        Ok(more) => with_operands(alloc, first, more),
+        Err(fault) => Err(fault),
+    }
 }
 
 /// An operand of a level.

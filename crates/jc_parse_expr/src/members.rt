@@ -94,6 +94,7 @@ fn named(
 /// A name as a start, with actual arguments where they stand there.
 #[cycle(expressions)]
 #[tactic(auto, using(crate::proofs::MemberCode::started_first))]
+#[inline(never)]
 pub fn started_name(
     alloc: Global,
     tokens: &[Token],
@@ -139,6 +140,7 @@ fn member(
 /// A member behind a `super` at an offset.
 #[cycle(expressions)]
 #[tactic(auto, using(crate::proofs::MemberSteps::super_inside, crate::proofs::MemberSteps::super_open))]
+#[inline(never)]
 pub fn super_member(
     alloc: Global,
     at: u32,
@@ -161,6 +163,7 @@ pub fn super_member(
 
 /// A creation as a selector, behind its `new`.
 #[cycle(expressions)]
+#[inline(never)]
 fn new_selector(
     alloc: Global,
     tokens: &[Token],
@@ -232,6 +235,7 @@ fn pointed(
 /// An index, behind its first bracket.
 #[cycle(expressions)]
 #[tactic(auto, using(crate::proofs::MemberSteps::index_bracketed))]
+#[inline(never)]
 fn bracketed(
     alloc: Global,
     tokens: &[Token],

@@ -1,14 +1,14 @@
 //! What is built of a first value that was read and of what was read behind it.
 ghost use Rattle.jc_parse_expr.specs.Nodes.{binary_node, cast_node, chain_node, prefix_node};
-ghost use Rattle.jc_parse_expr.specs.After.{After, Alone, Built, Chosen, Joined, LeftAlone, assign_right, pair_of};
-ghost use Rattle.std.specs.Prelude.{◌≡◌, Ok};
+ghost use Rattle.jc_parse_expr.specs.After.{After, Alone, Both, Chosen, Joined, LeftAlone, assign_right, pair_of};
+ghost use Rattle.std.specs.Prelude.{◌≡◌, Ok, IfOk};
 
 use crate::measured::Measured;
 use crate::operator_nodes::{
     assign_node, binary_node, cast_node, chain_node, conditional_node, prefix_node,
 };
 use jc_reading::{Found, Halt};
-use jc_rules::Items;
+use jc_rules::{Items, WantOfMemory};
 use jc_tree::{AssignOp, BinaryOp, Expr, Operand, PrefixOp, TypeTree};
 use std::alloc::Global;
 
@@ -112,8 +112,8 @@ pub fn with_operands<'a>(
     alloc: Global,
     first: Found<'a, Measured<Expr>>,
     more: Found<'a, Measured<Items<Operand>>>,
-) -> Result<Found<'a, Measured<Expr>>, Halt>
-    ensures { Built chain_node first.entry more.entry result }
+) -> Result<Found<'a, Measured<Expr>>, WantOfMemory>
+    ensures { IfOk result (λ r. Both chain_node first.entry more.entry r) }
 {
     let left = first.left.min(more.left);
     Ok(Found {

@@ -1,17 +1,19 @@
 //! The operators of expressions, and which level each stands at (JLS 15.15 to 15.26).
-ghost use Rattle.std.specs.Prelude.{◌≡◌, ◌<◌, length, MatchOption, MatchResult};
+ghost use Rattle.std.specs.Prelude.{◌≡◌, ◌<◌, ◌≤◌, ◌∷◌, [], length, MatchOption, MatchResult};
 ghost use Rattle.std.specs.Option.{is_some};
 ghost use Rattle.jc_reading.specs.Giving.{Gives};
-ghost use Rattle.jc_reading.specs.Kinds.{one_of, sign_code};
+ghost use Rattle.jc_lexer.specs.declared.token.Key.TheVariants as key_of;
+ghost use Rattle.jc_reading.specs.Kinds.{key_code, one_of, sign_code};
 ghost use Rattle.jc_reading.specs.Reading.{Found as read_found, Stopped as read_stopped, Run, as_new, found, of_kind};
 ghost use Rattle.jc_tree.specs.declared.expression.Expr.{Expr};
 ghost use Rattle.jc_expr_laws.specs.LevelReading.{Levels, assign_run, equal_run, less_run, plain_op_run, prefix_codes, prefix_of_kind, prefix_op_run, shift_run, plus_run, times_run, touched_assign_run, touching_run};
 ghost use Rattle.jc_expr_laws.specs.EffectReading.{crement_codes, crement_op_run};
-ghost use Rattle.jc_parse_expr.specs.BinaryLevels.{greater_made, greater_run, level_run, looseness, operator_run, plain_op_codes, right_made, right_run, shift_assign_made, shift_assign_run, tighter_run, touched_assign_made, touching_equal_run, touching_greater_run};
+ghost use Rattle.jc_parse_expr.specs.BinaryLevels.{greater_made, greater_run, level_run, looseness, may_operate, operator_run, plain_op_codes, right_made, right_run, shift_assign_made, shift_assign_run, tighter_run, touched_assign_made, touching_equal_run, touching_greater_run};
 ghost use Rattle.jc_parse_expr.specs.declared.operators.Level.TheVariants as level_of;
 
-use jc_lexer::{Sign, Token, TokenKind};
-use jc_reading::{Found, Halt, behind_sign, place_of_sign};
+use crate::pieces::is_at;
+use jc_lexer::{Key, Sign, Token, TokenKind};
+use jc_reading::{Found, Halt, behind_key, behind_sign, place_of_sign};
 use jc_tree::{AssignOp, BinaryOp, PrefixOp, PrefixSign};
 
 /// A level of binary operators, loosest first.
@@ -44,6 +46,63 @@ pub fn tighter_level(level: Level) -> Option<Level>
         Level::Shift => Some(Level::Plus),
         Level::Plus => Some(Level::Times),
         Level::Times => None,
+    }
+}
+
+/// The next looser level of binary operators, unless this is the last one wanted.
+pub fn looser_level(level: Level, last: Level) -> Option<Level>
+    requires { looseness level ≤ looseness last }
+    ensures { MatchOption result (level ≡ last) (λ next. (looseness level < looseness next) × (looseness next ≤ looseness last) × ((levels : Levels) → tighter_run next levels ≡ level_run level levels)) }
+{
+    if level == last {
+        return None;
+    }
+    match level {
+        Level::OrElse => None,
+        Level::AndAlso => Some(Level::OrElse),
+        Level::Or => Some(Level::AndAlso),
+        Level::Xor => Some(Level::Or),
+        Level::And => Some(Level::Xor),
+        Level::Equal => Some(Level::And),
+        Level::Compared => Some(Level::Equal),
+        Level::Shift => Some(Level::Compared),
+        Level::Plus => Some(Level::Shift),
+        Level::Times => Some(Level::Plus),
+    }
+}
+
+/// Whether `instanceof` stands at the front.
+fn is_instanceof(tokens: &[Token]) -> bool
+    ensures { result ≡ one_of (key_code key_of.Instanceof ∷ []) tokens.now }
+{
+    match behind_key(Key::Instanceof, tokens) {
+        Some(_) => true,
+        None => false,
+    }
+}
+
+/// Whether an operator of a level, or at the level of comparisons `instanceof`, may begin with the token at the front.
+pub fn may_operate(level: Level, tokens: &[Token]) -> bool
+    ensures { result ≡ may_operate level tokens.now }
+{
+    match level {
+        Level::OrElse => is_at(Sign::OrOr, tokens),
+        Level::AndAlso => is_at(Sign::AndAnd, tokens),
+        Level::Or => is_at(Sign::Or, tokens),
+        Level::Xor => is_at(Sign::Caret, tokens),
+        Level::And => is_at(Sign::And, tokens),
+        Level::Equal => is_at(Sign::Equal, tokens) || is_at(Sign::NotEqual, tokens),
+        Level::Compared => {
+            is_at(Sign::Less, tokens)
+                || is_at(Sign::LessEqual, tokens)
+                || is_at(Sign::Greater, tokens)
+                || is_instanceof(tokens)
+        }
+        Level::Shift => is_at(Sign::ShiftLeft, tokens) || is_at(Sign::Greater, tokens),
+        Level::Plus => is_at(Sign::Plus, tokens) || is_at(Sign::Minus, tokens),
+        Level::Times => {
+            is_at(Sign::Star, tokens) || is_at(Sign::Slash, tokens) || is_at(Sign::Percent, tokens)
+        }
     }
 }
 

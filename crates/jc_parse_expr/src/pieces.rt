@@ -10,6 +10,7 @@ ghost use Rattle.jc_part_laws.specs.PartReading.{closing_run};
 ghost use Rattle.jc_expr_laws.specs.PrimeReading.{diamond_run, literal_codes, literal_of_kind, picks_literal};
 ghost use Rattle.jc_expr_laws.specs.StartReading.{dot_class_run};
 ghost use Rattle.jc_expr_laws.specs.PostReading.{op_of_kind, ops_run};
+ghost use Rattle.jc_parse_expr.specs.BinaryLevels.{is_lone_name, takes_more};
 ghost use Rattle.jc_parse_expr.specs.PrimeCode.{IsMeasured, literal_made};
 
 use crate::measured::Measured;
@@ -39,6 +40,30 @@ pub fn is_at(sign: Sign, tokens: &[Token]) -> bool
     match behind_sign(sign, tokens) {
         Some(_) => true,
         None => false,
+    }
+}
+
+/// Whether what stands at the front makes more of a name before it: arguments, a member, an index or a postfix operator.
+fn takes_more(tokens: &[Token]) -> bool
+    ensures { result ≡ takes_more tokens.now }
+{
+    is_at(Sign::LeftParen, tokens)
+        || is_at(Sign::Dot, tokens)
+        || is_at(Sign::LeftBracket, tokens)
+        || is_at(Sign::Increment, tokens)
+        || is_at(Sign::Decrement, tokens)
+}
+
+/// Whether a name stands at the front that is a whole operand.
+pub fn is_lone_name(tokens: &[Token]) -> bool
+    ensures { result ≡ is_lone_name tokens.now }
+{
+    match tokens {
+        [first, rest @ ..] => match &first.kind {
+            TokenKind::Word(_) => !takes_more(rest),
+            _ => false,
+        },
+        _ => false,
     }
 }
 

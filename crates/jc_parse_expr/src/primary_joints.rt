@@ -113,6 +113,7 @@ pub fn object_with<'a>(
 
 /// A call with type arguments.
 #[tactic(auto, using(crate::proofs::JointCode::called_reads, crate::proofs::JointCode::called_stops))]
+#[inline(never)]
 pub fn called_with<'a>(
     type_args: Items<TypeArg>,
     name: Found<'_, Ident>,
@@ -137,6 +138,7 @@ pub fn called_with<'a>(
 
 /// A name, and its actual arguments where they stand there.
 #[tactic(auto, using(crate::proofs::JointCode::named_reads, crate::proofs::JointCode::named_alone))]
+#[inline(never)]
 pub fn named_with<'a>(
     alloc: Global,
     name: Found<'a, Ident>,
@@ -165,6 +167,7 @@ pub fn named_with<'a>(
 
 /// A name as a start, and its actual arguments where they stand there.
 #[tactic(auto, using(crate::proofs::JointCode::started_reads, crate::proofs::JointCode::started_alone))]
+#[inline(never)]
 pub fn started_with<'a>(
     name: Found<'a, Ident>,
     actuals: Result<Found<'a, Measured<Items<Expr>>>, Halt>,
@@ -191,6 +194,7 @@ pub fn started_with<'a>(
 }
 
 /// A value with a selector behind it.
+#[inline(never)]
 pub fn selected_with<'a>(
     alloc: Global,
     value: Found<'_, Measured<Expr>>,

@@ -45,6 +45,7 @@ fn void_class(at: u32, tokens: &[Token]) -> Result<Found<'_, Measured<Expr>>, Ha
 
 /// A literal or `this`, where one stands there.
 #[tactic(auto, using(crate::proofs::MemberSteps::plain_literal, crate::proofs::MemberSteps::plain_this))]
+#[inline(never)]
 fn short_start(
     alloc: Global,
     tokens: &[Token],
@@ -64,6 +65,7 @@ fn short_start(
 /// An expression and the parenthesis behind it, in parentheses.
 #[cycle(expressions)]
 #[tactic(auto, using(crate::proofs::PrimeCodes::closed_reads, crate::proofs::PrimeCodes::closed_open))]
+#[inline(never)]
 fn closed(
     alloc: Global,
     at: u32,
@@ -146,6 +148,7 @@ fn plain_start(
 /// A primary that no class literal and no outer `this` starts, where their reach is known.
 #[cycle(expressions)]
 #[tactic(auto, using(crate::proofs::PrimeSteps::prime_plain, crate::proofs::PrimeSteps::prime_stops))]
+#[inline(never)]
 fn plain_prime(
     alloc: Global,
     tokens: &[Token],
@@ -198,6 +201,7 @@ fn changed_with<'a>(
 }
 
 /// A value and the postfix operators behind it.
+#[inline(never)]
 fn changes<'a>(
     alloc: Global,
     first: Found<'a, Measured<Expr>>,

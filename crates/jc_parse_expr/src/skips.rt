@@ -192,6 +192,7 @@ fn skip_of(parts: Measured<Items<SkipPart>>) -> Measured<Skip>
 }
 
 /// The body of an anonymous class, where one stands there: none, or one.
+#[inline(never)]
 pub fn body(
     alloc: Global,
     tokens: &[Token],

@@ -307,6 +307,7 @@ fn word_special(
 
 /// A class literal or an outer `this`, of at most one more than this height.
 #[tactic(auto, using(crate::proofs::SpecialSteps::special_names, crate::proofs::SpecialSteps::special_word, crate::proofs::SpecialSteps::special_low))]
+#[inline(never)]
 pub fn special(
     alloc: Global,
     tokens: &[Token],

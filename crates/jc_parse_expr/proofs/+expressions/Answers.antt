@@ -2,7 +2,8 @@ use Rattle.std.proofs.Common.{◌≡◌, ◌-◌, min, max, [], ◌∷◌, ◌++
 use Rattle.std.proofs.lemmas.Bool.Decides.{nat_tests}
 use Rattle.std.proofs.lemmas.Result.{err_from_is_err_and}
 use Rattle.jc_reading.specs.declared.reading.Halt.{Halt}
-use Rattle.jc_reading.specs.Giving.{Gives, Halts}
+use Rattle.jc_reading.specs.declared.reading.Found as its
+use Rattle.jc_reading.specs.Giving.{Gives, Halts, Is}
 use Rattle.jc_reading.specs.Kinds.{sign_code}
 use Rattle.jc_reading.specs.Reading.{Run, Read, Stopped, becoming, Found, any_number, as_new, behind_it, commas_run, in_turn, of_kind, times}
 use Rattle.jc_tree.specs.declared.expression.Expr.{Expr}
@@ -11,13 +12,15 @@ use Rattle.jc_tree.specs.Heights.{operand_height, capped, creation_height, expr_
 use Rattle.jc_expr_laws.specs.LevelReading.{cast_run, operand_for}
 use Rattle.jc_parse_expr.specs.declared.measured.Measured.{Measured}
 use Rattle.jc_parse_expr.specs.declared.operators.Level.{Level}
-use Rattle.jc_parse_expr.specs.BinaryLevels.{cast_made, levels_at, measured_operand, next_operand_run, operand_run, post_at, then_run, tighter_run}
+use Rattle.jc_parse_expr.specs.BinaryLevels.{cast_made, level_run, levels_at, measured_operand, next_operand_run, operand_run, post_at, then_run, tighter_run}
 use Rattle.jc_parse_expr.specs.Measuring.{measured}
-use Rattle.jc_parse_expr.proofs.BinarySteps.{binary_halts, binary_tall, conditional_halts, conditional_tall}
+use Rattle.jc_parse_expr.proofs.BinarySteps.{binary_tall, conditional_halts, conditional_tall}
+use Rattle.jc_parse_expr.proofs.Climbing.{chain_answers, level_quiet, levels_halt}
+use Rattle.jc_parse_expr.proofs.LoneNames.{bare_plain, unary_name}
 use Rattle.jc_parse_expr.proofs.Bounds.{conditional_rest, level_rest, operator_rest, plain_rest, prefix_rest, tighter_rest}
 use Rattle.jc_parse_expr.proofs.CastCode.{bare_cast, bare_low, bare_post, cast_first, cast_halts}
 use Rattle.jc_parse_expr.proofs.ConditionalCode.{conditional_chosen, conditional_left, then_first, then_is}
-use Rattle.jc_parse_expr.proofs.JoinedSteps.{assigned_gives, binary_gives, cast_gives, expr_gives, operand_gives, prefixed_gives}
+use Rattle.jc_parse_expr.proofs.JoinedSteps.{assigned_gives, cast_gives, expr_gives, operand_gives, prefixed_gives}
 use Rattle.jc_parse_expr.proofs.LevelCode.{assigned_first, otherwise_first, otherwise_is}
 use Rattle.jc_parse_expr.proofs.LoopSteps.{assign_rest, cast_type_rest, kind_rest, link_begin, link_end, link_shorter, link_turn, more_tall, none_tall, ops_rest, place_rest, row_first, row_next, row_shorter, row_stop, then_rest}
 use Rattle.jc_parse_expr.proofs.MeasuredRead.{measured_found}
@@ -43,34 +46,35 @@ use Rattle.jc_lexer.specs.declared.token.Sign.TheVariants as sign_of
 use Rattle.jc_parse_expr.specs.declared.operators.Level.TheVariants as level_of
 use Rattle.jc_tree.specs.declared.expression.Expr.TheVariants as expr_of
 use Rattle.jc_parse_expr.proofs.+expressions.Goals as goal
+use Rattle.jc_parse_expr.proofs.+expressions.Goals.{levels::binary-then-may_operate+in_ok-found-2, levels::binary-else-may_operate}
 
 -- assignments
 
-pub levels::expr-returns-in_err-target : goal.levels::expr-returns-in_err-target
-levels::expr-returns-in_err-target t c =
-    let p = err_from_is_err_and c.from_residual.result c.from_residual.ensures.1 in
-    rw (p.1, p.2) (expr_halts c.args.height c.args.tokens.now _ c.in_err-target.ensures)
-
-pub levels::expr-returns-then-target-height : goal.levels::expr-returns-then-target-height
-levels::expr-returns-then-target-height t c =
-    let v = c.in_ok-target.target in
-    expr_tall c.args.height c.args.tokens.now v.value v.rest.now v.left c.in_ok-target.ensures c.if-target-height.true
-
-pub levels::expr-returns-then-not-may_be_target : goal.levels::expr-returns-then-not-may_be_target
-levels::expr-returns-then-not-may_be_target t c =
-    let v = c.in_ok-target.target in
-    expr_untargeted c.args.height c.args.tokens.now v.value v.rest.now v.left c.in_ok-target.ensures (sym c.may_be_target.ensures ∙ c.if-not-may_be_target.true)
-
-pub levels::expr-assigned-more-requires : goal.levels::expr-assigned-more-requires
-levels::expr-assigned-more-requires t c =
-    let v = c.in_ok-target.target in
-    let w = conditional_rest c.args.height c.args.tokens.now v.value v.rest.now v.left c.in_ok-target.ensures in
+pub levels::expr-with_assignment-requires : goal.levels::expr-with_assignment-requires
+levels::expr-with_assignment-requires t c =
+    let v = c.in-Ok.target in
+    let w = conditional_rest c.args.height c.args.tokens.now v.value v.rest.now v.left c.in-Ok.ensures in
     (omega arith, omega (arith, w))
 
-pub levels::expr-returns : goal.levels::expr-returns
-levels::expr-returns t c =
-    let v = c.in_ok-target.target in
-    expr_gives c.args.height c.args.tokens.now v c.assigned-more.result c.with_value.result c.in_ok-target.ensures (omega arith) (omega arith) (sym c.may_be_target.ensures ∙ c.if-not-may_be_target.false) c.assigned-more.ensures c.with_value.ensures
+pub levels::expr-returns-in-Ok : goal.levels::expr-returns-in-Ok
+levels::expr-returns-in-Ok t c = c.with_assignment.ensures c.args.tokens.now c.in-Ok.ensures
+
+pub levels::expr-returns-in-Err : goal.levels::expr-returns-in-Err
+levels::expr-returns-in-Err t c = expr_halts c.args.height c.args.tokens.now c.in-Err.halt c.in-Err.ensures
+
+pub levels::with_assignment-returns-then-target-height : goal.levels::with_assignment-returns-then-target-height
+levels::with_assignment-returns-then-target-height t c =
+    λ ts e. let v = c.args.target in
+    expr_tall c.args.height ts v.value v.rest.now v.left e c.if-target-height.true
+
+pub levels::with_assignment-returns-then-not-may_be_target : goal.levels::with_assignment-returns-then-not-may_be_target
+levels::with_assignment-returns-then-not-may_be_target t c =
+    λ ts e. let v = c.args.target in
+    expr_untargeted c.args.height ts v.value v.rest.now v.left e (sym c.may_be_target.ensures ∙ c.if-not-may_be_target.true)
+
+pub levels::with_assignment-returns : goal.levels::with_assignment-returns
+levels::with_assignment-returns t c =
+    λ ts e. expr_gives c.args.height ts c.args.target c.assigned-more.result c.with_value.result e (omega arith) (omega arith) (sym c.may_be_target.ensures ∙ c.if-not-may_be_target.false) c.assigned-more.ensures c.with_value.ensures
 
 pub levels::assigned-returns-in_err-op : goal.levels::assigned-returns-in_err-op
 levels::assigned-returns-in_err-op t c = Prim.search (rules, assigned_first)
@@ -87,40 +91,40 @@ levels::assigned-returns t c =
 
 -- conditionals
 
-pub levels::conditional-returns-in_err-test : goal.levels::conditional-returns-in_err-test
-levels::conditional-returns-in_err-test t c =
-    let p = err_from_is_err_and c.from_residual.result c.from_residual.ensures.1 in
-    rw (p.1, p.2) (conditional_halts c.args.height c.args.tokens.now _ c.in_err-test.ensures)
-
-pub levels::conditional-returns-then-test-height : goal.levels::conditional-returns-then-test-height
-levels::conditional-returns-then-test-height t c =
-    let v = c.in_ok-test.test in
-    conditional_tall c.args.height c.args.tokens.now v.value v.rest.now v.left c.in_ok-test.ensures c.if-test-height.true
-
-pub levels::conditional-first_branch-requires : goal.levels::conditional-first_branch-requires
-levels::conditional-first_branch-requires t c =
-    let v = c.in_ok-test.test in
-    let w = level_rest level_of.OrElse c.args.height c.args.tokens.now v.value v.rest.now v.left c.in_ok-test.ensures in
+pub levels::conditional-with_choice-requires : goal.levels::conditional-with_choice-requires
+levels::conditional-with_choice-requires t c =
+    let v = c.in-Ok.test in
+    let w = level_rest level_of.OrElse c.args.height c.args.tokens.now v.value v.rest.now v.left c.in-Ok.ensures in
     (omega arith, omega (arith, w))
 
-pub levels::conditional-otherwise-other-requires : goal.levels::conditional-otherwise-other-requires
-levels::conditional-otherwise-other-requires t c =
-    let v = c.in_ok-test.test in
-    let chosen = c.in-Ok.chosen in
-    let w = level_rest level_of.OrElse c.args.height c.args.tokens.now v.value v.rest.now v.left c.in_ok-test.ensures in
-    let x = then_rest (c.args.height - 1) v.rest.now chosen.value chosen.rest.now chosen.left c.in-Ok.ensures in
-    (omega arith, omega (arith, w, x))
-
 pub levels::conditional-returns-in-Ok : goal.levels::conditional-returns-in-Ok
-levels::conditional-returns-in-Ok t c =
-    conditional_chosen c.args.height c.args.tokens.now c.in_ok-test.test c.in-Ok.chosen c.otherwise-other.result c.with_branches.result c.in_ok-test.ensures (omega arith) (omega arith) c.in-Ok.ensures c.otherwise-other.ensures c.with_branches.ensures
+levels::conditional-returns-in-Ok t c = c.with_choice.ensures c.args.tokens.now c.in-Ok.ensures
 
-pub levels::conditional-returns-in-Err-Stopped : goal.levels::conditional-returns-in-Err-Stopped
-levels::conditional-returns-in-Err-Stopped t c =
-    let v = c.in_ok-test.test in
+pub levels::conditional-returns-in-Err : goal.levels::conditional-returns-in-Err
+levels::conditional-returns-in-Err t c = conditional_halts c.args.height c.args.tokens.now c.in-Err.halt c.in-Err.ensures
+
+pub levels::with_choice-returns-then-test-height : goal.levels::with_choice-returns-then-test-height
+levels::with_choice-returns-then-test-height t c =
+    λ ts e. let v = c.args.test in
+    conditional_tall c.args.height ts v.value v.rest.now v.left e c.if-test-height.true
+
+pub levels::with_choice-otherwise-other-requires : goal.levels::with_choice-otherwise-other-requires
+levels::with_choice-otherwise-other-requires t c =
+    let v = c.args.test in
+    let chosen = c.in-Ok.chosen in
+    let x = then_rest (c.args.height - 1) v.rest.now chosen.value chosen.rest.now chosen.left c.in-Ok.ensures in
+    (omega arith, omega (arith, x, c.requires))
+
+pub levels::with_choice-returns-in-Ok : goal.levels::with_choice-returns-in-Ok
+levels::with_choice-returns-in-Ok t c =
+    λ ts e. conditional_chosen c.args.height ts c.args.test c.in-Ok.chosen c.otherwise-other.result c.with_branches.result e (omega arith) (omega arith) c.in-Ok.ensures c.otherwise-other.ensures c.with_branches.ensures
+
+pub levels::with_choice-returns-in-Err-Stopped : goal.levels::with_choice-returns-in-Err-Stopped
+levels::with_choice-returns-in-Err-Stopped t c =
+    let v = c.args.test in
     let read = becoming measured (then_run (levels_at (c.args.height - 1)) v.rest.now) in
     let stop : read ≡ Stopped c.in-Err-Stopped.left = subst (λ (h : Halt). Halts h read) c.in-Err-Stopped.field-0-is c.in-Err-Stopped.ensures in
-    conditional_left c.args.height c.args.tokens.now v c.in-Err-Stopped.left c.alone.result c.in_ok-test.ensures (omega arith) (omega arith) stop (c.alone.ensures.0, c.alone.ensures.1, c.alone.ensures.2 ∙ ap (λ k. min v.left k) c.in-Err-Stopped.left-is)
+    λ ts e. conditional_left c.args.height ts v c.in-Err-Stopped.left c.alone.result e (omega arith) (omega arith) stop (c.alone.ensures.0, c.alone.ensures.1, c.alone.ensures.2 ∙ ap (λ k. min v.left k) c.in-Err-Stopped.left-is)
 
 pub levels::first_branch-expr-requires : goal.levels::first_branch-expr-requires
 levels::first_branch-expr-requires t c =
@@ -148,25 +152,60 @@ levels::otherwise-returns-in-None t c = otherwise_first c.args.height c.args.tok
 
 -- binary levels
 
-pub levels::binary-returns-in_err-first : goal.levels::binary-returns-in_err-first
-levels::binary-returns-in_err-first t c =
+pub levels::chained-returns-then-first-height : goal.levels::chained-returns-then-first-height
+levels::chained-returns-then-first-height t c =
+    λ ts e. let v = c.args.first in
+    binary_tall c.args.level c.args.height ts v.value v.rest.now v.left e c.if-first-height.true
+
+pub levels::chained-returns-in-Ok : goal.levels::chained-returns-in-Ok
+levels::chained-returns-in-Ok t c =
+    chain_answers c.args.level c.args.height c.args.first c.in-Ok.more c.with_operands.result c.if-first-height.false (omega arith) c.in-Ok.ensures c.with_operands.ensures
+
+pub levels::binary-returns-in_err-found : goal.levels::binary-returns-in_err-found
+levels::binary-returns-in_err-found t c =
     let p = err_from_is_err_and c.from_residual.result c.from_residual.ensures.1 in
-    rw (p.1, p.2) (binary_halts c.args.level c.args.height c.args.tokens.now _ c.in_err-first.ensures)
+    rw (p.1, p.2) (levels_halt c.args.height c.args.tokens.now _ c.in_err-found.ensures c.args.level)
 
-pub levels::binary-returns-then-first-height : goal.levels::binary-returns-then-first-height
-levels::binary-returns-then-first-height t c =
-    let v = c.in_ok-first.first in
-    binary_tall c.args.level c.args.height c.args.tokens.now v.value v.rest.now v.left c.in_ok-first.ensures c.if-first-height.true
+pub levels::binary-levels-init : goal.levels::binary-levels-init
+levels::binary-levels-init t c = record { read = c.in_ok-found.ensures; tighter = omega arith }
 
-pub levels::binary-operands-requires : goal.levels::binary-operands-requires
-levels::binary-operands-requires t c =
-    let v = c.in_ok-first.first in
-    let w = tighter_rest c.args.level c.args.height c.args.tokens.now v.value v.rest.now v.left c.in_ok-first.ensures in
+pub levels::binary-chained-requires : goal.levels::binary-chained-requires
+levels::binary-chained-requires t c =
+    let v = c.levels.found in
+    let w = tighter_rest c.levels.next c.args.height c.args.tokens.now v.value v.rest.now v.left c.levels.invariant.read in
     (omega arith, omega (arith, w))
 
-pub levels::binary-returns : goal.levels::binary-returns
-levels::binary-returns t c =
-    binary_gives c.args.height c.args.tokens.now c.args.level c.in_ok-first.first c.in_ok-more.more c.with_operands.result c.in_ok-first.ensures (omega arith) (omega arith) c.in_ok-more.ensures c.with_operands.ensures
+pub levels::binary-levels-preserved : goal.levels::binary-levels-preserved
+levels::binary-levels-preserved t c =
+    let level = c.levels.next in
+    let h = c.args.height in
+    let ts = c.args.tokens.now in
+    let v = c.levels.found in
+    let found = c.if-may_operate.found in
+    let reads = λ (f : its.Found (Measured Expr)). Is f (becoming measured (level_run level (levels_at h) ts)) in
+    let step : Is found (becoming measured (level_run level (levels_at h) ts)) =
+    elim c.if-may_operate.branch [
+      | levels::binary-then-may_operate+in_ok-found-2 w ↦ subst reads (sym w.found-is) (w.in_ok-found-2.ensures ts c.levels.invariant.read)
+      | levels::binary-else-may_operate w ↦ subst reads (sym w.found-is) (level_quiet level h ts v.value v.rest.now v.left c.levels.invariant.read (omega arith) (sym c.may_operate.ensures ∙ w.if-may_operate.false))
+    ] in record {
+      read = subst (λ (run : Run Expr). becoming measured (run ts) ≡ Found found.value found.rest.now found.left) (sym (c.in-Some.ensures.2 (levels_at h))) step;
+      tighter = c.in-Some.ensures.1;
+    }
+
+pub levels::binary-returns-in-None : goal.levels::binary-returns-in-None
+levels::binary-returns-in-None t c =
+    let level = c.levels.next in
+    let h = c.args.height in
+    let ts = c.args.tokens.now in
+    let v = c.levels.found in
+    let found = c.if-may_operate.found in
+    let reads = λ (f : its.Found (Measured Expr)). Is f (becoming measured (level_run level (levels_at h) ts)) in
+    let step : Is found (becoming measured (level_run level (levels_at h) ts)) =
+    elim c.if-may_operate.branch [
+      | levels::binary-then-may_operate+in_ok-found-2 w ↦ subst reads (sym w.found-is) (w.in_ok-found-2.ensures ts c.levels.invariant.read)
+      | levels::binary-else-may_operate w ↦ subst reads (sym w.found-is) (level_quiet level h ts v.value v.rest.now v.left c.levels.invariant.read (omega arith) (sym c.may_operate.ensures ∙ w.if-may_operate.false))
+    ] in
+    subst (λ (last : Level). Is found (becoming measured (level_run last (levels_at h) ts))) c.in-None.ensures step
 
 pub levels::tighter-returns-in-Some : goal.levels::tighter-returns-in-Some
 levels::tighter-returns-in-Some t c =
@@ -212,6 +251,10 @@ levels::comparison-returns-in-None t c =
 pub unaries::unary-returns-then-height-lt2 : goal.unaries::unary-returns-then-height-lt2
 unaries::unary-returns-then-height-lt2 t c =
     subst (λ (m : Read Expr). Gives c.bare.result (becoming measured m)) (sym (unary_low c.args.height c.args.tokens.now (omega arith))) c.bare.ensures
+
+pub unaries::unary-returns-then-is_lone_name : goal.unaries::unary-returns-then-is_lone_name
+unaries::unary-returns-then-is_lone_name t c =
+    subst (λ (m : Read (Measured Expr)). Gives c.lone_name.result m) (sym (unary_name c.args.height c.args.tokens.now (omega arith) (sym c.is_lone_name.ensures ∙ c.if-is_lone_name.true))) c.lone_name.ensures
 
 pub unaries::unary-prefixed-requires : goal.unaries::unary-prefixed-requires
 unaries::unary-prefixed-requires t c =
@@ -260,6 +303,10 @@ unaries::prefixed-returns t c =
 pub unaries::bare-returns-then-height-lt2 : goal.unaries::bare-returns-then-height-lt2
 unaries::bare-returns-then-height-lt2 t c =
     subst (λ (m : Read Expr). Gives c.post.result (becoming measured m)) (sym (bare_low c.args.height c.args.tokens.now (omega arith))) c.post.ensures
+
+pub unaries::bare-returns-then-not-is_at : goal.unaries::bare-returns-then-not-is_at
+unaries::bare-returns-then-not-is_at t c =
+    subst (λ (m : Read (Measured Expr)). Gives c.post-then-not-is_at.result m) (sym (bare_plain c.args.height c.args.tokens.now (sym c.is_at.ensures ∙ c.if-not-is_at.true))) c.post-then-not-is_at.ensures
 
 pub unaries::bare-returns-in-Ok : goal.unaries::bare-returns-in-Ok
 unaries::bare-returns-in-Ok t c =

@@ -1,9 +1,10 @@
-use Rattle.std.proofs.Common.{◌≡◌, ◌+◌, ◌*◌, ◌<◌, ◌^◌, length}
-use Rattle.jc_reading.specs.Reading.{any_number, as_new, behind_it, commas_run, in_turn, of_kind}
+use Rattle.std.proofs.Common.{◌≡◌, ◌+◌, ◌-◌, ◌*◌, ◌<◌, ◌≤◌, ◌^◌, length}
+use Rattle.jc_reading.specs.Giving.{Is}
+use Rattle.jc_reading.specs.Reading.{any_number, as_new, becoming, behind_it, commas_run, in_turn, of_kind}
 use Rattle.jc_reading.proofs.Turns.{Resumes}
 use Rattle.jc_expr_laws.specs.CompareReading.{behind_part, compared_operand, next_comparison_run}
 use Rattle.jc_parse_expr.specs.BinaryLevels.{levels_at, looseness, operand_run, operands_run, tighter_run}
-use Rattle.jc_parse_expr.specs.Measuring.{measured_operands}
+use Rattle.jc_parse_expr.specs.Measuring.{measured, measured_operands}
 use Rattle.jc_parse_expr.proofs.LinkTurns.{LinkResumes}
 use Rattle.jc_tree.specs.Heights.{capped, expr_height}
 use Rattle.jc_reading.specs.Kinds.{sign_code}
@@ -18,6 +19,24 @@ decreases-levels::assigned l = 100 * l.height + 45
 
 abbrev pub decreases-levels::binary : goal.decreases-levels::binary
 decreases-levels::binary l = 100 * l.height + (24 + 2 * looseness l.level)
+
+abbrev pub decreases-levels::chained : goal.decreases-levels::chained
+decreases-levels::chained l = 100 * l.height + 22
+
+abbrev pub decreases-levels::with_assignment : goal.decreases-levels::with_assignment
+decreases-levels::with_assignment l = 100 * l.height + 22
+
+abbrev pub decreases-levels::with_choice : goal.decreases-levels::with_choice
+decreases-levels::with_choice l = 100 * l.height + 22
+
+abbrev pub invariant-levels::binary-levels : goal.invariant-levels::binary-levels
+invariant-levels::binary-levels l = record {
+  read : Is l.found (becoming measured (tighter_run l.next (levels_at l.height) l.fn.tokens));
+  tighter : looseness l.next ≤ looseness l.level;
+}
+
+abbrev pub decreases-levels::binary-levels : goal.decreases-levels::binary-levels
+decreases-levels::binary-levels l = looseness l.level - looseness l.next
 
 abbrev pub decreases-levels::first_branch : goal.decreases-levels::first_branch
 decreases-levels::first_branch l = 100 * l.height + 46
