@@ -1,0 +1,14 @@
+pub mod Slotted
+pub mod Stacked
+pub mod Classes
+pub mod Types
+pub mod Frames
+pub mod Worlds
+pub mod Thrown
+pub mod Initialising
+pub mod Plain
+pub mod Objects
+pub mod Calls
+pub mod Table
+pub mod Start
+pub mod Runs
