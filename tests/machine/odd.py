@@ -95,7 +95,7 @@ def members():
         "NoConstructor": "new Main\niconst_1\ninvokespecial Main.<init>:(I)V", "NoInterfaceMethod": "new Main\ninvokeinterface Face.none:()V",
         "NotImplemented": "new Main\ninvokeinterface Face.open:()V", "NoClassToMake": "new Missing", "NoClassOfStatic": "getstatic Missing.x:I",
         "NoClassOfFunction": "invokestatic Missing.f:()V", "StaticAsField": "new Main\ngetfield Main.there:I", "FieldAsStatic": "getstatic Main.own:I",
-        "StaticAsMethod": "new Main\ninvokevirtual Main.still:()V", "MethodAsStatic": "invokestatic Main.moved:()V", "Abstract": "new Half\ninvokevirtual Half.open:()V",
+        "StaticAsMethod": "new Main\ninvokevirtual Main.still:()V", "MethodAsStatic": "invokestatic Main.moved:()V", "StaticAsSpecial": "new Main\ninvokespecial Main.still:()V", "Abstract": "new Half\ninvokevirtual Half.open:()V",
         "NoBody": "invokestatic Main.empty:()V", "UnknownNative": "invokestatic Main.strange:()V", "WrongObject": "new Other\ngetfield Main.own:I",
         "WrongObjectToWrite": "new Other\niconst_1\nputfield Main.own:I", "FieldOfArray": "iconst_1\nnewarray 10\ngetfield Main.own:I",
         "MethodOfArray": "iconst_1\nnewarray 10\ninvokevirtual Main.moved:()V", "InterfaceMade": "new Face", "AbstractMade": "new Half",
@@ -211,7 +211,19 @@ def handlers():
     yield valid("InitialisationAtTheStart", f"from:\ninvokestatic Bad.f:()V\nto:\nreturn\n{catch}", [1], bad,
                 handlers=[("from", "to", "caught", "java/lang/ExceptionInInitializerError")], frames=[("caught", args, ["java/lang/ExceptionInInitializerError"])])
     yield stuck("CatchesAnAbsentClass", f"from:\n{fail}to:\nreturn\n{catch}", ending=f"stuck|{arithmetic}", handlers=[("from", "to", "caught", "Missing")])
-    yield stuck("ThrowsNoThrowable", "new Main\nathrow", ending="stuck")
+    yield stuck("ThrowsNoThrowable", "new Main\nathrow")
+    room = main_class("from:\ninvokestatic Main.fail:()V\nto:\nreturn\nat:\nreturn", stack=0, handlers=[("from", "to", "at", None)])
+    yield Case("HandlerWithoutRoom", [room.method("fail", "()V", "aconst_null\nathrow")])
+    first = Assembly("First").method("<clinit>", "(I)V", "iconst_1\niconst_0\nidiv\npop\nreturn", flags=8)
+    first.field("x", "I").method("<clinit>", "()V", "iconst_4\nputstatic First.x:I\nreturn", flags=8)
+    # JVMS 2.9: a method `<clinit>` of another descriptor is of no consequence
+    yield Case("InitialiserByDescriptor", [main_class(f"getstatic First.x:I\n{SHOW}return"), first], "ended", b"4\n")
+    empty = main_class("invokestatic Main.g:()I\npop\nreturn").method("g", "()I", "return")
+    yield Case("NothingOutOfInt", [empty])
+    yield Case("ValueOutOfVoid", [main_class("invokestatic Main.g:()V\nreturn").method("g", "()V", "iconst_1\nireturn")])
+    yield Case("LongOutOfInt", [main_class("invokestatic Main.g:()I\nl2i\npop\nreturn").method("g", "()I", "lconst_1\nlreturn")])
+    yield Case("IntOutOfReference", [main_class("invokestatic Main.g:()Ljava/lang/Object;\npop\nreturn").method("g", "()Ljava/lang/Object;", "iconst_1\nireturn")])
+    yield valid("NullToAMissingClass", "aconst_null\ncheckcast Missing\ninstanceof Missing\n" + SHOW + "return", [0])
 
 
 def resolution():
