@@ -25,11 +25,6 @@ pub stays_part : {A : Type 0} (old : Option (List A)) (more : List A) (new : Opt
 stays_part None more new s = tt
 stays_part (Some old) more new s = (0, omega arith, s ∙ ap (λ l. Some l) (sym (append-nil old)))
 
--- a first part that is put after nothing was
-pub stays_then_part : {A : Type 0} (old mid new : Option (List A)) (more : List A) → Stays old mid → GetsPart mid more new → GetsPart old more new
-stays_then_part None mid new more s p = tt
-stays_then_part (Some old) mid new more s p = (subst (λ m. GetsPart m more new) s p)
-
 closes_part : (err : Object ℕ) (text : List ℕ) → Closes err text → PutsPart err text
 closes_part err text (inl all) = gets_part err.before text err.after all
 closes_part err text (inr failed) = failed.1
@@ -80,8 +75,3 @@ module _ (call : Call) (job : Job) (is_job : IsJob call.words job) where
   pub unread_caused : (number : ℕ) (result : Outcome) → IsUnread call.files job.files call.shelf_before call.shelf_after number → Untouched (work_of call) → ClosedAs job [] call.err (ShelfFault number) result → Caused call result
   unread_caused number result unread untouched (inl closed) = rw closed.0 (record { job = job; is_job = is_job; unread = unread; untouched = untouched; err = closed.1 })
   unread_caused number result unread untouched (inr short) = rw short.0 (record { work = inl untouched; err = short.1 })
-
--- the outcome of words that are no job
-pub usage_caused : (call : Call) (fault : UsageFault) (result : Outcome) → IsFault call.words fault → Untouched (work_of call) → UsageClosed call.err fault result → Caused call result
-usage_caused call fault result is untouched (inl closed) = rw closed.0 (record { is_fault = is; untouched = untouched; err = closed.1 })
-usage_caused call fault result is untouched (inr short) = rw short.0 (record { work = inl untouched; err = short.1 })

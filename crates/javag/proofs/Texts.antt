@@ -15,7 +15,3 @@ pub take_one : (names : List (List ℕ)) (at : ℕ) (name : List ℕ) → at < l
 take_one [] at name h e = absurd (omega arith)
 take_one (n ∷ names) zero name h e = (ap (λ (x : List ℕ). x ∷ []) (sym e), ap (λ (x : List ℕ). Some x) (sym e))
 take_one (n ∷ names) (suc at) name h e = let more = take_one names at name (omega arith) e in (rw add-one (ap (λ (l : List (List ℕ)). n ∷ l) (rw add-one at more.0)), more.1)
-
-pub rose_later : (first before after : ℕ) (missing : Type 0) → first ≤ before → Rose before after ⊎ missing → Rose first after ⊎ missing
-rose_later first before after missing h (inl rose) = inl (omega arith)
-rose_later first before after missing h (inr m) = inr m

@@ -1,3 +1,4 @@
+//! How a job ends, and its exit status.
 ghost use Rattle.std.specs.Prelude.{◌≡◌, ◌%◌};
 ghost use Rattle.std.specs.Int.{w32, cast_unsigned};
 ghost use Rattle.javag.specs.Closing.{status_of};

@@ -19,8 +19,6 @@ mod reader;
 mod sizes;
 mod sorts;
 mod switches;
-#[cfg(test)]
-mod tests;
 mod texts;
 
 pub use fault::ClassFault;

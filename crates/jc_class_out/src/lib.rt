@@ -10,8 +10,6 @@ mod model;
 mod pool;
 mod room;
 mod sieve;
-#[cfg(test)]
-mod tests;
 mod texts;
 mod uses;
 mod writer;

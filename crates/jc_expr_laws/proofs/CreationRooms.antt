@@ -39,9 +39,6 @@ Below h expr array =
 pub expr_below : (h : ℕ) (expr : Run Expr) (array : Run ArrayInit) → Below h expr array → Law Expr (any_expr h expr)
 expr_below h expr array b = ⊎_elim (λ v. inr v.1.0) (λ l. inl l.1.0) b
 
-pub array_below : (h : ℕ) (expr : Run Expr) (array : Run ArrayInit) → Below h expr array → Law ArrayInit (array_coded h array)
-array_below h expr array b = ⊎_elim (λ v. inr v.1.1) (λ l. inl l.1.1) b
-
 -- what has a value is lawful
 pub has_value : (A : Type 0) (c : Coded A) → Law A c → (a : A) → c.fits a ≡ true → Lawful A (formed c)
 has_value A c l a g = ⊎_elim (λ la. la) (λ v. absurd (false≢true (sym (v.never a) ∙ g))) l

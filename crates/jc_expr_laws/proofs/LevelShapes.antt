@@ -35,9 +35,6 @@ pub record IsChain (e : Expr) : Type 0 where
 is_Chain : (e : Expr) (first : Expr) (rest : List Operand) → out-Expr e ≡ Expr-F.Chain first rest → IsChain e
 is_Chain e first rest q = record { first = first; rest = rest; is_it = sym (expr_of.rolls-Chain first rest) ∙ ap roll-Expr (sym q) ∙ roll-out-Expr e }
 
-not_between : (level n : ℕ) → 2 ≤ level → level ≤ 11 → n ≡ level → (12 ≤ n) → ⊥
-not_between level n lo hi e h = omega (arith, e, h, hi)
-
 unary : (s : PrefixSign) → 12 ≤ prefix_level s
 unary prefix_of.Plus = omega arith
 unary prefix_of.Minus = omega arith

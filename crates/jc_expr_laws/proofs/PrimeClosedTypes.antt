@@ -106,14 +106,6 @@ class_closed = ind-ClassTree (λ x. Closed (base_tokens x)) (λ x. Closed (arg_t
     (λ x y is. subst (λ (x : TypePart-F BaseTree TypeArg ClassTree TypePart TypeTree). Closed (part_tokens (roll-TypePart x))) is (part_rolled y))
     (λ x y is. subst (λ (x : TypeTree-F BaseTree TypeArg ClassTree TypePart TypeTree). Closed (type_tokens (roll-TypeTree x))) is (type_rolled y))
 
-pub part_closed : (x : TypePart) → Closed (part_tokens x)
-part_closed = ind-TypePart (λ x. Closed (base_tokens x)) (λ x. Closed (arg_tokens x)) (λ x. Closed (class_tokens x)) (λ x. Closed (part_tokens x)) (λ x. Closed (type_tokens x))
-    (λ x y is. subst (λ (x : BaseTree-F BaseTree TypeArg ClassTree TypePart TypeTree). Closed (base_tokens (roll-BaseTree x))) is (base_rolled y))
-    (λ x y is. subst (λ (x : TypeArg-F BaseTree TypeArg ClassTree TypePart TypeTree). Closed (arg_tokens (roll-TypeArg x))) is (arg_rolled y))
-    (λ x y is. subst (λ (x : ClassTree-F BaseTree TypeArg ClassTree TypePart TypeTree). Closed (class_tokens (roll-ClassTree x))) is (class_rolled y))
-    (λ x y is. subst (λ (x : TypePart-F BaseTree TypeArg ClassTree TypePart TypeTree). Closed (part_tokens (roll-TypePart x))) is (part_rolled y))
-    (λ x y is. subst (λ (x : TypeTree-F BaseTree TypeArg ClassTree TypePart TypeTree). Closed (type_tokens (roll-TypeTree x))) is (type_rolled y))
-
 pub type_closed : (x : TypeTree) → Closed (type_tokens x)
 type_closed = ind-TypeTree (λ x. Closed (base_tokens x)) (λ x. Closed (arg_tokens x)) (λ x. Closed (class_tokens x)) (λ x. Closed (part_tokens x)) (λ x. Closed (type_tokens x))
     (λ x y is. subst (λ (x : BaseTree-F BaseTree TypeArg ClassTree TypePart TypeTree). Closed (base_tokens (roll-BaseTree x))) is (base_rolled y))

@@ -105,14 +105,6 @@ class_frames = ind-ClassTree (λ x. Frames (base_tokens x)) (λ x. Frames (arg_t
     (λ x y is. subst (λ (x : TypePart-F BaseTree TypeArg ClassTree TypePart TypeTree). Frames (part_tokens (roll-TypePart x))) is (part_rolled y))
     (λ x y is. subst (λ (x : TypeTree-F BaseTree TypeArg ClassTree TypePart TypeTree). Frames (type_tokens (roll-TypeTree x))) is (type_rolled y))
 
-pub part_frames : (x : TypePart) → Frames (part_tokens x)
-part_frames = ind-TypePart (λ x. Frames (base_tokens x)) (λ x. Frames (arg_tokens x)) (λ x. Frames (class_tokens x)) (λ x. Frames (part_tokens x)) (λ x. Frames (type_tokens x))
-    (λ x y is. subst (λ (x : BaseTree-F BaseTree TypeArg ClassTree TypePart TypeTree). Frames (base_tokens (roll-BaseTree x))) is (base_rolled y))
-    (λ x y is. subst (λ (x : TypeArg-F BaseTree TypeArg ClassTree TypePart TypeTree). Frames (arg_tokens (roll-TypeArg x))) is (arg_rolled y))
-    (λ x y is. subst (λ (x : ClassTree-F BaseTree TypeArg ClassTree TypePart TypeTree). Frames (class_tokens (roll-ClassTree x))) is (class_rolled y))
-    (λ x y is. subst (λ (x : TypePart-F BaseTree TypeArg ClassTree TypePart TypeTree). Frames (part_tokens (roll-TypePart x))) is (part_rolled y))
-    (λ x y is. subst (λ (x : TypeTree-F BaseTree TypeArg ClassTree TypePart TypeTree). Frames (type_tokens (roll-TypeTree x))) is (type_rolled y))
-
 pub type_frames : (x : TypeTree) → Frames (type_tokens x)
 type_frames = ind-TypeTree (λ x. Frames (base_tokens x)) (λ x. Frames (arg_tokens x)) (λ x. Frames (class_tokens x)) (λ x. Frames (part_tokens x)) (λ x. Frames (type_tokens x))
     (λ x y is. subst (λ (x : BaseTree-F BaseTree TypeArg ClassTree TypePart TypeTree). Frames (base_tokens (roll-BaseTree x))) is (base_rolled y))

@@ -31,13 +31,6 @@ told_split touched (d ∷ a) b (x ∷ tokens) h =
     let parts = told_split (is_greater x.kind && x.touches) a b tokens h.4 in
     record { front = x ∷ parts.front; back = parts.back; joined = ap (λ (l : List Token). x ∷ l) parts.joined; first = (h.0, h.1, h.2, h.3, parts.first); second = parts.second }
 
--- the same of what spells its tokens before others
-pub spelled_both : (f : Spelled) → Frames f → (touched : Bool) (r : List Told) (s t : List Token) → AreTold touched (f []) s → AreTold (touch_after touched s) r t → AreTold touched (f r) (s ++ t)
-spelled_both f frames touched r s t h k = subst (λ (l : List Told). AreTold touched l (s ++ t)) (sym (frames.at [] r)) (told_both touched (f []) r s t h k)
-
-pub spelled_split : (f : Spelled) → Frames f → (touched : Bool) (r : List Told) (tokens : List Token) → AreTold touched (f r) tokens → AreToldBoth touched (f []) r tokens
-spelled_split f frames touched r tokens h = told_split touched (f []) r tokens (subst (λ (l : List Told). AreTold touched l tokens) (frames.at [] r) h)
-
 pub told_length : (touched : Bool) (a : List Told) (s : List Token) → AreTold touched a s → length a ≡ length s
 told_length touched [] [] h = refl
 told_length touched [] (x ∷ s) h = absurd h

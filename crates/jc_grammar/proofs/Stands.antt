@@ -37,6 +37,3 @@ stands_looser loose level s h e = stands_made loose s (stands_good level s e) (l
 and_of_true : (a b : Bool) → b ≡ true → (a && b) ≡ a
 and_of_true true b e = e
 and_of_true false b e = refl
-
-pub is_expr_good : (expr : Expr) → is_expr expr ≡ (expr_shape expr).good
-is_expr_good expr = and_of_true _ _ (le_true 0 (expr_shape expr).level (omega arith))

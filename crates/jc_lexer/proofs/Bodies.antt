@@ -26,9 +26,6 @@ pub record IsBodyTo (text : List Symbol) (units : List ℕ) (len : ℕ) (rest : 
   pub enough : length rest < bound
   pub same : string_body text ≡ with_units units len (string_from bound rest)
 
-pub begins_body : (text : List Symbol) → IsBodyTo text [] 0 text
-begins_body text = record { bound = length text + 1; enough = omega arith; same = sym (with_none (string_body text)) }
-
 body_turn : (n : ℕ) (rest : List Symbol) (e : Element) → length rest < n → (code_at rest 0 == 34) ≡ false → e ≡ element_at rest →
     (k : ℕ) × (n ≡ suc k) × (string_from n rest ≡ string_after (λ len. string_from k (drop len rest)) e)
 unfolding string_from

@@ -25,9 +25,6 @@ with_none (Err refused) = refl
 pub record AreFilesTo (files : List (List ℕ)) (lists : List (List Token)) (n before : ℕ) : Type 0 where
   pub same : lexed_files 1 0 files ≡ with_lists lists (lexed_files (n + 1) before (drop n files))
 
-pub begin_files : (files : List (List ℕ)) → AreFilesTo files [] 0 0
-begin_files files = record { same = sym (with_none (lexed_files 1 0 files)) }
-
 turn : (n before : ℕ) (bytes : List ℕ) (files : List (List ℕ)) → lexed_files n before (bytes ∷ files) ≡ then_files (lexed_file n before bytes) (lexed_files (n + 1) (before + length bytes) files)
 unfolding lexed_files
 turn n before bytes files = refl

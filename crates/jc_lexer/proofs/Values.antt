@@ -24,25 +24,11 @@ none_at : (b : Bool) (v : ℕ) → 2 ^ 64 ≤ v → cond (b && nat_lt v (2 ^ 64)
 none_at true v h = grind (arith, nat_tests)
 none_at false v h = refl
 
-pub whole_end : (base value : ℕ) → value < 2 ^ 64 → whole_from base value [] ≡ Some value
-unfolding whole_from
-whole_end base value h = grind (arith, nat_tests)
-
-pub whole_mark : (base value : ℕ) (s : Symbol) (digits : List Symbol) → (s.code == 95) ≡ true → whole_from base value (s ∷ digits) ≡ whole_from base value digits
-unfolding whole_from
-whole_mark base value s digits h = rw h refl
-
 pub whole_digit : (base value : ℕ) (s : Symbol) (digits : List Symbol) → (s.code == 95) ≡ false → digit_value s.code < base →
     whole_from base value (s ∷ digits) ≡ whole_from base (value * base + digit_value s.code) digits
 unfolding whole_from
 whole_digit base value s digits h l =
     let t : nat_lt (digit_value s.code) base ≡ true = grind (arith, nat_tests) in
-    rw (h, t) refl
-
-pub whole_bad : (base value : ℕ) (s : Symbol) (digits : List Symbol) → (s.code == 95) ≡ false → base ≤ digit_value s.code → whole_from base value (s ∷ digits) ≡ None
-unfolding whole_from
-whole_bad base value s digits h l =
-    let t : nat_lt (digit_value s.code) base ≡ false = grind (arith, nat_tests) in
     rw (h, t) refl
 
 pub whole_big : (base value : ℕ) (digits : List Symbol) → 1 ≤ base → 2 ^ 64 ≤ value → whole_from base value digits ≡ None

@@ -1,3 +1,4 @@
+//! UTF-8, read a character at a time.
 ghost use Rattle.std.specs.Prelude.{◌≡◌, ◌<◌, ◌≤◌, ◌^◌, length, get_or, IfOk, IfSome, IsTrue};
 ghost use Rattle.jc_lexer.specs.Symbols.{is_high};
 ghost use Rattle.jc_lexer.specs.Decoding.{is_tail, two_bytes, three_bytes, four_bytes, utf8, hex_digit, four_digits, escape_marks, escape, unit, is_low, paired, character, text_of, Fits, IsShort};

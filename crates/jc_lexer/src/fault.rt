@@ -1,3 +1,4 @@
+//! What keeps a source from having tokens.
 ghost use Rattle.std.specs.Prelude.{◌≡◌};
 ghost use Rattle.jc_lexer.specs.Faults.{place_of, rule_of};
 

@@ -1,3 +1,4 @@
+//! The tokens of all sources of a job, or its least break of the lexical stage.
 ghost use Rattle.std.specs.Prelude.{◌≡◌, ◌+◌, ◌≤◌, length, IfOk, IfErr, IsTrue, Ok};
 ghost use Rattle.jc_rules.specs.Rules.{is_rule};
 ghost use Rattle.jc_lexer.specs.Faults.{rule_of, place_of};

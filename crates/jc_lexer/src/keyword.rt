@@ -1,3 +1,4 @@
+//! The words that are keywords (JLS 3.9), `true`, `false` and `null` among them.
 ghost use Rattle.std.specs.Prelude.{◌≡◌, ℕ, List, length};
 ghost use Rattle.jc_lexer.specs.Words.{spelling, key_in};
 ghost use Rattle.jc_lexer.specs.declared.keyword.TheConstants.{KEYS};

@@ -1,3 +1,4 @@
+//! The first piece of a text: white space, a comment or a token (JLS 3.5).
 ghost use Rattle.std.specs.Prelude.{◌≡◌, ◌+◌, ◌<◌, ◌≤◌, length, IfOk, IfSome, string_bytes};
 ghost use Rattle.jc_lexer.specs.Lexemes.{torn, is_ended, closes_at, closing, comment, word_step, word, numeric, character, string_step, flawed, sign, lexeme, first, IsProgress, begins_lexeme};
 ghost use Rattle.jc_lexer.specs.Numbers.{number};

@@ -1,3 +1,4 @@
+//! The tokens of one source.
 ghost use Rattle.std.specs.Prelude.{◌≡◌, ◌≤◌, length, IfOk, IfErr, Ok};
 ghost use Rattle.jc_lexer.specs.Lexing.{lexed_text, lexed, IsTextFault, IsSourceFault};
 

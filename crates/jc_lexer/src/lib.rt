@@ -11,8 +11,6 @@ mod literal;
 mod number;
 mod signs;
 mod symbol;
-#[cfg(test)]
-mod tests;
 mod token;
 
 pub use fault::LexFault;

@@ -1,3 +1,4 @@
+//! Character and string literals, and their escapes (JLS 3.10.4 to 3.10.6).
 ghost use Rattle.std.specs.Prelude.{◌≡◌, ◌<◌, ◌≤◌, length, IfOk, IsTrue};
 ghost use Rattle.jc_lexer.specs.Symbols.{code_at};
 ghost use Rattle.jc_lexer.specs.Literals.{is_octal, flaw_at, simple_escape, octal_escape, escape_sequence, element_at, FitsIn, char_after, char_body, string_body, IsWithin, IsBodyWithin};

@@ -1,3 +1,4 @@
+//! Integer literals, and the forms of floating-point literals (JLS 3.10.1, 3.10.2).
 ghost use Rattle.std.specs.Prelude.{◌≡◌, ◌+◌, ◌*◌, ◌^◌, ◌<◌, ◌≤◌, length};
 ghost use Rattle.std.specs.Option.{SomeIff};
 ghost use Rattle.jc_lexer.specs.Numbers.{whole_value, whole, exponent, fraction, power, hex_point, hex_tail, decimal_after, decimal_number, hex_after, hex_number, binary_after, binary_number, number, HasSymbols};

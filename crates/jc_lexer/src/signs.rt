@@ -1,3 +1,4 @@
+//! Separators and operators (JLS 3.11, 3.12): the longest one is read.
 ghost use Rattle.std.specs.Prelude.{◌≡◌, ◌<◌, IfSome};
 ghost use Rattle.jc_lexer.specs.Signs.{begins, sign_in, sign_at, IsLongest};
 

@@ -1,3 +1,4 @@
+//! A character of a source behind its Unicode escapes (JLS 3.3), and its class.
 ghost use Rattle.std.specs.Prelude.{◌≡◌, true, ◌==◌, ◌&&◌, nat_le, ◌≤◌, length, take, drop};
 ghost use Rattle.std.specs.Char.{digit_value};
 ghost use Rattle.std.specs.Option.{SomeIff};

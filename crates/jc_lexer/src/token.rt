@@ -1,3 +1,4 @@
+//! Tokens: keywords, signs, identifiers and literals.
 use jc_rules::{Items, Text};
 
 /// A keyword (JLS 3.9), or one of the literals `true`, `false` and `null` (JLS 3.10.3, 3.10.7), which are no identifiers.

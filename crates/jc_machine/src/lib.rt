@@ -20,5 +20,3 @@ pub use program::Program;
 pub use stack::Stack;
 pub use value::Value;
 
-#[cfg(test)]
-mod tests;

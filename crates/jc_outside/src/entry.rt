@@ -1,3 +1,4 @@
+//! A file in memory.
 use jc_rules::{Items, Text};
 
 /// A file in memory: its name, and its bytes.

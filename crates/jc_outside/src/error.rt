@@ -1,3 +1,4 @@
+//! How a call of an outside object ends, if not well.
 ghost use Rattle.std.specs.Prelude.{◌≡◌};
 ghost use Rattle.jc_outside.specs.declared.error.OutsideError.TheVariants.{WantOfMemory as no_memory};
 

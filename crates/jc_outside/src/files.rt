@@ -1,3 +1,4 @@
+//! Sources and class files in the folders of the system.
 // Adapters over the files of a file system. They tell no content.
 ghost use Rattle.std.specs.Prelude.{◌≡◌, ◌≤◌, ◌⊎◌, None, IsErrOf, is_ok, if◌then◌else◌};
 ghost use Rattle.jc_outside.specs.Told.{Rose, risen, Extends};

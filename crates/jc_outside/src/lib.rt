@@ -20,6 +20,3 @@ pub use plan::Fail;
 pub use streams::{StdKeys, StdPaper};
 pub use sure::{SureClasses, SureKeys, SurePaper, SureShelf};
 pub use traits::{ClassShelf, Keys, Paper, Shelf};
-
-#[cfg(test)]
-mod tests;

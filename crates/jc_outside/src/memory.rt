@@ -1,3 +1,4 @@
+//! Outside objects in memory that fail at planned calls.
 // Forms in memory that fail at calls given by number.
 ghost use Rattle.std.specs.Prelude.{◌≡◌, ◌≢◌, ◌≤◌, ◌⊎◌, ◌↔◌, [], ◌∷◌, ◌++◌, true, false, take, Some, None, IfOk, OnOk, OnErr, IsErr, IsErrOf, IsSome, IfSome};
 ghost use Rattle.jc_outside.specs.Told.{Rose, IsMissing, Gives, Extends, Stays, Gets, GetsPart, Takes};

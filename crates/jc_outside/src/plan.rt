@@ -1,3 +1,4 @@
+//! Which calls of an object in memory fail.
 // Which calls of a form in memory fail. Calls are numbered from 1.
 ghost use Rattle.std.specs.Prelude.{◌≡◌, ◌==◌, ◌≤◌, find};
 ghost use Rattle.jc_outside.specs.Memory.{fails_next, after_call, next_fail, after_put};

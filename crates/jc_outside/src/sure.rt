@@ -1,3 +1,4 @@
+//! Outside objects in memory that never fail.
 // Forms in memory that never fail.
 ghost use Rattle.std.specs.Prelude.{◌≡◌, [], IfSome, IfNone, Some, None};
 ghost use Rattle.jc_outside.specs.Told.{file_at};

@@ -1,3 +1,4 @@
+//! What a job sees of the world: sources, a place for class files, input, output.
 ghost use Rattle.std.specs.Prelude.{◌≡◌, ◌≤◌, ◌⊎◌, ℕ, List, [], ◌∷◌, IfOk, OnOk, OnErr, IsErrOf};
 ghost use Rattle.std.specs.declared.option.Option.{Option};
 ghost use Rattle.jc_outside.specs.Told.{Files, Rose, IsMissing, Gives, Extends, Stays, Gets, GetsPart, Takes};

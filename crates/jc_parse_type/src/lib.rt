@@ -3,8 +3,6 @@
 
 mod parsing;
 mod reading;
-#[cfg(test)]
-mod tests;
 
 pub use parsing::{TypeFound, type_at};
 pub use reading::{

@@ -1,3 +1,4 @@
+//! The texts of `java.util`.
 /// `java.util`.
 pub const COLLECTIONS: &str = r#"package java.util;
 

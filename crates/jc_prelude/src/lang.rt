@@ -1,3 +1,4 @@
+//! The texts of `java.lang`, but for its exceptions.
 /// `java.lang` but for its exceptions, `java.lang.Object` first.
 pub const LANG: &str = r#"package java.lang;
 

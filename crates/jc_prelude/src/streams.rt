@@ -1,3 +1,4 @@
+//! The texts of `java.io`.
 /// `java.io`.
 pub const STREAMS: &str = r#"package java.io;
 

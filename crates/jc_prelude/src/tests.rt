@@ -1,3 +1,4 @@
+//! That the texts have the members that a program may use.
 use crate::sources;
 
 // The head of each type, and its members.

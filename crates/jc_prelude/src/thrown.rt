@@ -1,3 +1,4 @@
+//! The texts of the exceptions of `java.lang`.
 /// The exceptions of `java.lang`, each below its superclass.
 pub const THROWN: &str = r#"package java.lang;
 

@@ -1,3 +1,4 @@
+//! The number of the line that holds a place in a source.
 ghost use Rattle.std.specs.Prelude.{◌≡◌, ◌+◌, ◌-◌, ◌<◌, ◌^◌, min, length};
 ghost use Rattle.jc_rules.specs.Lines.{line_ends_by, ends_line, has_byte};
 

@@ -1,3 +1,4 @@
+//! The rules, their stages, and the places at which they are broken.
 ghost use Rattle.std.specs.Prelude.{◌≡◌, ◌/◌, ◌+◌, IfSome, IfNone, IsTrue, ◌↔◌, IsNone, false};
 ghost use Rattle.jc_rules.specs.Rules.{is_rule, stage_of};
 

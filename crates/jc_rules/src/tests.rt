@@ -1,3 +1,4 @@
+//! Lines, texts of rules, and trees of boxes and lists.
 use crate::{Boxed, Items, Rule, Stage, Text, line_of, text_of};
 use std::alloc::{AllocError, Global};
 use std::test::Fail;

@@ -1,3 +1,4 @@
+//! Texts that contracts see as their bytes.
 ghost use Rattle.std.specs.Prelude.{◌≡◌, string_bytes};
 
 use std::marker::Model;

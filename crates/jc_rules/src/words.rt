@@ -1,3 +1,4 @@
+//! The text of each rule, as it is printed.
 ghost use Rattle.std.specs.Prelude.{◌≡◌};
 ghost use Rattle.jc_rules.specs.Rules.{lexical_text, syntax_text, names_text, types_text, headers_text, bodies_text, flow_text, clashes_text, limits_text, text_at};
 

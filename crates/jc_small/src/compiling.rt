@@ -1,3 +1,4 @@
+//! The class of a small program.
 ghost use Rattle.std.specs.Prelude.{IfOk, MatchOption};
 ghost use Rattle.jc_small.specs.Small.{IsNoProgram};
 ghost use Rattle.jc_small.specs.Same.{Compiled};

@@ -1,3 +1,4 @@
+//! The tokens that stand in every small program.
 // The fixed lexemes of the small language.
 ghost use Rattle.std.specs.Prelude.{◌≡◌, codes};
 ghost use Rattle.std.specs.Str.{bytes_eq};

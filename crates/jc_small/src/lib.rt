@@ -5,7 +5,5 @@ mod compiling;
 mod emitting;
 mod fixed;
 mod reading;
-#[cfg(test)]
-mod tests;
 
 pub use compiling::compile;

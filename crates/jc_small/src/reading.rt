@@ -1,3 +1,4 @@
+//! A small program, read token by token.
 // A program from its tokens.
 ghost use Rattle.std.specs.Prelude.{◌≡◌, ◌≤◌, [], ◌∷◌, ◌++◌, IfOk, OnOk, MatchOption, slice_get, true};
 ghost use Rattle.jc_small.specs.Small.{IsNoProgram, IsProgram, head, kinds, write_rest};

@@ -10,8 +10,6 @@ mod kinds;
 mod meeting;
 mod questions;
 mod reaching;
-#[cfg(test)]
-mod tests;
 mod views;
 
 pub use answering::every;

@@ -147,9 +147,6 @@ first_offset_of_formal node = modifiers_first node.modifiers (first_offset_of_ty
 abbrev pub first_offset_of_locals : LocalVars → ℕ
 first_offset_of_locals node = modifiers_first node.modifiers (first_offset_of_type node.ty)
 
-abbrev pub first_offset_of_resource : Resource → ℕ
-first_offset_of_resource node = modifiers_first node.modifiers (first_offset_of_type node.ty)
-
 abbrev pub first_offset_of_result : ResultType → ℕ
 first_offset_of_result (aResultType.Void at) = at
 first_offset_of_result (aResultType.Type it) = first_offset_of_type it

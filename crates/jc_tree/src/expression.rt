@@ -1,3 +1,4 @@
+//! The nodes of expressions and their initialisers (JLS 15).
 use crate::{BaseTree, ClassTree, Ident, TypeArg, TypeTree};
 use jc_lexer::TokenKind;
 use jc_rules::{Boxed, Items};

@@ -1,3 +1,4 @@
+//! Why tokens are no tree.
 use jc_rules::Rule;
 
 /// Why tokens are refused: at a token, where the end of the file counts as a last one, no tree begins with the tokens up to it; or

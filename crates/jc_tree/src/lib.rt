@@ -8,8 +8,6 @@ mod heights;
 mod name;
 mod offsets;
 mod statement;
-#[cfg(test)]
-mod tests;
 mod types;
 
 pub use copy::{copy_args, copy_base, copy_class, copy_ident, copy_text, copy_type};

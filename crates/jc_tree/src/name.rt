@@ -1,3 +1,4 @@
+//! A name and its place.
 use jc_rules::Text;
 
 /// An identifier, and the offset of its first byte.

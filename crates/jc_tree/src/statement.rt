@@ -1,3 +1,4 @@
+//! The nodes of source files, declarations, members and statements (JLS 7 to 9, 14).
 use crate::{ClassTree, Expr, Ident, Init, TypeTree};
 use jc_rules::{Boxed, Items};
 

@@ -1,3 +1,4 @@
+//! The nodes of types (JLS 4).
 use crate::Ident;
 use jc_rules::Items;
 

@@ -8,8 +8,6 @@ mod parts;
 mod plain;
 mod skips;
 mod statements;
-#[cfg(test)]
-mod tests;
 mod together;
 
 pub use expressions::{copy_expr, copy_init};

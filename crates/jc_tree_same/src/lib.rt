@@ -6,8 +6,6 @@ mod parts;
 mod plain;
 mod skips;
 mod statements;
-#[cfg(test)]
-mod tests;
 mod types;
 
 pub use expressions::{same_expr, same_init};

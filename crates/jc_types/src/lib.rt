@@ -20,8 +20,6 @@ mod scopes;
 mod sizes;
 mod substitution;
 mod table;
-#[cfg(test)]
-mod tests;
 
 pub use accessors::{
     captured_lower, captured_uppers, class_at, class_fields, class_methods, class_named,

@@ -4,8 +4,6 @@
 
 mod checking;
 mod inside;
-#[cfg(test)]
-mod tests;
 
 pub use checking::check_type;
 pub use jc_judge::TypeFault;

@@ -18,9 +18,6 @@ use Rattle.jc_words.specs.Cut.{sort_of, equals_word}
 pub begins : (word text : List ℕ) → starts_with nat_eq word text ≡ true → word ≡ text ++ drop (length text) word
 begins word text e = (starts_is Decides-eqb word text (starts_with nat_eq word text) refl).0 e
 
-pub begins_so : (word text rest : List ℕ) → word ≡ text ++ rest → starts_with nat_eq word text ≡ true
-begins_so word text rest e = (starts_is Decides-eqb word text (starts_with nat_eq word text) refl).1 rest e
-
 -- the tests of a word's sort, one by one
 chosen : Bool → Bool → Bool → Bool → Bool → Bool → Bool → Bool → Sort
 chosen dashed end out run steps out_is run_is steps_is =

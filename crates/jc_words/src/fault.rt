@@ -1,3 +1,4 @@
+//! What can be wrong with the words of a command line.
 use thiserror::Error;
 
 /// What keeps words from being a job. Where several stand together the first of this list is answered.

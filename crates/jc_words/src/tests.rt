@@ -1,3 +1,4 @@
+//! Command lines, and what they ask for.
 use crate::{Job, UsageFault, read_words};
 use jc_rules::Stop;
 use std::alloc::{AllocError, Global};

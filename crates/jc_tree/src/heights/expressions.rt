@@ -1,3 +1,4 @@
+//! Heights of expressions, creations and initialisers.
 ghost use Rattle.std.specs.Prelude.{◌≡◌, map};
 ghost use Rattle.jc_tree.specs.Heights.{array_height, capped, creation_height, effect_height, expr_height, in_some, init_height, most, operand_height, skip_height, skip_part_height};
 

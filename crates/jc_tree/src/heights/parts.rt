@@ -1,3 +1,4 @@
+//! Heights of annotations, modifiers, parameters and variables.
 ghost use Rattle.std.specs.Prelude.{◌≡◌, map, List};
 ghost use Rattle.jc_tree.specs.Heights.{annotation_height, capped, clause_head_height, for_height, for_init_height, formal_height, head_height, in_some, local_height, method_height, modifier_height, most, pair_height, param_height, params_of_height, resource_height, resources_of_height, result_height, value_height, var_height};
 ghost use Rattle.jc_tree.specs.declared.statement.Pair.{Pair};

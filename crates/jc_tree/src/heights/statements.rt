@@ -1,3 +1,4 @@
+//! Heights of statements, members and declarations.
 ghost use Rattle.std.specs.Prelude.{◌≡◌, map};
 ghost use Rattle.jc_tree.specs.Heights.{capped, clause_height, declaration_height, member_height, most, source_height, stmt_height, top_height};
 

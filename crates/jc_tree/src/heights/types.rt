@@ -1,3 +1,4 @@
+//! Heights of types.
 ghost use Rattle.std.specs.Prelude.{◌≡◌, map};
 ghost use Rattle.jc_tree.specs.Heights.{arg_height, base_height, capped, class_height, in_some, most, part_height, type_height};
 

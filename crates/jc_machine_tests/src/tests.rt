@@ -1,5 +1,6 @@
-use crate::{Machine, Ran, Stepped};
+//! What no clause says of `jc_machine`.
 use jc_class_out::{ClassModel, CodeModel, Ins, Loaded, MethodModel, Operand};
+use jc_machine::{Machine, Ran, Stepped};
 use jc_outside::{Fail, MemPaper, SureKeys, SurePaper};
 use jc_rules::{Items, NoMain, Stop, Text, WantOfMemory};
 use std::alloc::Global;

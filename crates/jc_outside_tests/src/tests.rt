@@ -1,4 +1,5 @@
-use crate::*;
+//! What no clause says of `jc_outside`.
+use jc_outside::*;
 use jc_rules::{Items, Text};
 use std::alloc::{AllocError, Global};
 use std::io::{ErrorKind, Read, Write};

@@ -1,5 +1,6 @@
-use crate::*;
+//! What no clause says of `jc_types`.
 use jc_rules::{Boxed, Items, Place, Refusal, Rule, Text, WantOfMemory};
+use jc_types::*;
 use std::alloc::Global;
 use std::test::Fail;
 

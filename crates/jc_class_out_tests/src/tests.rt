@@ -1,4 +1,7 @@
-use crate::{ClassModel, CodeModel, Frame, Ins, Item, MethodModel, Operand, class_bytes, fits};
+//! What no clause says of `jc_class_out`.
+use jc_class_out::{
+    ClassModel, CodeModel, Frame, Ins, Item, MethodModel, Operand, class_bytes, fits,
+};
 use jc_rules::{Items, WantOfMemory};
 use std::alloc::Global;
 use std::test::Fail;

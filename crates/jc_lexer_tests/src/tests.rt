@@ -1,4 +1,5 @@
-use crate::{TokenKind, lex_all, tokens};
+//! What no clause says of `jc_lexer`.
+use jc_lexer::{TokenKind, lex_all, tokens};
 use jc_rules::{Items, Stop};
 use std::alloc::Global;
 use std::process::Abort;

@@ -1,6 +1,7 @@
-use crate::{Answer, below, capture, contained};
+//! What no clause says of `jc_sub`.
 use jc_rules::{Items, WantOfMemory};
 use jc_sample::{library, typed};
+use jc_sub::{Answer, below, capture, contained};
 use jc_types::{Arg, CaptureId, ClassId, Env, Table, Ty, same_type};
 use std::alloc::Global;
 use std::test::Fail;

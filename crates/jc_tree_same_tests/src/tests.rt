@@ -1,10 +1,11 @@
-use crate::{
-    same, same_class, same_declaration, same_expr, same_ident, same_init, same_stmt, same_type,
-};
+//! What no clause says of `jc_tree_same`.
 use jc_rules::{Boxed, Items, Text};
 use jc_tree::{
     BaseTree, BinaryOp, ClassTree, Declaration, DeclarationHead, Expr, Ident, Init, Member,
     Operand, PrimitiveWord, SourceFile, Stmt, TopLevel, TypePart, TypeTree,
+};
+use jc_tree_same::{
+    same, same_class, same_declaration, same_expr, same_ident, same_init, same_stmt, same_type,
 };
 use std::alloc::Global;
 use std::test::Fail;

@@ -1,11 +1,12 @@
-use crate::{
+//! What no clause says of `jc_tree`.
+use jc_rules::{Boxed, Items, Text};
+use jc_tree::{
     BaseTree, ClassTree, Expr, Formal, Ident, Init, Literal, Member, MethodHead, Modifier,
     ModifierWord, PostfixOp, PrimitiveWord, SourceFile, Stmt, TypeArg, TypeParam, TypeParams,
     TypePart, TypeTree, copy_type, expr_height, first_offset_of_expr, first_offset_of_formal,
     first_offset_of_init, first_offset_of_member, first_offset_of_method, first_offset_of_stmt,
     first_offset_of_type, height, type_height,
 };
-use jc_rules::{Boxed, Items, Text};
 use std::alloc::Global;
 use std::test::Fail;
 

@@ -1,7 +1,8 @@
-use crate::{TypeFault, check_type};
+//! What no clause says of `jc_wellformed`.
 use jc_rules::{Items, Stop, WantOfMemory};
 use jc_sample::{library, typed};
 use jc_types::{ClassId, Env, Ty};
+use jc_wellformed::{TypeFault, check_type};
 use std::alloc::Global;
 use std::test::Fail;
 

@@ -1,10 +1,11 @@
-use crate::{copy_declaration, copy_expr, copy_file, copy_init, copy_member, copy_stmt};
+//! What no clause says of `jc_tree_copy`.
 use jc_rules::{Boxed, Items, Text};
 use jc_tree::{
     Declaration, DeclarationHead, Expr, Ident, Import, Init, Member, Package, SourceFile, Stmt,
     TopLevel, expr_height, first_offset_of_declaration, first_offset_of_file, first_offset_of_init,
     first_offset_of_member, first_offset_of_stmt, height,
 };
+use jc_tree_copy::{copy_declaration, copy_expr, copy_file, copy_init, copy_member, copy_stmt};
 use std::alloc::Global;
 use std::test::Fail;
 

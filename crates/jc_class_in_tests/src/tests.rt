@@ -1,4 +1,5 @@
-use crate::{ClassFault, read_class};
+//! What no clause says of `jc_class_in`.
+use jc_class_in::{ClassFault, read_class};
 use jc_class_out::{
     ClassModel, CodeModel, FieldModel, Frame, Handler, InnerModel, Ins, Item, Loaded, MethodModel,
     Operand, SwitchCase, class_bytes, fits,

@@ -1,7 +1,8 @@
+//! What no clause says of `jc_parse_type`.
 ghost use Rattle.std.specs.Prelude.{◌<◌, ◌^◌, length, IfSome};
 
-use crate::type_at;
 use jc_lexer::{Token, tokens};
+use jc_parse_type::type_at;
 use jc_rules::{Items, Stop};
 use jc_tree::{BaseTree, ClassTree, ParseFault, TypeArg, TypePart, TypeTree};
 use std::alloc::Global;

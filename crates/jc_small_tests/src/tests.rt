@@ -1,5 +1,6 @@
-use crate::compile;
+//! What no clause says of `jc_small`.
 use jc_lexer::tokens;
+use jc_small::compile;
 use std::test::Fail;
 
 const HI: &str =
