@@ -28,6 +28,7 @@ from widen import short_of
 HERE = os.path.dirname(os.path.abspath(__file__))
 PROGRAMS = os.path.join(HERE, "programs")
 OWN = os.path.join(HERE, "own")
+JOBS = 2
 # the opcodes of the profile, as its documents list them
 PROFILE = (set(range(0x01, 0x0b)) | set(range(0x10, 0x17)) | {0x19, 0x36, 0x37, 0x3a, 0x84, 0xc4, 0x2e, 0x2f, 0x4f, 0x50, 0xbe}
            | set(range(0x32, 0x36)) | set(range(0x53, 0x60)) | {base + n for base in range(0x60, 0x78, 4) for n in (0, 1)}
@@ -125,7 +126,7 @@ class Comparison:
                 return f"{case.name}: java gives {wanted}"
         if self.tool is None:
             return None
-        output, ending = ran_in_tool(self.tool, ["Main"] + (self.prelude if case.has_prelude else []) + files)
+        output, ending = ran_in_tool(self.tool, ["Main"] + (self.prelude if case.has_prelude else []) + files, memory=case.memory)
         if output != case.output or not re.fullmatch(case.ending, ending):
             return f"{case.name}: wanted {case.output, case.ending}, machine {output, ending}"
         return None
@@ -140,6 +141,16 @@ class Comparison:
         return found
 
 
+def told(faults):
+    """Prints each fault as it comes, and gives their number."""
+    count = 0
+    for fault in faults:
+        if fault:
+            count += 1
+            print(f"machine: {fault}", flush=True)
+    return count
+
+
 def main():
     tool = None if sys.argv[1] == "--java-alone" else os.path.abspath(sys.argv[1])
     names = set(sys.argv[2:])
@@ -152,16 +163,13 @@ def main():
     with tempfile.TemporaryDirectory() as room:
         comparison = Comparison(tool, room)
         missing = PROFILE - comparison.opcodes() - set().union(*(case.opcodes() for case in odd.cases()))
-        with concurrent.futures.ThreadPoolExecutor(3) as pool:
-            faults = list(pool.map(comparison.of, chosen)) + list(pool.map(comparison.of_odd, cases))
-    faults = [fault for fault in faults if fault]
-    for fault in faults:
-        print(f"machine: {fault}")
+        with concurrent.futures.ThreadPoolExecutor(JOBS) as pool:
+            count = told(pool.map(comparison.of, chosen)) + told(pool.map(comparison.of_odd, cases))
     if missing:
-        faults.append("opcodes")
+        count += 1
         print("machine: no program has the instructions " + " ".join(f"{code:02x}" for code in sorted(missing)))
-    print(f"machine: {len(chosen)} programs and {len(cases)} odd classes: {len(faults)} differences")
-    sys.exit(1 if faults else 0)
+    print(f"machine: {len(chosen)} programs and {len(cases)} odd classes: {count} differences")
+    sys.exit(1 if count else 0)
 
 
 if __name__ == "__main__":

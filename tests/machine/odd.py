@@ -3,19 +3,19 @@
 A valid case has output and ending of its own, by JVMS 5 and 6.5, and java has to give the same.
 """
 from assemble import Assembly
+from runs import MEMORY
 
 OUT = "getstatic java/lang/System.out:Ljava/io/PrintStream;\n"
 WRITE = "invokevirtual java/io/PrintStream.write:(I)V\n"
 # Puts out the int on top of the stack as a character from '0' on, and a line end.
 SHOW = "invokestatic Main.show:(I)V\n"
 REFUSED = r".*: (Index|Opcode|Tag|Text) at \d+"
-MEMORY = "out of memory"
 
 
 class Case:
-    def __init__(self, name, classes, ending="stuck", output=b"", is_valid=False, has_prelude=True):
+    def __init__(self, name, classes, ending="stuck", output=b"", is_valid=False, has_prelude=True, memory=MEMORY):
         self.name, self.classes, self.ending, self.output = name, classes, ending, output
-        self.is_valid, self.has_prelude = is_valid, has_prelude
+        self.is_valid, self.has_prelude, self.memory = is_valid, has_prelude, memory
 
     def files(self):
         return [(str(number) + "/" + one.name if self.is_doubled() else one.name, one.bytes()) for number, one in enumerate(self.classes)]
@@ -130,14 +130,18 @@ def worlds():
 
 
 def memory():
-    """More than there is."""
+    """More than there is: one gigabyte for each case."""
     most = "ldc 2147483647\n"
-    for code, name in ((4, "Booleans"), (5, "Chars"), (8, "Bytes"), (9, "Shorts"), (10, "Ints"), (11, "Longs")):
-        yield stuck(f"Most{name}", f"{most}newarray {code}\npop\n{most}newarray {code}\npop\nreturn", ending=f"{MEMORY}|ended")
-    yield stuck("MostObjects", f"{most}anewarray Main\npop\nreturn", ending=MEMORY)
-    yield stuck("MostOfMost", f"{most}{most}multianewarray [[J 2\npop\nreturn", ending=MEMORY)
-    yield stuck("EndlessCalls", "aload 0\ninvokestatic Main.main:([Ljava/lang/String;)V\nreturn", ending=MEMORY)
-    yield stuck("EndlessObjects", "again:\nsipush 10000\nnewarray 11\npop\ngoto again", ending=MEMORY)
+    wanted = {name: f"{most}newarray {code}\npop\nreturn" for code, name in
+              ((4, "MostBooleans"), (5, "MostChars"), (8, "MostBytes"), (9, "MostShorts"), (10, "MostInts"), (11, "MostLongs"))}
+    wanted["MostObjects"] = f"{most}anewarray Main\npop\nreturn"
+    wanted["MostOfMost"] = f"{most}{most}multianewarray [[J 2\npop\nreturn"
+    wanted["ManyOfMany"] = "ldc 100000\nldc 100000\nmultianewarray [[I 2\npop\nreturn"
+    wanted["EndlessCalls"] = "aload 0\ninvokestatic Main.main:([Ljava/lang/String;)V\nreturn"
+    wanted["EndlessArrays"] = "again:\nsipush 10000\nnewarray 11\npop\ngoto again"
+    wanted["EndlessObjects"] = "again:\nnew Main\npop\ngoto again"
+    for name, code in wanted.items():
+        yield Case(name, [main_class(code)], "out of memory", memory=1 << 30)
     deep = "iload 0\nifeq bottom\niload 0\niconst_1\nisub\ninvokestatic Main.deep:(I)I\niconst_1\niadd\nireturn\nbottom:\niconst_0\nireturn"
     for depth, name in ((10000, "Deep"), (1000000, "Deeper")):
         main = main_class(f"ldc {depth}\ninvokestatic Main.deep:(I)I\nldc {depth}\nisub\n{SHOW}return")

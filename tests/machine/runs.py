@@ -14,7 +14,7 @@ JAVA = ["java", "-Xint", "-Xss900m", "-XX:+UseSerialGC", "-Xshare:auto", "-Dfile
         "-Dsun.stdout.encoding=UTF-8"]
 ENVIRONMENT = dict(os.environ, LC_ALL="C.UTF-8")
 SECONDS = 100
-MEMORY = 6 << 30
+MEMORY = 2 << 30
 
 
 def compile_all(room, folders):
@@ -61,15 +61,11 @@ def needed(classes, main):
     return found
 
 
-def limits():
-    resource.setrlimit(resource.RLIMIT_AS, (MEMORY, MEMORY))
-
-
-def ran_in_tool(tool, words, given=b"", seconds=SECONDS):
-    """The output and the ending, as the tool's last line on its error output says it."""
+def ran_in_tool(tool, words, given=b"", memory=MEMORY):
+    """The output and the ending, as the tool's last line on its error output says it, with so many bytes of memory."""
     try:
-        done = subprocess.run([tool] + words, input=given, stdout=subprocess.PIPE, stderr=subprocess.PIPE, env=ENVIRONMENT,
-                              timeout=seconds, preexec_fn=limits)
+        done = subprocess.run([tool] + words, input=given, stdout=subprocess.PIPE, stderr=subprocess.PIPE, env=ENVIRONMENT, timeout=SECONDS,
+                              preexec_fn=lambda: resource.setrlimit(resource.RLIMIT_AS, (memory, memory)))
     except subprocess.TimeoutExpired as late:
         return late.stdout or b"", "no end"
     if done.returncode not in (0, 1):

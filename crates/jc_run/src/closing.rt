@@ -42,7 +42,10 @@ fn class_line(alloc: Global, name: &str, fault: ClassFault) -> Result<String, Al
 pub fn fault_line(alloc: Global, fault: &Fault) -> Result<String, AllocError> {
     match fault {
         Fault::Words => {
-            String::from_str(alloc, "usage: jc_run [--steps N] CLASS FILE.class .. [-- ARGUMENT ..]")
+            String::from_str(
+                alloc,
+                "usage: jc_run [--steps N] CLASS FILE.class .. [-- ARGUMENT ..]",
+            )
         }
         Fault::File(name) => {
             let name = name.as_str();
