@@ -120,16 +120,17 @@ class Comparison:
             os.makedirs(os.path.dirname(files[-1]), exist_ok=True)
             with open(files[-1], "wb") as file:
                 file.write(data)
+        wanted = case.output
         if case.is_valid:
-            wanted = ran_in_java(folder, "Main", [], b"", False)
-            if wanted != (case.output, case.ending):
-                return f"{case.name}: java gives {wanted}"
+            wanted, ending = ran_in_java(folder, "Main", [], b"", False)
+            if case.output not in (None, wanted) or ending != case.ending:
+                return f"{case.name}: java gives {wanted, ending}"
         if self.tool is None:
             return None
         output, ending = ran_in_tool(self.tool, ["Main"] + (self.prelude if case.has_prelude else []) + files, memory=case.memory)
-        if output != case.output or not re.fullmatch(case.ending, ending):
-            return f"{case.name}: wanted {case.output, case.ending}, machine {output, ending}"
-        return None
+        if not re.fullmatch(case.ending, ending):
+            return f"{case.name}: wanted {case.ending}, machine {ending}, whose output ends with {output[-200:]!r}"
+        return f"{case.name}: {first_difference(wanted, output)}" if output != wanted else None
 
     def opcodes(self):
         """The opcodes that stand in the rewritten classes."""

@@ -1,8 +1,9 @@
 """Class files that no compiler makes, and the endings that the machine's table gives them: where it allows nothing the run is stuck.
 
-A valid case has output and ending of its own, by JVMS 5 and 6.5, and java has to give the same.
+A valid case has output and ending of its own, by JVMS 5 and 6.5, and java has to give the same. Classes that are drawn by lot have those of java.
 """
 from assemble import Assembly
+from chance import drawn
 from runs import MEMORY
 
 OUT = "getstatic java/lang/System.out:Ljava/io/PrintStream;\n"
@@ -256,8 +257,13 @@ def resolution():
     yield valid("ResultTypeCounts", f"invokestatic Main.g:()I\n{SHOW}invokestatic Main.g:()J\nl2i\n{SHOW}return", [1, 2])
 
 
+def chances():
+    for seed in range(25):
+        yield Case(f"Chance{seed}", [drawn(seed)], "ended", None, True)
+
+
 def cases():
-    found = [case for part in (operands, members, worlds, memory, refused, stack, handlers, resolution) for case in part()]
+    found = [case for part in (operands, members, worlds, memory, refused, stack, handlers, resolution, chances) for case in part()]
     for case in found:
         if case.name == "ResultTypeCounts":
             case.classes[0].method("g", "()I", "iconst_1\nireturn").method("g", "()J", "ldc2_w 2L\nlreturn")
