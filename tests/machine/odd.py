@@ -97,18 +97,19 @@ def members():
         "NotImplemented": "new Main\ninvokeinterface Face.open:()V", "NoClassToMake": "new Missing", "NoClassOfStatic": "getstatic Missing.x:I",
         "NoClassOfFunction": "invokestatic Missing.f:()V", "StaticAsField": "new Main\ngetfield Main.there:I", "FieldAsStatic": "getstatic Main.own:I",
         "StaticAsMethod": "new Main\ninvokevirtual Main.still:()V", "MethodAsStatic": "invokestatic Main.moved:()V", "StaticAsSpecial": "new Main\ninvokespecial Main.still:()V", "Abstract": "new Half\ninvokevirtual Half.open:()V",
-        "NoBody": "invokestatic Main.empty:()V", "UnknownNative": "invokestatic Main.strange:()V", "WrongObject": "new Other\ngetfield Main.own:I",
+        "UnknownNative": "invokestatic Main.strange:()V", "WrongObject": "new Other\ngetfield Main.own:I",
         "WrongObjectToWrite": "new Other\niconst_1\nputfield Main.own:I", "FieldOfArray": "iconst_1\nnewarray 10\ngetfield Main.own:I",
         "MethodOfArray": "iconst_1\nnewarray 10\ninvokevirtual Main.moved:()V", "InterfaceMade": "new Face", "AbstractMade": "new Half",
     }
     for name, code in missing.items():
         main = main_class(code + "\nreturn").field("there", "I").field("own", "I", 1)
         main.method("still", "()V", "return").method("moved", "()V", "return", flags=1)
-        main.method("empty", "()V", None, flags=9).method("strange", "()V", None, flags=0x109)
+        main.method("strange", "()V", None, flags=0x109)
         face = Assembly("Face", flags=0x601).method("open", "()V", None, flags=0x401)
         half = Assembly("Half", flags=0x421).constructor().method("open", "()V", None, flags=0x401)
         other = Assembly("Other").constructor()
         yield Case(name, [main, face, half, other])
+    yield Case("NoBody", [main_class("return").method("empty", "()V", None)], REFUSED)
     yield Case("NoMain", [Assembly("Main").constructor()], "no main")
     yield Case("NoSuchClass", [Assembly("Other").constructor()], "no main")
     yield Case("MainNotStatic", [Assembly("Main").main("return", flags=1)], "no main")

@@ -23,5 +23,6 @@ class Unicode {
         System.out.println(Integer.valueOf(9));
         System.out.write(0x141);
         System.out.write(-246);
+        Out.line();
     }
 }
