@@ -16,6 +16,7 @@ sys.dont_write_bytecode = True
 from runs import JAVA, compile_all, needed
 
 HERE = os.path.dirname(os.path.abspath(__file__))
+RUNS = 3
 TURNS = 20_000_000
 # From the loop's test to the jump back, as javac writes the loop of Arithmetic.
 INSTRUCTIONS = 22
@@ -31,7 +32,7 @@ def seconds(words):
 
 
 def least(words):
-    runs = [seconds(words) for _ in range(3)]
+    runs = [seconds(words) for _ in range(RUNS)]
     return min(time for time, _ in runs), runs[0][1]
 
 
