@@ -11,22 +11,10 @@ import subprocess
 import sys
 import tempfile
 
-HERE = os.path.dirname(os.path.abspath(__file__))
-TEXTS = os.path.join(HERE, "..", "..", "crates", "jc_prelude", "src")
-FILES = ["lang", "thrown", "streams", "collections"]
+sys.dont_write_bytecode = True
+from texts import types, write, write_all
 
-# What javac asks of a platform beside the prelude.
-PLATFORM = {
-    "java/lang/annotation/Annotation": "package java.lang.annotation; public interface Annotation { }",
-    "java/lang/Deprecated": "package java.lang; public @interface Deprecated { }",
-    "java/lang/Override": "package java.lang; public @interface Override { }",
-    "java/lang/SafeVarargs": "package java.lang; public @interface SafeVarargs { }",
-    "java/lang/SuppressWarnings": "package java.lang; public @interface SuppressWarnings { }",
-    "java/lang/FunctionalInterface": "package java.lang; public @interface FunctionalInterface { }",
-    "java/lang/Class": "package java.lang; public final class Class<T> { }",
-    "java/lang/Cloneable": "package java.lang; public interface Cloneable { }",
-    "java/io/Serializable": "package java.io; public interface Serializable { }",
-}
+HERE = os.path.dirname(os.path.abspath(__file__))
 
 # The bodies that the renamed natives get.
 NATIVES = {
@@ -38,38 +26,15 @@ NATIVES = {
 }
 
 
-def types():
-    """The package, the imports, the name and the text of each type at the top."""
-    for file in FILES:
-        with open(os.path.join(TEXTS, file + ".rt"), encoding="utf-8") as stream:
-            text = re.search(r'r#"(.*)"#;', stream.read(), re.S).group(1)
-        package = re.search(r"package ([\w.]+);", text).group(1)
-        imports = re.findall(r"import [\w.]+;", text)
-        for found in re.finditer(r"^public (?:final |abstract )*(?:class|interface) (\w+).*?^}$", text, re.S | re.M):
-            yield package, imports, found.group(1), found.group(0)
-
-
-def write(path, text):
-    os.makedirs(os.path.dirname(path), exist_ok=True)
-    with open(path, "w", encoding="utf-8") as stream:
-        stream.write(text)
-
-
 def run(words):
     return subprocess.run(words, stdout=subprocess.PIPE, stderr=subprocess.STDOUT, text=True, check=False)
 
 
 def compile_as_platform(room):
-    paths = []
-    for path, text in PLATFORM.items():
-        paths.append(f"{room}/{path}.java")
-        write(paths[-1], text)
-    for package, imports, name, text in types():
-        paths.append(f"{room}/{package.replace('.', '/')}/{name}.java")
-        write(paths[-1], f"package {package};\n" + "\n".join(imports) + f"\n{text}\n")
+    platform, prelude = write_all(room)
     os.makedirs(f"{room}/none")
     words = ["javac", "-source", "7", "-target", "7", "-Xlint:all", "-Xlint:-options", "-bootclasspath", f"{room}/none", "-d", f"{room}/made"]
-    said = run(words + paths)
+    said = run(words + platform + prelude)
     if said.returncode or said.stdout:
         print(said.stdout)
         sys.exit("the prelude's texts do not compile without a warning")

@@ -1,0 +1,5 @@
+class ExitsNegative {
+    public static void main(String[] args) {
+        System.exit(-1);
+    }
+}
