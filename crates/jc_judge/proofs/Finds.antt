@@ -1,5 +1,5 @@
 -- A view is found wherever there is one.
-use Rattle.std.proofs.Common.{◌≡◌, inl, inr, ℕ, zero, suc, ◌<◌, ◌≤◌, ◌+◌, add-one, slice_get, ◌==◌, Bool, true, false, Option, Some, None, List, [], ◌∷◌, length, map, if◌then◌else◌, arith, refl, sym, ap, subst, ◌∙◌}
+use Rattle.std.proofs.Common.{◌≡◌, inl, inr, ℕ, zero, suc, ◌<◌, ◌≤◌, ◌+◌, slice_get, ◌==◌, Bool, true, false, Option, Some, None, List, [], ◌∷◌, length, map, if◌then◌else◌, arith, refl, sym, ap, subst, ◌∙◌}
 use Rattle.std.proofs.lemmas.Bool.Decides.{nat_tests}
 use Rattle.jc_types.specs.declared.form.Ty.{Ty, Ty-F, out-Ty, out-roll-Ty, map-Ty}
 use Rattle.jc_types.specs.declared.form.Ty.TheVariants.{outs-Raw}
@@ -16,7 +16,7 @@ use Rattle.jc_judge.specs.Views.{view, view_within, class_supers, first_of, or_e
 use Rattle.std.proofs.lemmas.Option.{slice_get_within}
 use Rattle.jc_types.specs.declared.declarations.ClassDecl.{ClassDecl}
 use Rattle.jc_judge.proofs.ShortPaths.{path_is_short}
-use Rattle.jc_judge.specs.Supers.{Path, IsAcyclic, IsIn, IsSuper, HasNoCycle, IsAbove, numbered}
+use Rattle.jc_judge.specs.Supers.{Path, IsIn, IsSuper, HasNoCycle, IsAbove, numbered}
 
 -- substitution and erasure keep the class
 layer_class : (vars : List VarId) (by : List Ty) (l : Ty-F Arg Ty) (k : ClassId) → class_at l ≡ Some k

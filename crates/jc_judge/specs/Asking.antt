@@ -1,5 +1,5 @@
 -- Containment of arguments (JLS 4.5.1), and what a question of subtyping leads to (JLS 4.10).
-use Rattle.std.specs.Prelude.{ℕ, ◌==◌, ◌||◌, ◌&&◌, not, Option, Some, None, List, [], ◌∷◌, ◌++◌, length, map, if◌then◌else◌}
+use Rattle.std.specs.Prelude.{ℕ, ◌||◌, ◌&&◌, not, Option, Some, None, List, [], ◌∷◌, ◌++◌, length, map, if◌then◌else◌}
 use Rattle.jc_types.specs.declared.form.Ty.{Ty, Ty-F, out-Ty}
 use Rattle.jc_types.specs.declared.form.Arg.{Arg, Arg-F, out-Arg}
 use Rattle.jc_types.specs.declared.ids.ClassId.{ClassId}

@@ -1,5 +1,5 @@
 -- Capture keeps the class of a type.
-use Rattle.std.proofs.Common.{◌≡◌, ℕ, ◌+◌, ◌==◌, Bool, true, false, Option, Some, None, List, length, map, if◌then◌else◌, refl, sym, ap, ◌∙◌}
+use Rattle.std.proofs.Common.{◌≡◌, ℕ, ◌+◌, ◌==◌, Bool, true, false, Option, Some, List, length, if◌then◌else◌, sym, ap, ◌∙◌}
 use Rattle.jc_types.specs.declared.form.Ty.{Ty, Ty-F, out-Ty}
 use Rattle.jc_types.specs.declared.form.Ty.TheVariants.{Class, outs-Class}
 use Rattle.jc_types.specs.declared.form.Arg.{Arg}
@@ -7,11 +7,10 @@ use Rattle.jc_types.specs.declared.ids.ClassId.{ClassId}
 use Rattle.jc_types.specs.declared.table.Table.{Table}
 use Rattle.jc_types.specs.declared.environment.Bounds.{Bounds}
 use Rattle.jc_types.specs.Accessors.{vars_of, class_count}
-use Rattle.jc_judge.specs.declared.question.Question.{Question}
 use Rattle.jc_judge.specs.declared.question.Question.TheVariants.{Fails}
 use Rattle.jc_judge.specs.Kinds.{class_of, class_at}
-use Rattle.jc_judge.specs.Capturing.{Capture, capture_one, capture_at, capture_class, unchanged}
-use Rattle.jc_judge.specs.Views.{view, view_within}
+use Rattle.jc_judge.specs.Capturing.{capture_one, capture_at, capture_class, unchanged}
+use Rattle.jc_judge.specs.Views.{view}
 use Rattle.jc_judge.specs.Asking.{classes_from, by_view}
 use Rattle.jc_sub.specs.Reaching.{IsDead}
 

@@ -1,5 +1,5 @@
 -- A class whose supertypes are all dead is dead, and a way leads to the view.
-use Rattle.std.proofs.Common.{◌≡◌, ◌≢◌, ◌⊎◌, inl, inr, ℕ, zero, suc, ◌+◌, ◌<◌, ◌==◌, Bool, true, false, Option, Some, None, List, [], ◌∷◌, ◌++◌, length, map, take, cond, slice_get, if◌then◌else◌, refl, sym, ap, subst, ◌∙◌, arith}
+use Rattle.std.proofs.Common.{◌≡◌, ◌≢◌, ℕ, zero, suc, ◌+◌, ◌<◌, ◌==◌, Bool, true, false, Option, Some, None, List, [], ◌∷◌, ◌++◌, length, map, take, cond, slice_get, if◌then◌else◌, refl, sym, ap, subst, ◌∙◌, arith}
 use Rattle.std.specs.Prelude.{nat_eq}
 use Rattle.std.proofs.lemmas.Bool.Decides.{nat_tests}
 use Rattle.jc_types.specs.declared.form.Ty.{Ty, Ty-F, out-Ty}
@@ -14,7 +14,7 @@ use Rattle.jc_judge.specs.Supers.{numbered}
 use Rattle.jc_judge.specs.Views.{view_within, first_of, or_else, is_class, supers, supers_at, class_supers, exacts, erased}
 use Rattle.jc_judge.proofs.Finds.{put_class, erased_class}
 use Rattle.jc_sub.specs.declared.reaching.Turn.{Turn}
-use Rattle.jc_sub.specs.Reaching.{HasNoView, IsDead, ClassDead, AllDead, IsUp, Leads, IsWay, super_with, and_then, follow}
+use Rattle.jc_sub.specs.Reaching.{IsDead, ClassDead, AllDead, IsUp, Leads, IsWay, super_with, and_then, follow}
 
 -- the supertypes of a type of a class are the declared ones with its arguments
 pub mapped : (T : Table) (i : ClassId) (o : Option (List Arg)) → class_supers T i o ≡ map (super_with T i o) (supers_of T i)

@@ -1,9 +1,8 @@
-use Rattle.std.proofs.Common.{◌≡◌, ◌++◌, List, map, ap, subst, ◌∙◌}
+use Rattle.std.proofs.Common.{◌≡◌, List, map, ap, subst, ◌∙◌}
 use Rattle.jc_types.specs.declared.form.Arg.{out-Arg}
 use Rattle.jc_judge.specs.declared.question.Part.{Part}
 use Rattle.jc_judge.specs.declared.question.Part.TheVariants.{Ask}
 use Rattle.jc_judge.specs.declared.question.Answer.{Answer}
-use Rattle.jc_judge.specs.Capturing.{meets_at}
 use Rattle.jc_judge.specs.Trees.{Answers, Each, OneOf}
 use Rattle.jc_judge.specs.WellFormed.{lower_parts, arg_fault}
 use Rattle.jc_wellformed.proofs.checking.check_reference.Goals as goal
