@@ -19,4 +19,3 @@ pub use operands::Operands;
 pub use program::Program;
 pub use stack::Stack;
 pub use value::Value;
-
