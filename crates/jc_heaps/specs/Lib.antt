@@ -1,0 +1,5 @@
+pub mod States
+pub mod Numbers
+pub mod Classes
+pub mod Layout
+pub mod Making
