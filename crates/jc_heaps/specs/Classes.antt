@@ -9,7 +9,7 @@ use Rattle.jc_types.specs.declared.erased.Erased.{Erased}
 use Rattle.jc_types.specs.declared.erased.Base.{Base}
 use Rattle.jc_types.specs.declared.erased.Base.TheVariants as base
 use Rattle.jc_types.specs.declared.table.Table.{Table}
-use Rattle.jc_types.specs.Accessors.{supers_of}
+use Rattle.jc_types.specs.Accessors.{class_count, supers_of}
 
 -- `java.lang.Object` is the first class of a table
 abbrev pub object_class : ClassId
@@ -47,7 +47,7 @@ is_within T (suc n) c k = (k.0 == c.0) || any_of (is_within T n c) (supers_of T 
 
 -- k is c or a subclass of it, interfaces counted; where no class is above itself these are steps enough
 unfoldable pub is_subclass : Table → ClassId → ClassId → Bool
-is_subclass T k c = is_within T (length T.classes + 1) c k
+is_subclass T k c = is_within T (class_count T + 1) c k
 
 abbrev pub is_object_base : Base → Bool
 is_object_base (base.Class k) = k.0 == 0

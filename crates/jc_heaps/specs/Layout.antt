@@ -9,12 +9,12 @@ use Rattle.jc_types.specs.declared.form.Primitive.TheVariants.{Boolean, Byte, Sh
 use Rattle.jc_types.specs.declared.erased.Erased.{Erased}
 use Rattle.jc_types.specs.declared.erased.Base.{Base}
 use Rattle.jc_types.specs.declared.erased.Base.TheVariants as base
-use Rattle.jc_types.specs.declared.declarations.FieldDecl.{FieldDecl}
+use Rattle.jc_types.specs.declared.declarations.Modifiers.{Modifiers}
 use Rattle.jc_types.specs.declared.table.Table.{Table}
-use Rattle.jc_types.specs.Accessors.{fields_of}
+use Rattle.jc_types.specs.Accessors.{class_count, fields_of, field_owner_of, field_modifiers_of, field_type_of}
 use Rattle.jc_running.specs.declared.value.Value.{Value}
 use Rattle.jc_running.specs.declared.value.Value.TheVariants.{Whole, Long, Null}
-use Rattle.jc_heaps.specs.Classes.{superclass_of}
+use Rattle.jc_heaps.specs.Classes.{object_class, superclass_of}
 
 abbrev pub zero_of : Primitive → Value
 zero_of LongType = Long (pos 0)
@@ -35,27 +35,27 @@ default_base _ = Null
 abbrev pub default_erased : Erased → Value
 default_erased e = if e.dims == 0 then default_base e.base else Null
 
-abbrev pub is_static_in : Option FieldDecl → Bool
-is_static_in (Some f) = f.modifiers.is_static
+abbrev pub is_static_in : Option Modifiers → Bool
+is_static_in (Some m) = m.is_static
 is_static_in None = false
 
 abbrev pub is_static : Table → FieldId → Bool
-is_static T f = is_static_in (slice_get T.fields f.0)
+is_static T f = is_static_in (field_modifiers_of T f)
 
-abbrev pub default_in : Option FieldDecl → Value
-default_in (Some f) = default_value f.ty.ty
+abbrev pub default_in : Option Ty → Value
+default_in (Some t) = default_value t
 default_in None = Null
 
 abbrev pub default_of : Table → FieldId → Value
-default_of T f = default_in (slice_get T.fields f.0)
+default_of T f = default_in (field_type_of T f)
 
-abbrev pub class_in_field : Option FieldDecl → ClassId
-class_in_field (Some f) = f.class
-class_in_field None = record { 0 = 0 }
+abbrev pub or_object : Option ClassId → ClassId
+or_object (Some k) = k
+or_object None = object_class
 
 -- the class that declares a field
 abbrev pub field_class : Table → FieldId → ClassId
-field_class T f = class_in_field (slice_get T.fields f.0)
+field_class T f = or_object (field_owner_of T f)
 
 abbrev pub instance_only : Table → List FieldId → List FieldId
 instance_only T [] = []
@@ -72,7 +72,7 @@ fields_within T (suc n) k = fields_above (fields_within T n) (superclass_of T k)
 
 -- the fields of an object, in the order in which it has them (JLS 8.3, 12.5)
 unfoldable pub object_fields : Table → ClassId → List FieldId
-object_fields T k = fields_within T (length T.classes + 1) k
+object_fields T k = fields_within T (class_count T + 1) k
 
 abbrev pub one_further : Option ℕ → Option ℕ
 one_further None = None

@@ -5,7 +5,7 @@ use Rattle.jc_types.specs.declared.ids.MethodId.{MethodId}
 use Rattle.jc_types.specs.declared.form.Ty.{Ty}
 use Rattle.jc_types.specs.declared.erased.Erased.{Erased}
 use Rattle.jc_types.specs.declared.table.Table.{Table}
-use Rattle.jc_types.specs.Accessors.{method_vars_of, params_of}
+use Rattle.jc_types.specs.Accessors.{method_vars_of, params_of, result_of}
 use Rattle.jc_types.specs.Erasing.{erasure}
 use Rattle.jc_running.specs.declared.value.Value.{Value}
 use Rattle.jc_running.specs.declared.value.Value.TheVariants.{Address, Null}
@@ -16,18 +16,18 @@ use Rattle.jc_heaps.specs.Classes.{is_of, same_erased, methods_class}
 use Rattle.jc_heaps.specs.Making.{Keeping, address_of, checked}
 use Rattle.jc_typed.specs.declared.program.TypedProgram.{TypedProgram}
 use Rattle.jc_meaning.specs.Kept.{Binding, bindings, class_bindings, Frame, TypedState, TypedRun, unsaid_all, typed_keeping}
-use Rattle.jc_meaning.specs.Programs.{captured_of, locals_of, method_class, result_type, selected}
+use Rattle.jc_meaning.specs.Programs.{captured_of, locals_of, method_class, selected}
 
 -- what runs a method's body in its own variables
 abbrev pub Bodies : Type 0
 Bodies = MethodId → TypedRun Completion
 
 -- A body's result. A method without a result gives null, which nothing reads
-abbrev pub result_of : Completion → TypedRun Value
-result_of Normal = give Null
-result_of (Broke target) = wrong
-result_of (Continued target) = wrong
-result_of (Returned v) = give v
+abbrev pub answer_of : Completion → TypedRun Value
+answer_of Normal = give Null
+answer_of (Broke target) = wrong
+answer_of (Continued target) = wrong
+answer_of (Returned v) = give v
 
 -- the type parameters of the receiver's class, and of the method, with what they stand for in a call. Where a call gives no types for
 -- a method's parameters, they stand for the null type (JLS 4.8, 15.12.2.6)
@@ -47,7 +47,7 @@ first_locals P m given = given ++ replicate (locals_of P m - length given) Null
 
 abbrev pub run_method : TypedProgram → Bodies → MethodId → Option (Object Ty) → List Value → List Ty → TypedRun Value
 run_method P body m receiver given types =
-    in_frame (first_locals P m given) (frame_of P m receiver types) (bind (body m) result_of)
+    in_frame (first_locals P m given) (frame_of P m receiver types) (bind (body m) answer_of)
 
 -- a static method, whose class is initialised by now (JLS 15.12.4.5)
 abbrev pub call_static : TypedProgram → Bodies → MethodId → List Value → List Ty → TypedRun Value
@@ -83,7 +83,7 @@ call_selected P body m None a o args types = wrong
 call_selected P body m (Some own) a o args types =
     bind (entered_all P (params_of P.table m) (params_of P.table own) args) (λ vs.
     bind (run_method P body own (Some o) (Address a ∷ vs) types)
-         (answered P (result_type P.table m) (result_type P.table own)))
+         (answered P (result_of P.table m) (result_of P.table own)))
 
 -- the body that the class of the receiver selects (JLS 15.12.4.4); null throws
 abbrev pub call_virtual : TypedProgram → Bodies → MethodId → Value → List Value → List Ty → TypedRun Value

@@ -1,5 +1,5 @@
 -- What expressions do (JLS 15).
-use Rattle.std.specs.Prelude.{ℕ, zero, suc, ◌+◌, ◌-◌, ◌==◌, ℤ, pos, Bool, true, false, List, [], ◌∷◌, ◌++◌, map, length, replicate, Option, Some, None, slice_get, if◌then◌else◌, int_lt, unsigned_abs}
+use Rattle.std.specs.Prelude.{ℕ, zero, suc, ◌+◌, ◌-◌, ◌==◌, ℤ, pos, Bool, true, false, List, [], ◌∷◌, ◌++◌, map, length, replicate, Option, Some, None, slice_get, slice_set, if◌then◌else◌, int_lt, unsigned_abs}
 use Rattle.jc_rules.specs.declared.rule.Place.{Place}
 use Rattle.jc_types.specs.declared.ids.ClassId.{ClassId}
 use Rattle.jc_types.specs.declared.ids.CaptureId.{CaptureId}
@@ -14,6 +14,7 @@ use Rattle.jc_types.specs.declared.constant.Constant.TheVariants as constant
 use Rattle.jc_types.specs.declared.constant.Op.{Op}
 use Rattle.jc_types.specs.declared.erased.Erased.{Erased}
 use Rattle.jc_types.specs.declared.table.Table.{Table}
+use Rattle.jc_types.specs.Arrays.{element}
 use Rattle.jc_types.specs.Erasing.{erasure}
 use Rattle.jc_running.specs.declared.value.Value.{Value}
 use Rattle.jc_running.specs.declared.value.Value.TheVariants.{Whole, Long, Address, Null as NullValue}
@@ -242,8 +243,12 @@ module _ (P : TypedProgram) (r : Inner) where
   fill a at zero m = give tt
   fill a at (suc n) m = behind (bind m (set_part a at)) (fill a (suc at) n m)
 
+  abbrev pub or_same : Ty → Option Ty → Ty
+  or_same t (Some u) = u
+  or_same t None = t
+
   abbrev pub element_type : Ty → Ty
-  element_type t = element_at (out-Ty t)
+  element_type t = or_same t (element t)
 
   abbrev pub arrays : Ty → List ℕ → TypedRun Value
   arrays t [] = give NullValue

@@ -13,6 +13,7 @@ use Rattle.jc_types.specs.declared.ids.CaptureId.{CaptureId}
 use Rattle.jc_types.specs.declared.environment.Bounds.{Bounds}
 use Rattle.jc_types.specs.declared.table.Table.{Table}
 use Rattle.jc_types.specs.Accessors.{vars_of, lower_bound_of}
+use Rattle.jc_types.specs.Arrays.{array_over}
 use Rattle.jc_types.specs.Erasing.{erasure}
 use Rattle.jc_judge.specs.Views.{view}
 use Rattle.jc_running.specs.declared.value.Value.{Value}
@@ -53,6 +54,7 @@ bound_to v (b ∷ bs) = if b.variable.0 == v.0 then b.stands_for else bound_to v
 abbrev pub close_step : List Binding → List Ty → Ty-F Arg Ty → Ty
 close_step vars captured (Ty-F.Variable v) = bound_to v vars
 close_step vars captured (Ty-F.Captured c) = get_or captured c.0 NullTy
+close_step vars captured (Ty-F.Array t n) = array_over n t
 close_step vars captured layer = roll-Ty layer
 
 -- a type with what its variables stand for in their places
@@ -109,7 +111,7 @@ abbrev pub typed_keeping : Table → Keeping Ty
 typed_keeping T = record {
   erased = erasure T [];
   of_class = λ k. Class k [];
-  of_chars = Array (Prim Char) }
+  of_chars = Array (Prim Char) 0 }
 
 -- a type with what the variables of the running method stand for
 abbrev pub closed_in : TypedState → Ty → Ty

@@ -7,3 +7,4 @@ pub mod Statements
 pub mod Classes
 pub mod Natives
 pub mod Meaning
+pub mod Levels

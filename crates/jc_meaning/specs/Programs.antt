@@ -2,14 +2,12 @@
 use Rattle.std.specs.Prelude.{ℕ, ◌==◌, Bool, true, false, not, ◌&&◌, List, [], ◌∷◌, ◌++◌, length, Option, Some, None, slice_get, if◌then◌else◌}
 use Rattle.jc_types.specs.declared.ids.ClassId.{ClassId}
 use Rattle.jc_types.specs.declared.ids.MethodId.{MethodId}
-use Rattle.jc_types.specs.declared.form.Ty.{Ty}
 use Rattle.jc_types.specs.declared.environment.Bounds.{Bounds}
-use Rattle.jc_types.specs.declared.declarations.MethodDecl.{MethodDecl}
-use Rattle.jc_types.specs.declared.declarations.Written.{Written}
 use Rattle.jc_types.specs.declared.declarations.MethodKind.{MethodKind}
 use Rattle.jc_types.specs.declared.declarations.MethodKind.TheVariants.{StaticInitialiser}
 use Rattle.jc_types.specs.declared.table.Table.{Table}
-use Rattle.jc_types.specs.Accessors.{methods_of}
+use Rattle.jc_types.specs.Accessors.{methods_of, method_owner_of, method_kind_of}
+use Rattle.jc_heaps.specs.Layout.{or_object}
 use Rattle.jc_typed.specs.declared.program.Body.{Body}
 use Rattle.jc_typed.specs.declared.program.Local.{Local as LocalVariable}
 use Rattle.jc_typed.specs.declared.program.TypedMethod.{TypedMethod}
@@ -60,36 +58,21 @@ locals_in None = 0
 abbrev pub locals_of : TypedProgram → MethodId → ℕ
 locals_of P m = locals_in (slice_get P.methods m.0)
 
-abbrev pub class_in_method : Option MethodDecl → ClassId
-class_in_method (Some m) = m.class
-class_in_method None = record { 0 = 0 }
-
 -- the class that declares a method
 abbrev pub method_class : Table → MethodId → ClassId
-method_class T m = class_in_method (slice_get T.methods m.0)
-
-abbrev pub written_in : Option Written → Option Ty
-written_in (Some w) = Some w.ty
-written_in None = None
-
-abbrev pub result_in : Option MethodDecl → Option Ty
-result_in (Some m) = written_in m.result
-result_in None = None
-
-abbrev pub result_type : Table → MethodId → Option Ty
-result_type T m = result_in (slice_get T.methods m.0)
+method_class T m = or_object (method_owner_of T m)
 
 abbrev pub is_static_initialiser : MethodKind → Bool
 is_static_initialiser StaticInitialiser = true
 is_static_initialiser _ = false
 
-abbrev pub initialises : Option MethodDecl → Bool
-initialises (Some m) = is_static_initialiser m.kind
+abbrev pub initialises : Option MethodKind → Bool
+initialises (Some kind) = is_static_initialiser kind
 initialises None = false
 
 abbrev pub first_initialiser : Table → List MethodId → Option MethodId
 first_initialiser T [] = None
-first_initialiser T (m ∷ ms) = if initialises (slice_get T.methods m.0) then Some m else first_initialiser T ms
+first_initialiser T (m ∷ ms) = if initialises (method_kind_of T m) then Some m else first_initialiser T ms
 
 -- the static initialiser of a class, if it has one (JLS 8.7)
 abbrev pub initialiser_of : Table → ClassId → Option MethodId

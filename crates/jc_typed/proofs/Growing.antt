@@ -1,5 +1,5 @@
 -- Laws of arenas that grow.
-use Rattle.std.proofs.Common.{◌≡◌, refl, ap, sym, ◌∙◌, ℕ, List, [], ◌∷◌, ◌++◌, ◌<◌, ◌≤◌, ◌+◌, length, arith, get_or}
+use Rattle.std.proofs.Common.{◌≡◌, refl, ◌∙◌, ℕ, List, ◌<◌, length, arith}
 use Rattle.jc_typed.specs.declared.nodes.Node.{Node}
 use Rattle.jc_typed.specs.Parts.{Grows, part_of}
 

@@ -1,15 +1,8 @@
 -- What stands at a place.
-use Rattle.std.proofs.Common.{◌≡◌, refl, ap, sym, ◌∙◌, ℕ, List, [], ◌∷◌, ◌++◌, ◌<◌, ◌≤◌, ◌+◌, length, arith, get_or, append_assoc, subst, zero, suc}
+use Rattle.std.proofs.Common.{◌≡◌, refl, ap, sym, ◌∙◌, ℕ, List, [], ◌∷◌, ◌++◌, ◌<◌, ◌≤◌, ◌+◌, length, arith, get_or, subst, zero, suc}
 use Rattle.std.proofs.lemmas.List.{get_or_append_left}
 use Rattle.std.proofs.Math.Seq.{get_or-append_seam}
 use Rattle.std.proofs.Math.ListN.{length-append}
-use Rattle.jc_rules.specs.declared.rule.Place.{Place}
-use Rattle.jc_types.specs.declared.form.Ty.{Ty}
-use Rattle.jc_types.specs.declared.form.Ty.TheVariants.{NullTy}
-use Rattle.jc_types.specs.declared.form.Primitive.TheVariants.{Int}
-use Rattle.jc_types.specs.declared.constant.Constant.{Constant}
-use Rattle.jc_types.specs.declared.constant.Constant.TheVariants as constant
-use Rattle.jc_types.specs.declared.constant.Op.{Op}
 use Rattle.jc_typed.specs.declared.nodes.Node.{Node}
 use Rattle.jc_typed.specs.declared.nodes.Node.TheVariants as n
 use Rattle.jc_typed.specs.declared.expressions.ExprNode.{ExprNode}
@@ -29,12 +22,10 @@ use Rattle.jc_typed.specs.declared.lists.StepNode.{StepNode}
 use Rattle.jc_typed.specs.declared.lists.StepNode.TheVariants as step
 use Rattle.jc_typed.specs.declared.lists.StepsNode.{StepsNode}
 use Rattle.jc_typed.specs.declared.lists.StepsNode.TheVariants as steps
-use Rattle.jc_typed.specs.declared.lists.Capture.{Capture}
 use Rattle.jc_typed.specs.declared.lists.CapturesNode.{CapturesNode}
 use Rattle.jc_typed.specs.declared.lists.CapturesNode.TheVariants as captures
 use Rattle.jc_typed.specs.declared.lists.OpsNode.{OpsNode}
 use Rattle.jc_typed.specs.declared.lists.OpsNode.TheVariants as ops
-use Rattle.jc_typed.specs.declared.lists.Case.{Case}
 use Rattle.jc_typed.specs.declared.lists.CasesNode.{CasesNode}
 use Rattle.jc_typed.specs.declared.lists.CasesNode.TheVariants as cases
 use Rattle.jc_typed.specs.declared.lists.LinksNode.{LinksNode}
@@ -46,7 +37,7 @@ use Rattle.jc_typed.specs.declared.lists.DeclaredNode.TheVariants as declared
 use Rattle.jc_typed.specs.declared.lists.CatchesNode.{CatchesNode}
 use Rattle.jc_typed.specs.declared.lists.CatchesNode.TheVariants as catches
 use Rattle.jc_typed.specs.Trees.{stmt, NoStmts}
-use Rattle.jc_typed.specs.Parts.{Part, Grows, part_of, part_at, Below, WellFormed, parts_on, parts, part_over, part_in, step_over, form_over, stmt_form_over, BelowStep, BelowForm, BelowStmtForm, BelowArms, BelowCaptures, BelowCases, BelowCatches, BelowDeclared, BelowExpr, BelowLinks, BelowList, BelowOperand, BelowOps, BelowSteps, BelowStmt, BelowVariable, OfType, type_in, OfTypes, types_in, types_over, OfConstant, constant_in, OfSteps, steps_in, steps_over, OfCaptures, captures_in, captures_over, OfOps, ops_in, ops_over, OfCases, cases_in, cases_over, OfExpr, expr_in, expr_over, OfOperand, operand_in, operand_over, OfOperands, operands_in, operands_over, OfLinks, links_in, links_over, OfVariable, variable_in, variable_over, OfDeclared, declared_in, declared_over, OfStmt, stmt_in, stmt_over, OfStmts, stmts_in, stmts_over, OfArms, arms_in, arms_over, OfCatches, catches_in, catches_over}
+use Rattle.jc_typed.specs.Parts.{Part, Grows, part_of, part_at, Below, WellFormed, parts_on, parts, part_over, part_in, step_over, form_over, stmt_form_over, BelowStep, BelowForm, BelowStmtForm, BelowArms, BelowCaptures, BelowCases, BelowCatches, BelowDeclared, BelowExpr, BelowLinks, BelowList, BelowOperand, BelowOps, BelowSteps, BelowStmt, BelowVariable, OfTypes, types_over, OfSteps, steps_over, OfCaptures, captures_over, OfOps, ops_over, OfCases, cases_over, OfExpr, expr_over, OfOperand, operand_over, OfOperands, operands_over, OfLinks, links_over, OfVariable, variable_over, OfDeclared, declared_over, OfStmt, stmt_over, OfStmts, stmts_over, OfArms, arms_over, OfCatches, catches_over}
 
 pub record GrowsIn (old new : List Part) : Type 0 where
   pub longer : length old ≤ length new

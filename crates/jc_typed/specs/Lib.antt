@@ -1,3 +1,3 @@
 pub mod Trees
 pub mod Parts
-pub mod Bodies
+pub mod Bulk

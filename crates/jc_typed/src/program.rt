@@ -1,4 +1,5 @@
-ghost use Rattle.jc_typed.specs.Bodies.{BodyIn};
+ghost use Rattle.std.specs.Prelude.{◌<◌, length, IfSome};
+ghost use Rattle.std.proofs.Props.{props};
 
 use crate::nodes::Nodes;
 use jc_rules::{Items, Place, Text};
@@ -105,7 +106,7 @@ pub struct TypedMethod {
     pub nodes: Nodes,
     pub body: Option<Body>,
     pub entry_checks: u32,
-    ghost in_arena: { BodyIn nodes body },
+    ghost in_arena: { IfSome body (λ b. (b.call < length nodes) × (b.initialisers < length nodes) × (b.rest < length nodes)) } by { Prim.hlevel props },
 }
 
 /// The body that a class has for a method that is called (JLS 8.4.8, 15.12.4.4).

@@ -1,5 +1,5 @@
-use Rattle.std.proofs.Common.{◌≡◌, ◌<◌, length, get_or, ap, sym, ◌∙◌, subst}
-use Rattle.jc_typed.specs.Parts.{Below, part_at, part_of}
+use Rattle.std.proofs.Common.{ap, sym, ◌∙◌, subst}
+use Rattle.jc_typed.specs.Parts.{Below, part_at}
 use Rattle.jc_typed.proofs.Reading.{stands}
 use Rattle.jc_typed.proofs.nodes.Nodes.get.Goals as goal
 
