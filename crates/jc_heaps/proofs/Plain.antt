@@ -1,9 +1,8 @@
 -- Smooth computations of one bound on units, put together.
-use Rattle.std.proofs.Common.{◌≡◌, ℕ, zero, suc, ◌+◌, ◌≤◌, refl, arith}
-use Rattle.std.specs.Prelude.{Bool, true, false, Option, Some, None}
+use Rattle.std.proofs.Common.{ℕ, arith}
 use Rattle.jc_running.specs.Shows.{Shown}
-use Rattle.jc_running.specs.Outcomes.{Run, Out, Val, Thrown, Exited, Going, Wrong, give, throw, wrong, bind, behind, both_ways, spend, Completion, next, instead}
-use Rattle.jc_running.proofs.Smooth.{Smooth, smooth_less, smooth_both, smooth_bind, smooth_give, smooth_throw, smooth_wrong}
+use Rattle.jc_running.specs.Outcomes.{Run, bind, both_ways}
+use Rattle.jc_running.proofs.Smooth.{Smooth, smooth_less, smooth_both, smooth_bind}
 
 -- a computation and the same one with more room
 abbrev pub Goes : {S A : Type 0} → (S → Shown) → ℕ → Run S A → Run S A → Type 0

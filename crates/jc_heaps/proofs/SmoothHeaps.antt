@@ -1,6 +1,6 @@
 -- What is done with heaps is smooth in its units.
-use Rattle.std.proofs.Common.{◌≡◌, ℕ, zero, suc, ◌+◌, ◌≤◌, List, [], ◌∷◌, refl, arith}
-use Rattle.std.specs.Prelude.{ℤ, pos, Bool, true, false, Option, Some, None, length, map, slice_get, if◌then◌else◌, int_lt, nat_lt, unsigned_abs}
+use Rattle.std.proofs.Common.{◌≡◌, ℕ, suc, List, [], ◌∷◌, refl, arith}
+use Rattle.std.specs.Prelude.{ℤ, pos, Bool, true, false, Option, Some, None, length, slice_get, if◌then◌else◌, int_lt, nat_lt, unsigned_abs}
 use Rattle.jc_types.specs.declared.ids.ClassId.{ClassId}
 use Rattle.jc_types.specs.declared.erased.Erased.{Erased}
 use Rattle.jc_types.specs.declared.table.Table.{Table}
@@ -8,14 +8,15 @@ use Rattle.jc_typed.specs.declared.program.Known.{Known}
 use Rattle.jc_running.specs.declared.value.Value.{Value}
 use Rattle.jc_running.specs.declared.value.Value.TheVariants.{Whole, Long, Address, Null}
 use Rattle.jc_running.specs.declared.seen.Check.{Check}
-use Rattle.jc_running.specs.Shows.{Shown, AtMostOneMore, a_byte_more, one_more_taken, a_failure_more, with_byte, with_taken, with_failure}
-use Rattle.jc_running.specs.Outcomes.{Out, Val, Thrown, Exited, Going, Wrong, Run, give, throw, exit, wrong, bind, behind, spend}
-use Rattle.jc_running.proofs.Smooth.{Smooth, Quiet, Grow, After, smooth_give, smooth_throw, smooth_wrong, smooth_change, smooth_show, smooth_exit, smooth_less}
-use Rattle.jc_heaps.specs.States.{Object, Interned, State, shown_of, some_or_wrong, look, change, local, set_local, object_at, set_part, back_in, in_frame}
+use Rattle.jc_running.specs.Shows.{Shown, a_byte_more, one_more_taken, a_failure_more}
+use Rattle.jc_running.specs.Outcomes.{Out, Val, Thrown, Exited, Going, Wrong, Run, give, throw, wrong}
+use Rattle.jc_running.proofs.Smooth.{Smooth, Quiet, Grow, smooth_give, smooth_throw, smooth_wrong, smooth_change, smooth_show, smooth_exit}
+use Rattle.jc_heaps.specs.States.{Object, State, shown_of, some_or_wrong, look, change, set_local, object_at, set_part, back_in, in_frame}
 use Rattle.jc_heaps.specs.Numbers.{Given, Gives, ByZero, Unfit}
-use Rattle.jc_heaps.specs.Layout.{slot_of}
-use Rattle.jc_heaps.specs.Making.{Keeping, make, make_plain, raise, set_chars, make_string, interned_in, keep_string, if_interned, constant_string, address_of, place_of, passes, fail, if_passes, checked, stored_if, storable, store, given, put_byte, taken_from, take_byte, exit_with}
-use Rattle.jc_heaps.proofs.Plain.{seq, both, soft}
+use Rattle.jc_heaps.specs.Classes.{element_of}
+use Rattle.jc_heaps.specs.Layout.{slot_of, new_fields}
+use Rattle.jc_heaps.specs.Making.{Keeping, make, raise, set_chars, make_string, interned_in, keep_string, if_interned, constant_string, address_of, place_of, passes, fail, if_passes, checked, stored_if, storable, store, given, put_byte, taken_from, take_byte, exit_with}
+use Rattle.jc_heaps.proofs.Plain.{seq, soft}
 
 module _ (K F R : Type 0) (D : ℕ) where
   abbrev pub S : Type 0
@@ -90,7 +91,8 @@ module _ (K F R : Type 0) (D : ℕ) where
   pub frames : {A : Type 0} (locals : List Value) (frame : F) (m m' : Run S A) → Steady m m' → Steady (in_frame locals frame m) (in_frame locals frame m')
   frames locals frame m m' sm = record {
     grow = λ u s hu. frame_grow u s.locals s.frame (m u (record s { locals = locals; frame = frame })) (m' (suc u) (record s { locals = locals; frame = frame })) (sm.grow u (record s { locals = locals; frame = frame }) hu);
-    quiet = λ s. frame_quiet s.locals s.frame (m' 0 (record s { locals = locals; frame = frame })) (shown_of s) (sm.quiet (record s { locals = locals; frame = frame })) }
+    quiet = λ s. frame_quiet s.locals s.frame (m' 0 (record s { locals = locals; frame = frame })) (shown_of s) (sm.quiet (record s { locals = locals; frame = frame }));
+  }
 
   module _ (keeping : Keeping K) (T : Table) (known : Known) where
     pub raises : {A : Type 0} (k : ClassId) → Steady {A = A} (raise keeping T k) (raise keeping T k)
@@ -101,7 +103,7 @@ module _ (K F R : Type 0) (D : ℕ) where
     sets_chars (Some slot) at chars = seq S shown_of D (sets_part at slot (Address chars)) (λ _. gives (Address at))
 
     pub makes_string : (units : List ℕ) → Steady (make_string keeping T known units) (make_string keeping T known units)
-    makes_string units = seq S shown_of D (makes _) (λ chars. seq S shown_of D (makes _) (λ at. sets_chars (slot_of T known.chars) at chars))
+    makes_string units = seq S shown_of D (makes _) (λ chars. seq S shown_of D (makes (record { kept = keeping.of_class known.string; parts = new_fields T known.string })) (λ at. sets_chars (slot_of T known.chars) at chars))
 
     keeps_string : (units : List ℕ) (v : Value) → Steady (keep_string units v) (keep_string units v)
     keeps_string units (Address a) = seq S shown_of D (changes _ (λ s. refl)) (λ _. gives (Address a))
@@ -153,7 +155,7 @@ module _ (K F R : Type 0) (D : ℕ) where
     if_stores at place v false = raises known.thrown.array_store
 
     storables : (o : Object K) (v : Value) → Steady (storable keeping T o v) (storable keeping T o v)
-    storables o (Address a) = tests _ (Address a)
+    storables o (Address a) = tests (element_of (keeping.erased o.kept)) (Address a)
     storables o (Whole n) = gives true
     storables o (Long n) = gives true
     storables o Null = gives true

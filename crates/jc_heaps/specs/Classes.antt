@@ -1,5 +1,5 @@
 -- Classes and erased types at run time.
-use Rattle.std.specs.Prelude.{ℕ, zero, suc, ◌+◌, ◌-◌, ◌==◌, nat_lt, Bool, true, false, ◌&&◌, ◌||◌, not, List, [], ◌∷◌, length, Option, Some, None, slice_get, if◌then◌else◌}
+use Rattle.std.specs.Prelude.{ℕ, zero, suc, ◌+◌, ◌-◌, ◌==◌, nat_lt, Bool, true, false, ◌&&◌, ◌||◌, not, List, [], ◌∷◌, Option, Some, None, if◌then◌else◌}
 use Rattle.jc_types.specs.declared.form.Ty.{Ty, Ty-F, out-Ty}
 use Rattle.jc_types.specs.declared.form.Arg.{Arg}
 use Rattle.jc_types.specs.declared.form.Primitive.{Primitive}

@@ -1,19 +1,18 @@
 -- Objects, arrays, strings and exceptions as they are made, and the tests of references.
-use Rattle.std.specs.Prelude.{ℕ, zero, suc, ◌+◌, ◌%◌, ◌^◌, ◌==◌, nat_eq, nat_lt, ℤ, pos, negsuc, Bool, true, false, List, [], ◌∷◌, ◌++◌, map, length, replicate, Option, Some, None, slice_get, if◌then◌else◌, int_lt, unsigned_abs}
+use Rattle.std.specs.Prelude.{ℕ, ◌%◌, ◌^◌, nat_lt, ℤ, pos, negsuc, Bool, true, false, List, [], ◌∷◌, ◌++◌, map, length, Option, Some, None, if◌then◌else◌, int_lt, unsigned_abs}
 use Rattle.std.specs.Str.{bytes_eq}
 use Rattle.jc_types.specs.declared.ids.ClassId.{ClassId}
-use Rattle.jc_types.specs.declared.ids.FieldId.{FieldId}
 use Rattle.jc_types.specs.declared.erased.Erased.{Erased}
 use Rattle.jc_types.specs.declared.table.Table.{Table}
 use Rattle.jc_typed.specs.declared.program.Known.{Known}
 use Rattle.jc_running.specs.declared.value.Value.{Value}
-use Rattle.jc_running.specs.declared.value.Value.TheVariants.{Whole, Long, Address, Null}
+use Rattle.jc_running.specs.declared.value.Value.TheVariants.{Whole, Address, Null}
 use Rattle.jc_running.specs.declared.seen.Check.{Check}
-use Rattle.jc_running.specs.Shows.{Shown, with_byte, with_taken, with_failure}
-use Rattle.jc_running.specs.Outcomes.{Out, Val, Run, give, throw, exit, wrong, bind, behind, spend}
-use Rattle.jc_heaps.specs.States.{Object, Interned, State, look, change, object_at, some_or_wrong, set_part}
-use Rattle.jc_heaps.specs.Classes.{is_of, element_of, is_array}
-use Rattle.jc_heaps.specs.Layout.{new_fields, slot_of, default_erased}
+use Rattle.jc_running.specs.Shows.{with_byte, with_taken, with_failure}
+use Rattle.jc_running.specs.Outcomes.{Val, Run, give, throw, exit, wrong, bind, behind, spend}
+use Rattle.jc_heaps.specs.States.{Object, Interned, State, change, object_at, set_part}
+use Rattle.jc_heaps.specs.Classes.{is_of, element_of}
+use Rattle.jc_heaps.specs.Layout.{new_fields, slot_of}
 use Rattle.jc_heaps.specs.Numbers.{Given, Gives, ByZero, Unfit}
 
 -- what a kept type erases to, and what objects of a class without parameters, arrays of `char` and arrays keep

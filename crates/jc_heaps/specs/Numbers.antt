@@ -1,6 +1,6 @@
 -- Operators and conversions on values (JLS 5.1, 15.15 to 15.22). A boolean is 0 or 1.
-use Rattle.std.specs.Prelude.{ℕ, ◌%◌, ◌/◌, ◌^◌, ◌==◌, nat_eq, ℤ, pos, negsuc, Bool, true, false, not, ◌&&◌, Option, Some, None, if◌then◌else◌, int_lt, int_le, int_rem}
-use Rattle.std.specs.Int.{Width, w8, w16, w32, w64, bits, cast_unsigned, cast_signed, int_wrap, int_wrapping_add, int_wrapping_sub, int_wrapping_mul, int_wrapping_div, int_wrapping_neg, int_bit_and, int_bit_or, int_bit_xor, int_bit_not, int_shl, int_shr}
+use Rattle.std.specs.Prelude.{ℕ, ◌%◌, ◌/◌, ◌^◌, ◌==◌, ℤ, pos, negsuc, Bool, true, false, not, Option, Some, None, if◌then◌else◌, int_lt, int_le, int_rem}
+use Rattle.std.specs.Int.{Width, w8, w16, w32, w64, cast_unsigned, cast_signed, int_wrap, int_wrapping_add, int_wrapping_sub, int_wrapping_mul, int_wrapping_div, int_wrapping_neg, int_bit_and, int_bit_or, int_bit_xor, int_bit_not, int_shl, int_shr}
 use Rattle.jc_types.specs.declared.constant.Op.{Op}
 use Rattle.jc_types.specs.declared.constant.Op.TheVariants.{Times, Divide, Remainder, Plus, Minus, ShiftLeft, ShiftRight, ShiftRightUnsigned, Less, Greater, AtMost, AtLeast, Equal, NotEqual, And, Or, Xor, Not, Positive, Negative, Complement, Increment, Decrement}
 use Rattle.jc_types.specs.declared.form.Primitive.{Primitive}
@@ -46,9 +46,9 @@ of_numbers _ w back a b = Unfit
 
 -- a shift by the low five or six bits of a distance (JLS 15.19)
 abbrev pub shifted : Op → Width → (ℤ → Value) → ℤ → ℕ → Given
-shifted ShiftLeft w back a n = Gives (back (int_shl w a (n % bits w)))
-shifted ShiftRight w back a n = Gives (back (int_shr a (n % bits w)))
-shifted ShiftRightUnsigned w back a n = Gives (back (cast_signed w (cast_unsigned w a / 2 ^ (n % bits w))))
+shifted ShiftLeft w back a n = Gives (back (int_shl w a n))
+shifted ShiftRight w back a n = Gives (back (int_shr a n))
+shifted ShiftRightUnsigned w back a n = Gives (back (cast_signed w (cast_unsigned w a / 2 ^ n)))
 shifted _ w back a n = Unfit
 
 abbrev pub is_shift : Op → Bool
@@ -63,8 +63,8 @@ distance (Long n) = Some (cast_unsigned w64 n)
 distance _ = None
 
 abbrev pub shifted_by : Op → Value → Option ℕ → Given
-shifted_by op (Whole a) (Some n) = shifted op w32 Whole a n
-shifted_by op (Long a) (Some n) = shifted op w64 Long a n
+shifted_by op (Whole a) (Some n) = shifted op w32 Whole a (n % 32)
+shifted_by op (Long a) (Some n) = shifted op w64 Long a (n % 64)
 shifted_by op _ _ = Unfit
 
 -- whether two references are the same (JLS 15.21.3)

@@ -2,7 +2,6 @@
 -- and `R` what is recorded on the way.
 use Rattle.std.specs.Prelude.{ℕ, List, Option, Some, None, slice_get, slice_set}
 use Rattle.jc_running.specs.declared.value.Value.{Value}
-use Rattle.jc_running.specs.declared.value.Value.TheVariants as value
 use Rattle.jc_running.specs.declared.value.Readiness.{Readiness}
 use Rattle.jc_running.specs.Shows.{Shown}
 use Rattle.jc_running.specs.Outcomes.{Out, Val, Thrown, Exited, Going, Wrong, Run, give, wrong}

@@ -31,8 +31,8 @@ module _ (D : ℕ) where
   abbrev pub Steady : {A : Type 0} → TypedRun A → TypedRun A → Type 0
   Steady m m' = Smooth TypedState shown_of D 0 m m'
 
-  pub then : {A B : Type 0} {m m' : TypedRun A} {f f' : A → TypedRun B} → Steady m m' → ((a : A) → Steady (f a) (f' a)) → Steady (bind m f) (bind m' f')
-  then sm sf = seq TypedState shown_of D sm sf
+  pub andso : {A B : Type 0} {m m' : TypedRun A} {f f' : A → TypedRun B} → Steady m m' → ((a : A) → Steady (f a) (f' a)) → Steady (bind m f) (bind m' f')
+  andso sm sf = seq TypedState shown_of D sm sf
 
   pub gives : {A : Type 0} (a : A) → Steady (give a) (give a)
   gives a = h.gives Ty Frame (List Read) D a
@@ -55,7 +55,7 @@ module _ (D : ℕ) where
     enters_all [] (o ∷ os) vs = gives vs
     enters_all (c ∷ cs) [] vs = gives vs
     enters_all (c ∷ cs) (o ∷ os) [] = gives []
-    enters_all (c ∷ cs) (o ∷ os) (v ∷ vs) = then (enters (erasure P.table [] c) (erasure P.table [] o) v) (λ w. then (enters_all cs os vs) (λ ws. gives (w ∷ ws)))
+    enters_all (c ∷ cs) (o ∷ os) (v ∷ vs) = andso (enters (erasure P.table [] c) (erasure P.table [] o) v) (λ w. andso (enters_all cs os vs) (λ ws. gives (w ∷ ws)))
 
     pub answers_as : (c o : Option Ty) (v : Value) → Steady (answered P c o v) (answered P c o v)
     answers_as None None v = gives v
@@ -65,24 +65,24 @@ module _ (D : ℕ) where
 
     module _ (body body' : Bodies) (SB : (m : MethodId) → Smooth TypedState shown_of D 1 (body m) (body' m)) where
       pub runs : (m : MethodId) (o : Option (Object Ty)) (vs : List Value) (ts : List Ty) → Steady (run_method P body m o vs ts) (run_method P body' m o vs ts)
-      runs m o vs ts = h.frames Ty Frame (List Read) D _ _ _ _ (then (soft TypedState shown_of D (SB m)) answers)
+      runs m o vs ts = h.frames Ty Frame (List Read) D _ _ _ _ (andso (soft TypedState shown_of D (SB m)) answers)
 
       pub calls_static : (m : MethodId) (vs : List Value) (ts : List Ty) → Steady (call_static P body m vs ts) (call_static P body' m vs ts)
       calls_static m vs ts = runs m None vs ts
 
       pub calls_direct : (m : MethodId) (v : Value) (vs : List Value) (ts : List Ty) → Steady (call_direct P body m v vs ts) (call_direct P body' m v vs ts)
-      calls_direct m v vs ts = then (h.addresses Ty Frame (List Read) D (typed_keeping P.table) P.table P.known v) (λ a. then (h.objects Ty Frame (List Read) D a) (λ o. runs m (Some o) (Address a ∷ vs) ts))
+      calls_direct m v vs ts = andso (h.addresses Ty Frame (List Read) D (typed_keeping P.table) P.table P.known v) (λ a. andso (h.objects Ty Frame (List Read) D a) (λ o. runs m (Some o) (Address a ∷ vs) ts))
 
       calls_selected : (m : MethodId) (own : Option MethodId) (a : ℕ) (o : Object Ty) (vs : List Value) (ts : List Ty) → Steady (call_selected P body m own a o vs ts) (call_selected P body' m own a o vs ts)
       calls_selected m None a o vs ts = wrongs
-      calls_selected m (Some own) a o vs ts = then (enters_all (params_of P.table m) (params_of P.table own) vs) (λ ws. then (runs own (Some o) (Address a ∷ ws) ts) (answers_as (result_of P.table m) (result_of P.table own)))
+      calls_selected m (Some own) a o vs ts = andso (enters_all (params_of P.table m) (params_of P.table own) vs) (λ ws. andso (runs own (Some o) (Address a ∷ ws) ts) (answers_as (result_of P.table m) (result_of P.table own)))
 
       pub calls_virtual : (m : MethodId) (v : Value) (vs : List Value) (ts : List Ty) → Steady (call_virtual P body m v vs ts) (call_virtual P body' m v vs ts)
-      calls_virtual m v vs ts = then (h.addresses Ty Frame (List Read) D (typed_keeping P.table) P.table P.known v) (λ a. then (h.objects Ty Frame (List Read) D a) (λ o. calls_selected m (selected P (methods_class (erasure P.table [] o.kept)) m) a o vs ts))
+      calls_virtual m v vs ts = andso (h.addresses Ty Frame (List Read) D (typed_keeping P.table) P.table P.known v) (λ a. andso (h.objects Ty Frame (List Read) D a) (λ o. calls_selected m (selected P (methods_class (erasure P.table [] o.kept)) m) a o vs ts))
 
       module _ (ready ready' : Ready) (SR : (k : ClassId) → Steady (ready k) (ready' k)) where
         boxes : (box : BoxedIn) (v : Value) → Steady (boxed P body ready box v) (boxed P body' ready' box v)
-        boxes box v = then (SR box.class) (λ _. calls_static box.make (v ∷ []) [])
+        boxes box v = andso (SR box.class) (λ _. calls_static box.make (v ∷ []) [])
 
         pub one_step : (s : Step) (v : Value) → Steady (step P body ready s v) (step P body' ready' s v)
         one_step (Widen to) v = h.somes Ty Frame (List Read) D (converted to v)
@@ -94,4 +94,4 @@ module _ (D : ℕ) where
 
         pub all_steps : (ss : List Step) (v : Value) → Steady (steps P body ready ss v) (steps P body' ready' ss v)
         all_steps [] v = gives v
-        all_steps (s ∷ ss) v = then (one_step s v) (all_steps ss)
+        all_steps (s ∷ ss) v = andso (one_step s v) (all_steps ss)

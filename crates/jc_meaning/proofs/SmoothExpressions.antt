@@ -16,7 +16,7 @@ use Rattle.jc_running.specs.Outcomes.{Run, give, wrong, bind, behind}
 use Rattle.jc_running.proofs.Smooth.{Smooth, smooth_change}
 use Rattle.jc_heaps.specs.States.{Object, State, shown_of, object_at}
 use Rattle.jc_heaps.specs.Numbers.{Given, truth, operated, prefixed, stepped, boolean_of, whole_of}
-use Rattle.jc_heaps.specs.Layout.{slot_of, field_class}
+use Rattle.jc_heaps.specs.Layout.{slot_of, field_class, new_fields}
 use Rattle.jc_heaps.specs.Making.{Keeping, raise, address_of, place_of, passes, given}
 use Rattle.jc_heaps.proofs.Plain.{seq, both, soft}
 use Rattle.jc_heaps.proofs.SmoothHeaps as h
@@ -28,7 +28,7 @@ use Rattle.jc_typed.specs.declared.expressions.Printed.{Printed}
 use Rattle.jc_typed.specs.declared.lists.Capture.{Capture}
 use Rattle.jc_typed.specs.declared.program.TypedProgram.{TypedProgram}
 use Rattle.jc_typed.specs.Trees.{Step, Expr, NoExpr, expr, Operand, NoOperand, operand, Form, Fixed, Null, Local, This, StaticField, Field, Element, Length, Prefix, Chain, AllOf, AnyOf, InstanceOf, Conditional, Assign, Compound, Change, Call, New, NewArray, ArrayOf, Cast, Variable, LocalVariable, StaticVariable, FieldVariable, ElementVariable, Operands, Links, NoLinks, MoreLinks}
-use Rattle.jc_meaning.specs.Kept.{Frame, Read, TypedState, TypedRun, typed_keeping, closed, closed_all, set_captured}
+use Rattle.jc_meaning.specs.Kept.{Frame, Read, TypedState, TypedRun, typed_keeping, closed, closed_in, closed_all, set_captured, kept_by}
 use Rattle.jc_meaning.specs.Programs.{operand_list, method_class}
 use Rattle.jc_meaning.specs.Calls.{call_static, call_direct, call_virtual}
 use Rattle.jc_meaning.specs.Steps.{steps}
@@ -45,8 +45,8 @@ module _ (D : ℕ) where
   abbrev Steady : {A : Type 0} → TypedRun A → TypedRun A → Type 0
   Steady m m' = Smooth TypedState shown_of D 0 m m'
 
-  then : {A B : Type 0} {m m' : TypedRun A} {f f' : A → TypedRun B} → Steady m m' → ((a : A) → Steady (f a) (f' a)) → Steady (bind m f) (bind m' f')
-  then sm sf = seq TypedState shown_of D sm sf
+  andso : {A B : Type 0} {m m' : TypedRun A} {f f' : A → TypedRun B} → Steady m m' → ((a : A) → Steady (f a) (f' a)) → Steady (bind m f) (bind m' f')
+  andso sm sf = seq TypedState shown_of D sm sf
 
   gives : {A : Type 0} (a : A) → Steady (give a) (give a)
   gives a = h.gives Ty Frame (List Read) D a
@@ -69,11 +69,11 @@ module _ (D : ℕ) where
 
     pub value_s : (o : Operand) → Steady (value_of P r o) (value_of P r' o)
     value_s NoOperand = wrongs
-    value_s (operand e ss) = then (soft TypedState shown_of D (L.exprs e)) (stepping ss)
+    value_s (operand e ss) = andso (soft TypedState shown_of D (L.exprs e)) (stepping ss)
 
     list_s : (os : List Operand) → Steady (values_of P r os) (values_of P r' os)
     list_s [] = gives []
-    list_s (o ∷ os) = then (value_s o) (λ v. then (list_s os) (λ vs. gives (v ∷ vs)))
+    list_s (o ∷ os) = andso (value_s o) (λ v. andso (list_s os) (λ vs. gives (v ∷ vs)))
 
     pub values_s : (os : Operands) → Steady (values P r os) (values P r' os)
     values_s os = list_s (operand_list os)
@@ -83,17 +83,17 @@ module _ (D : ℕ) where
     choose_s false sm sn = sn
 
     pub if_s : {A : Type 0} (v : Value) {m m' n n' : TypedRun A} → Steady m m' → Steady n n' → Steady (if_true P r v m n) (if_true P r' v m' n')
-    if_s v sm sn = then (h.somes Ty Frame (List Read) D (boolean_of v)) (λ b. choose_s b sm sn)
+    if_s v sm sn = andso (h.somes Ty Frame (List Read) D (boolean_of v)) (λ b. choose_s b sm sn)
 
     constant_s : (x : Constant) → Steady (constant_value P r x) (constant_value P r' x)
     constant_s (constant.Whole n p) = gives _
     constant_s (constant.Text units) = h.constants Ty Frame (List Read) D (typed_keeping P.table) P.table P.known units
 
     get_static_s : (f : FieldId) → Steady (get_static P r f) (get_static P r' f)
-    get_static_s f = then (L.readies (field_class P.table f)) (λ _. h.looks Ty Frame (List Read) D _)
+    get_static_s f = andso (L.readies (field_class P.table f)) (λ _. h.looks Ty Frame (List Read) D _)
 
     pub set_static_s : (f : FieldId) (v : Value) → Steady (set_static P r f v) (set_static P r' f v)
-    set_static_s f v = then (L.readies (field_class P.table f)) (λ _. h.changes Ty Frame (List Read) D _ (λ s. refl))
+    set_static_s f v = andso (L.readies (field_class P.table f)) (λ _. h.changes Ty Frame (List Read) D _ (λ s. refl))
 
     pub address_s : (v : Value) → Steady (address_of (typed_keeping P.table) P.table P.known v) (address_of (typed_keeping P.table) P.table P.known v)
     address_s v = h.addresses Ty Frame (List Read) D (typed_keeping P.table) P.table P.known v
@@ -102,67 +102,67 @@ module _ (D : ℕ) where
     object_s a = h.objects Ty Frame (List Read) D a
 
     get_field_s : (f : FieldId) (v : Value) → Steady (get_field P r f v) (get_field P r' f v)
-    get_field_s f v = then (address_s v) (λ a. then (object_s a) (λ o. then (h.somes Ty Frame (List Read) D (slot_of P.table f)) (λ slot. h.somes Ty Frame (List Read) D (slice_get o.parts slot))))
+    get_field_s f v = andso (address_s v) (λ a. andso (object_s a) (λ o. andso (h.somes Ty Frame (List Read) D (slot_of P.table f)) (λ slot. h.somes Ty Frame (List Read) D (slice_get o.parts slot))))
 
     pub set_field_s : (f : FieldId) (o v : Value) → Steady (set_field P r f o v) (set_field P r' f o v)
-    set_field_s f o v = then (address_s o) (λ a. then (h.somes Ty Frame (List Read) D (slot_of P.table f)) (λ slot. h.sets_part Ty Frame (List Read) D a slot v))
+    set_field_s f o v = andso (address_s o) (λ a. andso (h.somes Ty Frame (List Read) D (slot_of P.table f)) (λ slot. h.sets_part Ty Frame (List Read) D a slot v))
 
     place_s : (o : Object Ty) (i : Value) → Steady (place_of (typed_keeping P.table) P.table P.known o i) (place_of (typed_keeping P.table) P.table P.known o i)
     place_s o i = h.places Ty Frame (List Read) D (typed_keeping P.table) P.table P.known o i
 
     pub get_element_s : (v i : Value) → Steady (get_element P r v i) (get_element P r' v i)
-    get_element_s v i = then (address_s v) (λ a. then (object_s a) (λ o. then (place_s o i) (λ n. h.somes Ty Frame (List Read) D (slice_get o.parts n))))
+    get_element_s v i = andso (address_s v) (λ a. andso (object_s a) (λ o. andso (place_s o i) (λ n. h.somes Ty Frame (List Read) D (slice_get o.parts n))))
 
     set_element_s : (v i w : Value) → Steady (set_element P r v i w) (set_element P r' v i w)
-    set_element_s v i w = then (address_s v) (λ a. then (object_s a) (λ o. then (place_s o i) (λ n. h.stores Ty Frame (List Read) D (typed_keeping P.table) P.table P.known a o n w)))
+    set_element_s v i w = andso (address_s v) (λ a. andso (object_s a) (λ o. andso (place_s o i) (λ n. h.stores Ty Frame (List Read) D (typed_keeping P.table) P.table P.known a o n w)))
 
     pub length_s : (v : Value) → Steady (length_of P r v) (length_of P r' v)
-    length_s v = then (address_s v) (λ a. then (object_s a) (λ o. gives _))
+    length_s v = andso (address_s v) (λ a. andso (object_s a) (λ o. gives _))
 
     given_s : (g : Given) → Steady (given (typed_keeping P.table) P.table P.known g) (given (typed_keeping P.table) P.table P.known g)
     given_s g = h.givens Ty Frame (List Read) D (typed_keeping P.table) P.table P.known g
 
     prefix_s : (ops : List Op) (v : Value) → Steady (prefixes P r ops v) (prefixes P r' ops v)
     prefix_s [] v = gives v
-    prefix_s (op ∷ ops) v = then (prefix_s ops v) (λ w. given_s (prefixed op w))
+    prefix_s (op ∷ ops) v = andso (prefix_s ops v) (λ w. given_s (prefixed op w))
 
     text_s : (p : Printed) (v : Value) → Steady (text_of P r p v) (text_of P r' p v)
-    text_s p v = then (L.readies P.known.string) (λ _. then (statics (printer_of P r P.known.printing p) (v ∷ []) []) (λ t. statics P.known.printing.of_object (t ∷ []) []))
+    text_s p v = andso (L.readies P.known.string) (λ _. andso (statics (printer_of P r P.known.printing p) (v ∷ []) []) (λ t. statics P.known.printing.of_object (t ∷ []) []))
 
     joined_s : (j : Joint) (v : Value) {m m' : TypedRun Value} → Steady m m' → Steady (joined P r j v m) (joined P r' j v m')
-    joined_s (Operator op) v sm = then sm (λ w. given_s (operated op v w))
-    joined_s (Concat left right) v sm = then (text_s left v) (λ s. then sm (λ w. then (text_s right w) (λ t. directs P.known.printing.concat s (t ∷ []) [])))
+    joined_s (Operator op) v sm = andso sm (λ w. given_s (operated op v w))
+    joined_s (Concat left right) v sm = andso (text_s left v) (λ s. andso sm (λ w. andso (text_s right w) (λ t. directs P.known.printing.concat s (t ∷ []) [])))
 
     chain_s : {m m' : TypedRun Value} → Steady m m' → (links : Links) → Steady (chain P r m links) (chain P r' m' links)
     chain_s sm NoLinks = sm
-    chain_s sm (MoreLinks before joint left right) = then (chain_s sm before) (λ v. then (stepping left v) (λ w. joined_s joint w (value_s right)))
+    chain_s sm (MoreLinks before joint left right) = andso (chain_s sm before) (λ v. andso (stepping left v) (λ w. joined_s joint w (value_s right)))
 
     all_s : (os : List Operand) → Steady (all_true P r os) (all_true P r' os)
     all_s [] = gives _
-    all_s (o ∷ os) = then (value_s o) (λ v. if_s v (all_s os) (gives _))
+    all_s (o ∷ os) = andso (value_s o) (λ v. if_s v (all_s os) (gives _))
 
     any_s : (os : List Operand) → Steady (any_true P r os) (any_true P r' os)
     any_s [] = gives _
-    any_s (o ∷ os) = then (value_s o) (λ v. if_s v (gives _) (any_s os))
+    any_s (o ∷ os) = andso (value_s o) (λ v. if_s v (gives _) (any_s os))
 
     test_s : (to : Erased) (v : Value) → Steady (passes (typed_keeping P.table) P.table to v) (passes (typed_keeping P.table) P.table to v)
     test_s to v = h.tests Ty Frame (List Read) D (typed_keeping P.table) P.table P.known to v
 
     instance_s : (to : Erased) (v : Value) → Steady (instance_of P r to v) (instance_of P r' to v)
     instance_s to NullValue = gives _
-    instance_s to (Whole n) = then (test_s to (Whole n)) (λ b. gives _)
-    instance_s to (Long n) = then (test_s to (Long n)) (λ b. gives _)
-    instance_s to (Address a) = then (test_s to (Address a)) (λ b. gives _)
+    instance_s to (Whole n) = andso (test_s to (Whole n)) (λ b. gives (truth b))
+    instance_s to (Long n) = andso (test_s to (Long n)) (λ b. gives (truth b))
+    instance_s to (Address a) = andso (test_s to (Address a)) (λ b. gives (truth b))
 
     forget_s : (from n : ℕ) → Steady (forget P r from n) (forget P r' from n)
     forget_s from zero = gives tt
-    forget_s from (suc n) = then (h.changes Ty Frame (List Read) D _ (λ s. refl)) (λ _. forget_s (suc from) n)
+    forget_s from (suc n) = andso (h.changes Ty Frame (List Read) D _ (λ s. refl)) (λ _. forget_s (suc from) n)
 
     target_s : (v : Variable) → Steady (target_of P r v) (target_of P r' v)
     target_s (LocalVariable n) = gives _
-    target_s (StaticVariable before f) = then (values_s before) (λ _. gives _)
-    target_s (FieldVariable o f) = then (value_s o) (λ v. gives _)
-    target_s (ElementVariable array index) = then (value_s array) (λ a. then (value_s index) (λ i. gives _))
+    target_s (StaticVariable before f) = andso (values_s before) (λ _. gives _)
+    target_s (FieldVariable o f) = andso (value_s o) (λ v. gives _)
+    target_s (ElementVariable array index) = andso (value_s array) (λ a. andso (value_s index) (λ i. gives _))
 
     read_s : (t : Target) → Steady (read_target P r t) (read_target P r' t)
     read_s (ToLocal n) = h.looks Ty Frame (List Read) D _
@@ -180,83 +180,83 @@ module _ (D : ℕ) where
     note_s place ty v = smooth_change TypedState shown_of D _ (λ s. v) (λ s. refl)
 
     assigned_s : (t : Target) (v : Value) → Steady (assigned P r t v) (assigned P r' t v)
-    assigned_s t v = then (write_s t v) (λ _. gives v)
+    assigned_s t v = andso (write_s t v) (λ _. gives v)
 
     changed_s : (t : Target) (into : List Step) (b : Bool) (before w : Value) → Steady (changed P r t into b before w) (changed P r' t into b before w)
-    changed_s t into b before w = then (stepping into w) (λ v. then (write_s t v) (λ _. gives _))
+    changed_s t into b before w = andso (stepping into w) (λ v. andso (write_s t v) (λ _. gives _))
 
     first_s : (vs : List Value) → Steady (first_value P r vs) (first_value P r' vs)
     first_s [] = wrongs
     first_s (v ∷ vs) = gives v
 
     call_s : (kind : CallKind) (m : MethodId) (to vs : List Value) (ts : List Ty) → Steady (call_with P r kind m to vs ts) (call_with P r' kind m to vs ts)
-    call_s Static m to vs ts = then (L.readies (method_class P.table m)) (λ _. statics m vs ts)
-    call_s Virtual m to vs ts = then (first_s to) (λ v. virtuals m v vs ts)
-    call_s Direct m to vs ts = then (first_s to) (λ v. directs m v vs ts)
+    call_s Static m to vs ts = andso (L.readies (method_class P.table m)) (λ _. statics m vs ts)
+    call_s Virtual m to vs ts = andso (first_s to) (λ v. virtuals m v vs ts)
+    call_s Direct m to vs ts = andso (first_s to) (λ v. directs m v vs ts)
 
     closed_s : (t : Ty) → Steady (closed t) (closed t)
     closed_s t = h.by_state Ty Frame (List Read) D _ _ (λ s. gives _)
 
     create_s : (ty : Ty) (m : MethodId) (args : Operands) → Steady (create P r ty m args) (create P r' ty m args)
     create_s ty m args =
-      then (L.readies (method_class P.table m)) (λ _.
-      then (then (closed_s ty) (λ t. h.makes Ty Frame (List Read) D _)) (λ a.
-      then (values_s args) (λ vs. then (directs m (Address a) vs []) (λ _. gives _))))
+        andso (L.readies (method_class P.table m)) (λ _.
+        andso (andso (closed_s ty) (λ t. h.makes Ty Frame (List Read) D (record { kept = kept_by P.table t; parts = new_fields P.table (method_class P.table m) }))) (λ a.
+        andso (values_s args) (λ vs. andso (directs m (Address a) vs []) (λ _. gives (Address a)))))
 
     new_array_s : (t : Ty) (n : ℕ) → Steady (new_array P r t n) (new_array P r' t n)
     new_array_s t n = h.makes Ty Frame (List Read) D _
 
     fill_s : (a at n : ℕ) {m m' : TypedRun Value} → Steady m m' → Steady (fill P r a at n m) (fill P r' a at n m')
     fill_s a at zero sm = gives tt
-    fill_s a at (suc n) sm = then (then sm (λ v. h.sets_part Ty Frame (List Read) D a at v)) (λ _. fill_s a (suc at) n sm)
+    fill_s a at (suc n) sm = andso (andso sm (λ v. h.sets_part Ty Frame (List Read) D a at v)) (λ _. fill_s a (suc at) n sm)
 
     arrays_s : (t : Ty) (ns : List ℕ) → Steady (arrays P r t ns) (arrays P r' t ns)
     arrays_s t [] = gives _
-    arrays_s t (n ∷ []) = then (new_array_s t n) (λ a. gives _)
-    arrays_s t (n ∷ m ∷ ns) = then (new_array_s t n) (λ a. then (fill_s a 0 n (arrays_s (element_type P r t) (m ∷ ns))) (λ _. gives _))
+    arrays_s t (n ∷ []) = andso (new_array_s t n) (λ a. gives (Address a))
+    arrays_s t (n ∷ m ∷ ns) = andso (new_array_s t n) (λ a. andso (fill_s a 0 n (arrays_s (element_type P r t) (m ∷ ns))) (λ _. gives (Address a)))
 
     raise_s : {A : Type 0} (k : ClassId) → Steady {A = A} (raise (typed_keeping P.table) P.table k) (raise (typed_keeping P.table) P.table k)
     raise_s k = h.raises Ty Frame (List Read) D (typed_keeping P.table) P.table P.known k
 
     lengths_s : (vs : List Value) → Steady (lengths_of P r vs) (lengths_of P r' vs)
     lengths_s [] = gives []
-    lengths_s (v ∷ vs) = then (h.somes Ty Frame (List Read) D (whole_of v)) (λ n. choose_s (int_lt n (pos 0)) (raise_s P.known.thrown.negative_size) (then (lengths_s vs) (λ ns. gives _)))
+    lengths_s (v ∷ vs) = andso (h.somes Ty Frame (List Read) D (whole_of v)) (λ n. choose_s (int_lt n (pos 0)) (raise_s P.known.thrown.negative_size) (andso (lengths_s vs) (λ ns. gives _)))
 
     fill_with_s : (a at : ℕ) (os : List Operand) → Steady (fill_with P r a at os) (fill_with P r' a at os)
     fill_with_s a at [] = gives _
-    fill_with_s a at (o ∷ os) = then (value_s o) (λ v. then (set_element_s (Address a) (Whole (pos at)) v) (λ _. fill_with_s a (suc at) os))
+    fill_with_s a at (o ∷ os) = andso (value_s o) (λ v. andso (set_element_s (Address a) (Whole (pos at)) v) (λ _. fill_with_s a (suc at) os))
 
     form_s : (place : Place) (ty : Ty) (f : Form) → Steady (form_of P r place ty f) (form_of P r' place ty f)
-    form_s place ty (Fixed before value) = then (values_s before) (λ _. constant_s value)
+    form_s place ty (Fixed before value) = andso (values_s before) (λ _. constant_s value)
     form_s place ty Null = gives _
     form_s place ty (Local n) = h.looks Ty Frame (List Read) D _
     form_s place ty This = h.looks Ty Frame (List Read) D _
-    form_s place ty (StaticField before f) = then (values_s before) (λ _. get_static_s f)
-    form_s place ty (Field o f) = then (value_s o) (get_field_s f)
-    form_s place ty (Element array index) = then (value_s array) (λ a. then (value_s index) (get_element_s a))
-    form_s place ty (Length array) = then (value_s array) length_s
-    form_s place ty (Prefix ops o) = then (value_s o) (prefix_s ops)
+    form_s place ty (StaticField before f) = andso (values_s before) (λ _. get_static_s f)
+    form_s place ty (Field o f) = andso (value_s o) (get_field_s f)
+    form_s place ty (Element array index) = andso (value_s array) (λ a. andso (value_s index) (get_element_s a))
+    form_s place ty (Length array) = andso (value_s array) length_s
+    form_s place ty (Prefix ops o) = andso (value_s o) (prefix_s ops)
     form_s place ty (Chain first links) = chain_s (value_s first) links
     form_s place ty (AllOf os) = all_s (operand_list os)
     form_s place ty (AnyOf os) = any_s (operand_list os)
-    form_s place ty (InstanceOf o to) = then (value_s o) (instance_s to)
-    form_s place ty (Conditional test x other from up_to) = then (value_s test) (λ v. then (forget_s from (up_to - from)) (λ _. if_s v (value_s x) (value_s other)))
-    form_s place ty (Assign variable value) = then (target_s variable) (λ t. then (value_s value) (assigned_s t))
+    form_s place ty (InstanceOf o to) = andso (value_s o) (instance_s to)
+    form_s place ty (Conditional test x other from up_to) = andso (value_s test) (λ v. andso (forget_s from (up_to - from)) (λ _. if_s v (value_s x) (value_s other)))
+    form_s place ty (Assign variable value) = andso (target_s variable) (λ t. andso (value_s value) (assigned_s t))
     form_s place ty (Compound variable joint left right into) =
-      then (target_s variable) (λ t. then (read_s t) (λ v. then (note_s place ty v) (λ x. then (stepping left x) (λ w.
-      then (joined_s joint w (value_s right)) (λ z. then (stepping into z) (assigned_s t))))))
+        andso (target_s variable) (λ t. andso (read_s t) (λ v. andso (note_s place ty v) (λ x. andso (stepping left x) (λ w.
+        andso (joined_s joint w (value_s right)) (λ z. andso (stepping into z) (assigned_s t))))))
     form_s place ty (Change variable op from into b) =
-      then (target_s variable) (λ t. then (read_s t) (λ v. then (note_s place ty v) (λ x. then (stepping from x) (λ w.
-      then (given_s (stepped op w)) (changed_s t into b v)))))
-    form_s place ty (Call kind to m ts args phase) = then (values_s to) (λ o. then (values_s args) (λ vs. then (h.by_state Ty Frame (List Read) D _ _ (λ s. gives _)) (call_s kind m o vs)))
+        andso (target_s variable) (λ t. andso (read_s t) (λ v. andso (note_s place ty v) (λ x. andso (stepping from x) (λ w.
+        andso (given_s (stepped op w)) (changed_s t into b v)))))
+    form_s place ty (Call kind to m ts args phase) = andso (values_s to) (λ o. andso (values_s args) (λ vs. andso (h.by_state Ty Frame (List Read) D _ _ (λ s. gives _)) (call_s kind m o vs)))
     form_s place ty (New m args phase) = create_s ty m args
-    form_s place ty (NewArray lengths) = then (values_s lengths) (λ vs. then (lengths_s vs) (λ ns. then (closed_s ty) (λ t. arrays_s t ns)))
-    form_s place ty (ArrayOf elements) = then (closed_s ty) (λ t. then (new_array_s t (length (operand_list elements))) (λ a. fill_with_s a 0 (operand_list elements)))
-    form_s place ty (Cast o to ss b) = then (value_s o) (stepping ss)
+    form_s place ty (NewArray lengths) = andso (values_s lengths) (λ vs. andso (lengths_s vs) (λ ns. andso (closed_s ty) (λ t. arrays_s t ns)))
+    form_s place ty (ArrayOf elements) = andso (closed_s ty) (λ t. andso (new_array_s t (length (operand_list elements))) (λ a. fill_with_s a 0 (operand_list elements)))
+    form_s place ty (Cast o to ss b) = andso (value_s o) (stepping ss)
 
     pub capture_s : (v : Value) (cs : List Capture) → Steady (capture P r v cs) (capture P r' v cs)
     capture_s v [] = gives tt
-    capture_s v (x ∷ cs) = then (h.changes Ty Frame (List Read) D _ (λ s. refl)) (λ _. capture_s v cs)
+    capture_s v (x ∷ cs) = andso (h.changes Ty Frame (List Read) D _ (λ s. refl)) (λ _. capture_s v cs)
 
     noted_s : (b : Bool) (place : Place) (ty : Ty) (v : Value) → Steady (noted P r b place ty v) (noted P r' b place ty v)
     noted_s true place ty v = note_s place ty v
@@ -264,4 +264,4 @@ module _ (D : ℕ) where
 
     pub expr_s : (e : Expr) → Steady (expr_act P r e) (expr_act P r' e)
     expr_s NoExpr = wrongs
-    expr_s (expr place ty captures form) = then (form_s place ty form) (λ v. then (capture_s v captures) (λ _. noted_s (is_noted P r form) place ty v))
+    expr_s (expr place ty captures form) = andso (form_s place ty form) (λ v. andso (capture_s v captures) (λ _. noted_s (is_noted P r form) place ty v))

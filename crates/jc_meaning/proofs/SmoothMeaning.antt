@@ -33,8 +33,8 @@ module _ (D : ℕ) where
   abbrev Steady : {A : Type 0} → TypedRun A → TypedRun A → Type 0
   Steady m m' = Smooth TypedState shown_of D 0 m m'
 
-  then : {A B : Type 0} {m m' : TypedRun A} {f f' : A → TypedRun B} → Steady m m' → ((a : A) → Steady (f a) (f' a)) → Steady (bind m f) (bind m' f')
-  then sm sf = seq TypedState shown_of D sm sf
+  andso : {A B : Type 0} {m m' : TypedRun A} {f f' : A → TypedRun B} → Steady m m' → ((a : A) → Steady (f a) (f' a)) → Steady (bind m f) (bind m' f')
+  andso sm sf = seq TypedState shown_of D sm sf
 
   gives : {A : Type 0} (a : A) → Steady (give a) (give a)
   gives a = h.gives Ty Frame (List Read) D a
@@ -51,11 +51,11 @@ module _ (D : ℕ) where
   addressed Null = h.wrongs Ty Frame (List Read) D
 
   natives : (P : TypedProgram) (n : Native) → Steady (native_act (typed_keeping P.table) P.table P.known n) (native_act (typed_keeping P.table) P.table P.known n)
-  natives P HashCode = then (h.looks Ty Frame (List Read) D _) (λ v. then (addressed v) (λ a. gives _))
-  natives P ClassName = then (h.looks Ty Frame (List Read) D _) (λ v. then (addressed v) (λ a. then (h.objects Ty Frame (List Read) D a) (λ o. h.makes_string Ty Frame (List Read) D (typed_keeping P.table) P.table P.known _)))
-  natives P Put = then (then (h.looks Ty Frame (List Read) D _) (λ v. h.somes Ty Frame (List Read) D (whole_of v))) (λ n. then (h.puts Ty Frame (List Read) D _) (λ _. gives _))
+  natives P HashCode = andso (h.looks Ty Frame (List Read) D _) (λ v. andso (addressed v) (λ a. gives _))
+  natives P ClassName = andso (h.looks Ty Frame (List Read) D _) (λ v. andso (addressed v) (λ a. andso (h.objects Ty Frame (List Read) D a) (λ o. h.makes_string Ty Frame (List Read) D (typed_keeping P.table) P.table P.known _)))
+  natives P Put = andso (andso (h.looks Ty Frame (List Read) D _) (λ v. h.somes Ty Frame (List Read) D (whole_of v))) (λ n. andso (h.puts Ty Frame (List Read) D _) (λ _. gives _))
   natives P ReadByte = h.takes Ty Frame (List Read) D
-  natives P Halt = then (then (h.looks Ty Frame (List Read) D _) (λ v. h.somes Ty Frame (List Read) D (whole_of v))) (λ n. h.exits Ty Frame (List Read) D n)
+  natives P Halt = andso (andso (h.looks Ty Frame (List Read) D _) (λ v. h.somes Ty Frame (List Read) D (whole_of v))) (λ n. h.exits Ty Frame (List Read) D n)
 
   module _ (P : TypedProgram) where
     -- uses of classes
@@ -66,7 +66,7 @@ module _ (D : ℕ) where
     uses sm Failed = h.raises Ty Frame (List Read) D (typed_keeping P.table) P.table P.known P.known.thrown.no_class
 
     pub readies : (f f' : ClassId → TypedRun (Unit {0})) → ((k : ClassId) → Steady (f k) (f' k)) → (k : ClassId) → Steady (ready_by P f k) (ready_by P f' k)
-    readies f f' sf k = then (h.looks Ty Frame (List Read) D _) (uses (sf k))
+    readies f f' sf k = andso (h.looks Ty Frame (List Read) D _) (uses (sf k))
 
     module _ (r r' : Meaning) (k k' : ℕ) (L : Levels D (inner_of r) (inner_of r')) (SR : (x : Stmt) → Smooth TypedState shown_of D 1 (r.stmt x) (r'.stmt x)) where
       written : (o : Option (List Stmt)) → Steady (written_body P r k o) (written_body P r' k' o)
@@ -74,7 +74,7 @@ module _ (D : ℕ) where
       written (Some ss) = t.all_s P (inner_of r) (inner_of r') r.stmt r'.stmt k k' D L SR ss
 
       or_native : (o : Option Native) {m m' : TypedRun Completion} → Steady m m' → Steady (native_or P o m) (native_or P o m')
-      or_native (Some n) sm = then (natives P n) (λ v. gives _)
+      or_native (Some n) sm = andso (natives P n) (λ v. gives _)
       or_native None sm = sm
 
       pub body_s : (m : MethodId) → Steady (body_act P r k m) (body_act P r' k' m)
@@ -89,20 +89,20 @@ module _ (D : ℕ) where
 
       own_s : (o : Option MethodId) → Steady (run_initialiser P r.body o) (run_initialiser P r'.body o)
       own_s None = gives tt
-      own_s (Some m) = then (c.calls_static D P r.body r'.body L.bodies m [] []) (λ v. gives tt)
+      own_s (Some m) = andso (c.calls_static D P r.body r'.body L.bodies m [] []) (λ v. gives tt)
 
       error_s : (a : ℕ) → Steady (as_error P a) (as_error P a)
-      error_s a = then (h.objects Ty Frame (List Read) D a) (λ o. if_then _ (h.throws Ty Frame (List Read) D a) (h.raises Ty Frame (List Read) D (typed_keeping P.table) P.table P.known P.known.thrown.in_initialiser))
+      error_s a = andso (h.objects Ty Frame (List Read) D a) (λ o. if_then _ (h.throws Ty Frame (List Read) D a) (h.raises Ty Frame (List Read) D (typed_keeping P.table) P.table P.known P.known.thrown.in_initialiser))
 
       marks : (x : ClassId) (y : Readiness) → Steady (set_readiness x y) (set_readiness x y)
       marks x y = h.changes Ty Frame (List Read) D _ (λ s. refl)
 
       pub initialise_s : (x : ClassId) → Steady (initialise P r.body r.ready x) (initialise P r'.body r'.ready x)
       initialise_s x =
-        then (marks x Begun) (λ _.
-        both TypedState shown_of D (super_s x)
-          (λ _. both TypedState shown_of D (own_s (initialiser_of P.table x)) (λ _. marks x Ready) (λ a. then (marks x Failed) (λ _. error_s a)))
-          (λ a. then (marks x Failed) (λ _. h.throws Ty Frame (List Read) D a)))
+          andso (marks x Begun) (λ _.
+          both TypedState shown_of D (super_s x)
+          (λ _. both TypedState shown_of D (own_s (initialiser_of P.table x)) (λ _. marks x Ready) (λ a. andso (marks x Failed) (λ _. error_s a)))
+          (λ a. andso (marks x Failed) (λ _. h.throws Ty Frame (List Read) D a)))
 
 -- two depths, one after the other
 pub record Smooths (P : TypedProgram) (d : ℕ) : Type 0 where
@@ -119,7 +119,8 @@ unfolding meaning
 no_levels P = record {
   exprs = λ x. smooth_stop TypedState shown_of 0 1;
   bodies = λ m. smooth_stop TypedState shown_of 0 1;
-  readies = readies 0 P (λ k. stop) (λ k. stop) (λ k. smooth_stop TypedState shown_of 0 0) }
+  readies = readies 0 P (λ k. stop) (λ k. stop) (λ k. smooth_stop TypedState shown_of 0 0);
+}
 
 pub smooths : (P : TypedProgram) (d : ℕ) → Smooths P d
 unfolding meaning
@@ -131,7 +132,8 @@ smooths P zero =
       exprs = λ x. smooth_first TypedState shown_of _ (λ s. (e.expr_s 0 P (inner_of z) (inner_of z) L x).quiet s);
       stmts = λ x. smooth_first TypedState shown_of _ (λ s. (t.stmt_s P (inner_of z) (inner_of z) z.stmt z.stmt 0 0 (inr (refl, refl)) L SR x).quiet s);
       bodies = λ m. smooth_first TypedState shown_of _ (λ s. (body_s 0 P z z 0 0 L SR m).quiet s);
-      readies = readies 0 P _ _ (λ k. smooth_less TypedState shown_of 0 1 0 0 _ _ (omega arith) (omega arith) (smooth_first TypedState shown_of _ (λ s. (initialise_s 0 P z z 0 0 L SR k).quiet s))) }
+      readies = readies 0 P _ _ (λ k. smooth_less TypedState shown_of 0 1 0 0 _ _ (omega arith) (omega arith) (smooth_first TypedState shown_of _ (λ s. (initialise_s 0 P z z 0 0 L SR k).quiet s)));
+    }
 smooths P (suc d) =
     let a = meaning P d in let b = meaning P (suc d) in
     let h = smooths P d in
@@ -140,11 +142,12 @@ smooths P (suc d) =
       exprs = λ x. smooth_node TypedState shown_of d _ _ (e.expr_s d P (inner_of a) (inner_of b) L x);
       stmts = λ x. smooth_node TypedState shown_of d _ _ (t.stmt_s P (inner_of a) (inner_of b) a.stmt b.stmt d (suc d) (inl refl) L h.stmts x);
       bodies = λ m. smooth_node TypedState shown_of d _ _ (body_s d P a b d (suc d) L h.stmts m);
-      readies = readies (suc d) P _ _ (λ k. smooth_less TypedState shown_of (suc d) 1 (suc d) 0 _ _ (omega arith) (omega arith) (smooth_node TypedState shown_of d _ _ (initialise_s d P a b d (suc d) L h.stmts k))) }
+      readies = readies (suc d) P _ _ (λ k. smooth_less TypedState shown_of (suc d) 1 (suc d) 0 _ _ (omega arith) (omega arith) (smooth_node TypedState shown_of d _ _ (initialise_s d P a b d (suc d) L h.stmts k)));
+    }
 
 -- a run with one unit more
 pub run_goes_on : (P : TypedProgram) (m : MethodId) (input : List ℕ) (n : ℕ) → WithOneUnitMore shown_of (outcome P m input n) (outcome P m input (suc n))
 run_goes_on P m input n =
     node_goes_on TypedState shown_of n n (run_static P m n) (run_static P m (suc n)) (first_state P m input)
-      (then n ((smooths P n).readies (method_class P.table m)) (λ _. c.calls_static n P _ _ (smooths P n).bodies m [] []))
-      (omega arith)
+    (andso n ((smooths P n).readies (method_class P.table m)) (λ _. c.calls_static n P _ _ (smooths P n).bodies m [] []))
+    (omega arith)

@@ -30,7 +30,8 @@ lower : (D E : ℕ) → E ≤ D → (r r' : Inner) → Levels D r r' → Levels 
 lower D E hE r r' L = record {
   exprs = λ x. smooth_less TypedState shown_of D 1 E 1 _ _ hE (omega arith) (L.exprs x);
   bodies = λ m. smooth_less TypedState shown_of D 1 E 1 _ _ hE (omega arith) (L.bodies m);
-  readies = λ k. smooth_less TypedState shown_of D 0 E 0 _ _ hE (omega arith) (L.readies k) }
+  readies = λ k. smooth_less TypedState shown_of D 0 E 0 _ _ hE (omega arith) (L.readies k);
+}
 
 module _ (P : TypedProgram) (r r' : Inner) (run run' : Stmt → TypedRun Completion) (k k' : ℕ) where
   -- up to a bound
@@ -38,8 +39,8 @@ module _ (P : TypedProgram) (r r' : Inner) (run run' : Stmt → TypedRun Complet
     abbrev Steady : {A : Type 0} → TypedRun A → TypedRun A → Type 0
     Steady m m' = Smooth TypedState shown_of D 0 m m'
 
-    then : {A B : Type 0} {m m' : TypedRun A} {f f' : A → TypedRun B} → Steady m m' → ((a : A) → Steady (f a) (f' a)) → Steady (bind m f) (bind m' f')
-    then sm sf = seq TypedState shown_of D sm sf
+    andso : {A B : Type 0} {m m' : TypedRun A} {f f' : A → TypedRun B} → Steady m m' → ((a : A) → Steady (f a) (f' a)) → Steady (bind m f) (bind m' f')
+    andso sm sf = seq TypedState shown_of D sm sf
 
     gives : {A : Type 0} (a : A) → Steady (give a) (give a)
     gives a = h.gives Ty Frame (List Read) D a
@@ -49,7 +50,7 @@ module _ (P : TypedProgram) (r r' : Inner) (run run' : Stmt → TypedRun Complet
 
     pub all_s : (ss : List Stmt) → Steady (run_all P r run k ss) (run_all P r' run' k' ss)
     all_s [] = gives Normal
-    all_s (s ∷ ss) = then (runs s) (smooth_next TypedState shown_of D _ _ (all_s ss))
+    all_s (s ∷ ss) = andso (runs s) (smooth_next TypedState shown_of D _ _ (all_s ss))
 
     set_first_s : (n : ℕ) (vs : List Value) → Steady (set_first P r run k n vs) (set_first P r' run' k' n vs)
     set_first_s n [] = gives tt
@@ -57,11 +58,11 @@ module _ (P : TypedProgram) (r r' : Inner) (run run' : Stmt → TypedRun Complet
 
     declare_s : (ds : Declared) → Steady (declare P r run k ds) (declare P r' run' k' ds)
     declare_s NoDeclared = gives tt
-    declare_s (MoreDeclared before place n value) = then (declare_s before) (λ _. then (e.values_s D P r r' L value) (set_first_s n))
+    declare_s (MoreDeclared before place n value) = andso (declare_s before) (λ _. andso (e.values_s D P r r' L value) (set_first_s n))
 
     if_any_s : (arms : Arms) {m m' : TypedRun Completion} → Steady m m' → Steady (if_any P r run k arms m) (if_any P r' run' k' arms m')
     if_any_s NoArms sm = sm
-    if_any_s (MoreArms before test x) sm = if_any_s before (then (e.value_s D P r r' L test) (λ v. e.if_s D P r r' L v (runs x) sm))
+    if_any_s (MoreArms before test x) sm = if_any_s before (andso (e.value_s D P r r' L test) (λ v. e.if_s D P r r' L v (runs x) sm))
 
     if_then : {A : Type 0} (b : Bool) {m m' n n' : TypedRun A} → Steady m m' → Steady n n' → Steady (if b then m else n) (if b then m' else n')
     if_then true sm sn = sm
@@ -74,13 +75,13 @@ module _ (P : TypedProgram) (r r' : Inner) (run run' : Stmt → TypedRun Complet
     after_s own (Returned v) sm = gives _
 
     while_s : (own : ℕ) {t t' : TypedRun Value} {b b' : TypedRun Completion} {u u' : TypedRun (Unit {0})} → Steady t t' → Steady b b' → Steady u u' → Steady (while_turn P r run k own t b u) (while_turn P r' run' k' own t' b' u')
-    while_s own st sb su = then st (λ v. e.if_s D P r r' L v (then sb (λ c. after_s own c (then su (λ _. gives _)))) (gives _))
+    while_s own st sb su = andso st (λ v. e.if_s D P r r' L v (andso sb (λ c. after_s own c (andso su (λ _. gives _)))) (gives _))
 
     do_s : (own : ℕ) {b b' : TypedRun Completion} {t t' : TypedRun Value} → Steady b b' → Steady t t' → Steady (do_turn P r run k own b t) (do_turn P r' run' k' own b' t')
-    do_s own sb st = then sb (λ c. after_s own c (then st (λ v. e.if_s D P r r' L v (gives _) (gives _))))
+    do_s own sb st = andso sb (λ c. after_s own c (andso st (λ v. e.if_s D P r r' L v (gives _) (gives _))))
 
     take_s : (place : Place) (ty : Ty) (cs : List Capture) (ss : List Step) (n : ℕ) (v : Value) → Steady (take_element P r run k place ty cs ss n v) (take_element P r' run' k' place ty cs ss n v)
-    take_s place ty cs ss n v = then (e.capture_s D P r r' L v cs) (λ _. then (e.note_s D P r r' L place ty v) (λ w. then (e.stepping D P r r' L ss w) (λ x. h.sets_local Ty Frame (List Read) D n x)))
+    take_s place ty cs ss n v = andso (e.capture_s D P r r' L v cs) (λ _. andso (e.note_s D P r r' L place ty v) (λ w. andso (e.stepping D P r r' L ss w) (λ x. h.sets_local Ty Frame (List Read) D n x)))
 
     before_s : (i : ℕ) (v : Value) → Steady (is_before P r run k i v) (is_before P r' run' k' i v)
     before_s i (Whole n) = gives _
@@ -90,14 +91,14 @@ module _ (P : TypedProgram) (r r' : Inner) (run run' : Stmt → TypedRun Complet
 
     array_s : (own : ℕ) (array : Value) {take take' : Value → TypedRun (Unit {0})} {b b' : TypedRun Completion} → ((v : Value) → Steady (take v) (take' v)) → Steady b b' → (i : ℕ) → Steady (array_turn P r run k own array take b i) (array_turn P r' run' k' own array take' b' i)
     array_s own array st sb i =
-      then (e.length_s D P r r' L array) (λ n. then (before_s i n) (λ more. e.choose_s D P r r' L more
-        (then (e.get_element_s D P r r' L array (Whole (pos i))) (λ v. then (st v) (λ _. then sb (λ c. after_s own c (gives _)))))
+        andso (e.length_s D P r r' L array) (λ n. andso (before_s i n) (λ more. e.choose_s D P r r' L more
+        (andso (e.get_element_s D P r r' L array (Whole (pos i))) (λ v. andso (st v) (λ _. andso sb (λ c. after_s own c (gives _)))))
         (gives _)))
 
     iterator_s : (own : ℕ) (iterator : Value) {take take' : Value → TypedRun (Unit {0})} {b b' : TypedRun Completion} → ((v : Value) → Steady (take v) (take' v)) → Steady b b' → Steady (iterator_turn P r run k own iterator take b) (iterator_turn P r' run' k' own iterator take' b')
     iterator_s own iterator st sb =
-      then (e.virtuals D P r r' L P.known.iterating.has_next iterator [] []) (λ more. e.if_s D P r r' L more
-        (then (e.virtuals D P r r' L P.known.iterating.next iterator [] []) (λ v. then (st v) (λ _. then sb (λ c. after_s own c (gives _)))))
+        andso (e.virtuals D P r r' L P.known.iterating.has_next iterator [] []) (λ more. e.if_s D P r r' L more
+        (andso (e.virtuals D P r r' L P.known.iterating.next iterator [] []) (λ v. andso (st v) (λ _. andso sb (λ c. after_s own c (gives _)))))
         (gives _))
 
     from_s : (ss : List Stmt) (o : Option ℕ) → Steady (run_from P r run k ss o) (run_from P r' run' k' ss o)
@@ -107,22 +108,22 @@ module _ (P : TypedProgram) (r r' : Inner) (run run' : Stmt → TypedRun Complet
     caught_s : (cs : Catches) (a : ℕ) (x : Erased) {m m' : TypedRun Completion} → Steady m m' → Steady (caught P r run k cs a x m) (caught P r' run' k' cs a x m')
     caught_s NoCatches a x sm = sm
     caught_s (MoreCatches before place n types body) a x sm =
-      caught_s before a x (if_then (is_any_of P r run k x types) (then (h.sets_local Ty Frame (List Read) D n (Address a)) (λ _. runs body)) sm)
+        caught_s before a x (if_then (is_any_of P r run k x types) (andso (h.sets_local Ty Frame (List Read) D n (Address a)) (λ _. runs body)) sm)
 
     throws : {A : Type 0} (a : ℕ) → Steady {A = A} (throw a) (throw a)
     throws a = h.throws Ty Frame (List Read) D a
 
     try_s : (body : Stmt) (cs : Catches) → Steady (try P r run k body cs) (try P r' run' k' body cs)
-    try_s body cs = both TypedState shown_of D (runs body) gives (λ a. then (h.objects Ty Frame (List Read) D a) (λ o. caught_s cs a ((typed_keeping P.table).erased o.kept) (throws a)))
+    try_s body cs = both TypedState shown_of D (runs body) gives (λ a. andso (h.objects Ty Frame (List Read) D a) (λ o. caught_s cs a ((typed_keeping P.table).erased o.kept) (throws a)))
 
     finally_s : {m m' : TypedRun Completion} → Steady m m' → (ss : List Stmt) → Steady (finally P r run k m ss) (finally P r' run' k' m' ss)
     finally_s sm [] = sm
     finally_s sm (s ∷ ss) = both TypedState shown_of D sm
-      (λ c. then (all_s (s ∷ ss)) (smooth_instead TypedState shown_of D _ _ (gives c)))
-      (λ a. then (all_s (s ∷ ss)) (smooth_instead TypedState shown_of D _ _ (throws a)))
+        (λ c. andso (all_s (s ∷ ss)) (smooth_instead TypedState shown_of D _ _ (gives c)))
+        (λ a. andso (all_s (s ∷ ss)) (smooth_instead TypedState shown_of D _ _ (throws a)))
 
     initialise_s : (f : FieldId) (v : Value) → Steady (initialise P r run k f v) (initialise P r' run' k' f v)
-    initialise_s f v = if_then (is_static P.table f) (e.set_static_s D P r r' L f v) (then (h.looks Ty Frame (List Read) D _) (λ o. e.set_field_s D P r r' L f o v))
+    initialise_s f v = if_then (is_static P.table f) (e.set_static_s D P r r' L f v) (andso (h.looks Ty Frame (List Read) D _) (λ o. e.set_field_s D P r r' L f o v))
 
   -- loops, whose turns may be one more, or none at all
   module _ (kk : (k' ≡ suc k) ⊎ ((k ≡ 0) × (k' ≡ 0))) (L : Levels k r r') (SR : (t : Stmt) → Smooth TypedState shown_of k 1 (run t) (run' t)) where
@@ -144,7 +145,7 @@ module _ (P : TypedProgram) (r r' : Inner) (run run' : Stmt → TypedRun Complet
     loops_by : {I : Type 0} (turn turn' : I → TypedRun (Turn I)) → ((E : ℕ) → E ≤ k → (i : I) → Smooth TypedState shown_of E 0 (turn i) (turn' i)) → (i : I) → (k' ≡ suc k) ⊎ ((k ≡ 0) × (k' ≡ 0)) → Here (turns k turn i) (turns k' turn' i)
     loops_by turn turn' st i (inl more) = subst (λ n. Here (turns k turn i) (turns n turn' i)) (sym more) (smooth_turns TypedState shown_of k turn turn' st i)
     loops_by turn turn' st i (inr none) =
-      subst (λ n. Here (turns k turn i) (turns n turn' i)) (sym none.1)
+        subst (λ n. Here (turns k turn i) (turns n turn' i)) (sym none.1)
         (subst (λ n. Smooth TypedState shown_of k 0 (turns n turn i) (turns 0 turn' i)) (sym none.0) (smooth_stop TypedState shown_of k 0))
 
     loops : {I : Type 0} {turn turn' : I → TypedRun (Turn I)} → ((E : ℕ) → E ≤ k → (i : I) → Smooth TypedState shown_of E 0 (turn i) (turn' i)) → (i : I) → Here (turns k turn i) (turns k' turn' i)
@@ -160,18 +161,18 @@ module _ (P : TypedProgram) (r r' : Inner) (run run' : Stmt → TypedRun Complet
     form_s place (While target test body) = loops (λ E hE i. while_s E (at E hE) (runs_at E hE) target (e.value_s E P r r' (at E hE) test) (runs E (at E hE) (runs_at E hE) body) (h.gives Ty Frame (List Read) E tt)) tt
     form_s place (Do target body test) = loops (λ E hE i. do_s E (at E hE) (runs_at E hE) target (runs E (at E hE) (runs_at E hE) body) (e.value_s E P r r' (at E hE) test)) tt
     form_s place (For target ds before test update body) =
-      go (declare_s k L SR ds) (λ _. go (e.values_s k P r r' L before) (λ _.
-      loops (λ E hE i. while_s E (at E hE) (runs_at E hE) target
+        go (declare_s k L SR ds) (λ _. go (e.values_s k P r r' L before) (λ _.
+        loops (λ E hE i. while_s E (at E hE) (runs_at E hE) target
         (seq TypedState shown_of E (e.values_s E P r r' (at E hE) test) (λ vs. h.gives Ty Frame (List Read) E _))
         (runs E (at E hE) (runs_at E hE) body)
         (seq TypedState shown_of E (e.values_s E P r r' (at E hE) update) (λ vs. h.gives Ty Frame (List Read) E tt))) tt))
     form_s place (ForArray target o ty cs ss n body) =
-      go (e.value_s k P r r' L o) (λ array. loops (λ E hE i. array_s E (at E hE) (runs_at E hE) target array (take_s E (at E hE) (runs_at E hE) place ty cs ss n) (runs E (at E hE) (runs_at E hE) body) i) 0)
+        go (e.value_s k P r r' L o) (λ array. loops (λ E hE i. array_s E (at E hE) (runs_at E hE) target array (take_s E (at E hE) (runs_at E hE) place ty cs ss n) (runs E (at E hE) (runs_at E hE) body) i) 0)
     form_s place (ForIterable target o ty cs ss n body) =
-      go (e.value_s k P r r' L o) (λ v. go (e.virtuals k P r r' L P.known.iterating.iterator v [] []) (λ iterator.
-      loops (λ E hE i. iterator_s E (at E hE) (runs_at E hE) target iterator (take_s E (at E hE) (runs_at E hE) place ty cs ss n) (runs E (at E hE) (runs_at E hE) body)) tt))
+        go (e.value_s k P r r' L o) (λ v. go (e.virtuals k P r r' L P.known.iterating.iterator v [] []) (λ iterator.
+        loops (λ E hE i. iterator_s E (at E hE) (runs_at E hE) target iterator (take_s E (at E hE) (runs_at E hE) place ty cs ss n) (runs E (at E hE) (runs_at E hE) body)) tt))
     form_s place (Switch target o cases ss) =
-      go (e.value_s k P r r' L o) (λ v. go (h.somes Ty Frame (List Read) k (whole_of v)) (λ n. go (from_s k L SR (stmt_list ss) _) (λ c. give_s _)))
+        go (e.value_s k P r r' L o) (λ v. go (h.somes Ty Frame (List Read) k (whole_of v)) (λ n. go (from_s k L SR (stmt_list ss) _) (λ c. give_s _)))
     form_s place (Return value) = go (e.values_s k P r r' L value) (λ vs. give_s _)
     form_s place (Break target) = give_s _
     form_s place (Continue target) = give_s _

@@ -83,7 +83,7 @@ call_selected P body m None a o args types = wrong
 call_selected P body m (Some own) a o args types =
     bind (entered_all P (params_of P.table m) (params_of P.table own) args) (λ vs.
     bind (run_method P body own (Some o) (Address a ∷ vs) types)
-         (answered P (result_of P.table m) (result_of P.table own)))
+    (answered P (result_of P.table m) (result_of P.table own)))
 
 -- the body that the class of the receiver selects (JLS 15.12.4.4); null throws
 abbrev pub call_virtual : TypedProgram → Bodies → MethodId → Value → List Value → List Ty → TypedRun Value

@@ -1,5 +1,5 @@
 -- The initialisation of classes and interfaces (JLS 12.4).
-use Rattle.std.specs.Prelude.{ℕ, Bool, true, false, not, Option, Some, None, slice_get, slice_set, if◌then◌else◌}
+use Rattle.std.specs.Prelude.{ℕ, List, [], Option, Some, None, slice_get, slice_set, if◌then◌else◌}
 use Rattle.jc_types.specs.declared.ids.ClassId.{ClassId}
 use Rattle.jc_types.specs.declared.ids.MethodId.{MethodId}
 use Rattle.jc_types.specs.declared.table.Table.{Table}
@@ -43,11 +43,11 @@ as_error P a =
 abbrev pub initialise : TypedProgram → Bodies → Ready → ClassId → TypedRun (Unit {0})
 initialise P body ready k =
     behind (set_readiness k Begun)
-      (both_ways (superclass_first P ready k)
-        (λ _. both_ways (run_initialiser P body (initialiser_of P.table k))
-          (λ _. set_readiness k IsReady)
-          (λ a. behind (set_readiness k Failed) (as_error P a)))
-        (λ a. behind (set_readiness k Failed) (throw a)))
+    (both_ways (superclass_first P ready k)
+    (λ _. both_ways (run_initialiser P body (initialiser_of P.table k))
+    (λ _. set_readiness k IsReady)
+    (λ a. behind (set_readiness k Failed) (as_error P a)))
+    (λ a. behind (set_readiness k Failed) (throw a)))
 
 -- what a use of a class does by how far its initialisation is: a class that is being initialised can be used, one that failed throws
 -- a NoClassDefFoundError (JLS 12.4.2, steps 3 to 5)

@@ -45,6 +45,13 @@ pub record Inner : Type 0 where
   pub body : Bodies
   pub ready : Ready
 
+-- A variable that is assigned: what its parts gave (JLS 15.26.1)
+pub data Target : Type 0 where
+  ToLocal : (local : ℕ) → Target
+  ToStatic : (field : FieldId) → Target
+  ToField : (of_it : Value) (field : FieldId) → Target
+  ToElement : (array index : Value) → Target
+
 module _ (P : TypedProgram) (r : Inner) where
   abbrev T : Table
   T = P.table
@@ -135,8 +142,8 @@ module _ (P : TypedProgram) (r : Inner) where
   abbrev pub text_of : Printed → Value → TypedRun Value
   text_of as_it v =
       behind (r.ready P.known.string)
-        (bind (call_static P r.body (printer_of P.known.printing as_it) (v ∷ []) [])
-              (λ t. call_static P r.body P.known.printing.of_object (t ∷ []) []))
+      (bind (call_static P r.body (printer_of P.known.printing as_it) (v ∷ []) [])
+      (λ t. call_static P r.body P.known.printing.of_object (t ∷ []) []))
 
   -- One operator: the left value is there, the right one comes next. The string of the left operand of string `+` is made before
   -- the right operand is evaluated
@@ -172,15 +179,9 @@ module _ (P : TypedProgram) (r : Inner) where
   forget from zero = give tt
   forget from (suc n) =
       behind (λ u s. set_captured (record { 0 = from }) (unsaid s.frame.variables s.frame.captured (captured_of P s.frame.method) (record { 0 = from })) u s)
-             (forget (suc from) n)
+      (forget (suc from) n)
 
-  -- A variable that is assigned: what its parts gave (JLS 15.26.1)
-  pub data Target : Type 0 where
-    ToLocal : (local : ℕ) → Target
-    ToStatic : (field : FieldId) → Target
-    ToField : (of_it : Value) (field : FieldId) → Target
-    ToElement : (array index : Value) → Target
-
+  -- the parts of a variable, from left to right (JLS 15.26.1)
   abbrev pub target_of : Variable → TypedRun Target
   target_of (LocalVariable n) = give (ToLocal n)
   target_of (StaticVariable before f) = behind (values before) (give (ToStatic f))
@@ -229,9 +230,9 @@ module _ (P : TypedProgram) (r : Inner) where
   abbrev pub create : Ty → MethodId → Operands → TypedRun Value
   create ty m args =
       behind (r.ready (method_class T m))
-        (bind (new_object ty (method_class T m)) (λ a.
-         bind (values args) (λ vs.
-         behind (call_direct P r.body m (Address a) vs []) (give (Address a)))))
+      (bind (new_object ty (method_class T m)) (λ a.
+      bind (values args) (λ vs.
+      behind (call_direct P r.body m (Address a) vs []) (give (Address a)))))
 
   -- a new array of a closed array type, with that many elements as new
   abbrev pub new_array : Ty → ℕ → TypedRun ℕ
@@ -262,7 +263,7 @@ module _ (P : TypedProgram) (r : Inner) where
   lengths_of (v ∷ vs) =
       bind (some_or_wrong (whole_of v)) (λ n.
       choose (int_lt n (pos 0)) (raise keeping T P.known.thrown.negative_size)
-        (bind (lengths_of vs) (λ ns. give (unsigned_abs n ∷ ns))))
+      (bind (lengths_of vs) (λ ns. give (unsigned_abs n ∷ ns))))
 
   -- The elements of an array that is there already, each stored before the next one is evaluated (JLS 10.6, 15.12.4.2)
   abbrev pub fill_with : ℕ → ℕ → List Operand → TypedRun Value
@@ -284,8 +285,8 @@ module _ (P : TypedProgram) (r : Inner) where
   form_of place ty (AllOf os) = all_true (operand_list os)
   form_of place ty (AnyOf os) = any_true (operand_list os)
   form_of place ty (InstanceOf of_it to) = bind (value_of of_it) (instance_of to)
-  form_of place ty (Conditional test then other from up_to) =
-      bind (value_of test) (λ v. behind (forget from (up_to - from)) (if_true v (value_of then) (value_of other)))
+  form_of place ty (Conditional test first second from up_to) =
+      bind (value_of test) (λ v. behind (forget from (up_to - from)) (if_true v (value_of first) (value_of second)))
   form_of place ty (Assign variable value) =
       bind (target_of variable) (λ t. bind (value_of value) (assigned t))
   form_of place ty (Compound variable joint left right into) =

@@ -111,7 +111,8 @@ abbrev pub typed_keeping : Table → Keeping Ty
 typed_keeping T = record {
   erased = erasure T [];
   of_class = λ k. Class k [];
-  of_chars = Array (Prim Char) 0 }
+  of_chars = Array (Prim Char) 0;
+}
 
 -- a type with what the variables of the running method stand for
 abbrev pub closed_in : TypedState → Ty → Ty

@@ -57,12 +57,14 @@ meaning P zero = record {
   expr = λ e. stop;
   stmt = λ t. stop;
   body = λ m. stop;
-  ready = ready_by P (λ k. stop) }
+  ready = ready_by P (λ k. stop);
+}
 meaning P (suc d) = let r = meaning P d in record {
   expr = λ e. node (expr_act P (inner_of r) e);
   stmt = λ t. node (stmt_act P (inner_of r) r.stmt d t);
   body = λ m. node (body_act P r d m);
-  ready = ready_by P (λ k. node (initialise P r.body r.ready k)) }
+  ready = ready_by P (λ k. node (initialise P r.body r.ready k));
+}
 
 abbrev pub field_values : Table → ℕ → ℕ → List Value
 field_values T from zero = []
@@ -79,7 +81,8 @@ first_state P m input = record {
   strings = [];
   input = input;
   shown = nothing_shown;
-  record_of = [] }
+  record_of = [];
+}
 
 -- a static method without parameters: its class is initialised, and its body runs
 abbrev pub run_static : TypedProgram → MethodId → ℕ → TypedRun Value
@@ -88,8 +91,8 @@ run_static P m d = behind ((meaning P d).ready (method_class P.table m)) (call_s
 -- the strings of a program's arguments, and then their array
 abbrev pub argument_strings : TypedProgram → List (List ℕ) → TypedRun (List Value)
 argument_strings P [] = give []
-argument_strings P (a ∷ as) =
-    bind (make_string (typed_keeping P.table) P.table P.known a) (λ v. bind (argument_strings P as) (λ vs. give (v ∷ vs)))
+argument_strings P (text ∷ texts) =
+    bind (make_string (typed_keeping P.table) P.table P.known text) (λ v. bind (argument_strings P texts) (λ vs. give (v ∷ vs)))
 
 abbrev pub argument_array : TypedProgram → List Value → TypedRun ℕ
 argument_array P vs = make (record { kept = array_over 0 (Class P.known.string []); parts = vs })

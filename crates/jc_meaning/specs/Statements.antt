@@ -47,8 +47,8 @@ module _ (P : TypedProgram) (r : Inner) (run : Stmt → TypedRun Completion) (k 
   -- tests of an `if` from the first one on, and what follows where none holds (JLS 14.9)
   abbrev pub if_any : Arms → TypedRun Completion → TypedRun Completion
   if_any NoArms other = other
-  if_any (MoreArms before test then) other =
-      if_any before (bind (value_of P r test) (λ v. if_true P r v (run then) other))
+  if_any (MoreArms before test body) other =
+      if_any before (bind (value_of P r test) (λ v. if_true P r v (run body) other))
 
   -- a turn of a loop ends with its body: a `break` of the loop ends it, a `continue` of it goes on (JLS 14.12.1, 14.16)
   abbrev pub after_body : {I : Type 0} → ℕ → Completion → TypedRun (Turn I) → TypedRun (Turn I)
@@ -82,7 +82,7 @@ module _ (P : TypedProgram) (r : Inner) (run : Stmt → TypedRun Completion) (k 
   abbrev pub take_element : Place → Ty → List Capture → List Step → ℕ → Value → TypedRun (Unit {0})
   take_element place ty captures ss n v =
       behind (capture P r v captures)
-        (bind (note P r place ty v) (λ w. bind (steps P r.body r.ready ss w) (set_local n)))
+      (bind (note P r place ty v) (λ w. bind (steps P r.body r.ready ss w) (set_local n)))
 
   abbrev pub is_before : ℕ → Value → TypedRun Bool
   is_before i (Whole n) = give (int_lt (pos i) n)
@@ -93,17 +93,17 @@ module _ (P : TypedProgram) (r : Inner) (run : Stmt → TypedRun Completion) (k 
       bind (length_of P r array) (λ n.
       bind (is_before i n) (λ more.
       choose P r more
-        (bind (get_element P r array (Whole (pos i))) (λ v.
-         behind (take v) (bind body (λ c. after_body own c (give (Again (suc i)))))))
-        ended))
+      (bind (get_element P r array (Whole (pos i))) (λ v.
+      behind (take v) (bind body (λ c. after_body own c (give (Again (suc i)))))))
+      ended))
 
   abbrev pub iterator_turn : ℕ → Value → (Value → TypedRun (Unit {0})) → TypedRun Completion → TypedRun (Turn (Unit {0}))
   iterator_turn own iterator take body =
       bind (call_virtual P r.body P.known.iterating.has_next iterator [] []) (λ more.
       if_true P r more
-        (bind (call_virtual P r.body P.known.iterating.next iterator [] []) (λ v.
-         behind (take v) (bind body (λ c. after_body own c again))))
-        ended)
+      (bind (call_virtual P r.body P.known.iterating.next iterator [] []) (λ v.
+      behind (take v) (bind body (λ c. after_body own c again))))
+      ended)
 
   -- how many statements of a `switch` stand before the label of a number, or else before `default`, if there is one (JLS 14.11)
   abbrev pub is_key : ℤ → Option ℤ → Bool
@@ -160,7 +160,7 @@ module _ (P : TypedProgram) (r : Inner) (run : Stmt → TypedRun Completion) (k 
   finally m [] = m
   finally m (s ∷ ss) =
       both_ways m (λ c. bind (run_all (s ∷ ss)) (λ d. instead d (give c)))
-                  (λ a. bind (run_all (s ∷ ss)) (λ d. instead d (throw a)))
+      (λ a. bind (run_all (s ∷ ss)) (λ d. instead d (throw a)))
 
   -- a field's initialiser sets the static field, or that of this object
   abbrev pub initialise : FieldId → Value → TypedRun (Unit {0})
@@ -180,7 +180,7 @@ module _ (P : TypedProgram) (r : Inner) (run : Stmt → TypedRun Completion) (k 
   form_act place (Do target body test) = loop (λ i. do_turn target (run body) (value_of P r test))
   form_act place (For target declared before test update body) =
       behind (declare declared) (behind (values P r before)
-        (loop (λ i. while_turn target (bind (values P r test) (λ vs. give (true_or vs))) (run body) (behind (values P r update) (give tt)))))
+      (loop (λ i. while_turn target (bind (values P r test) (λ vs. give (true_or vs))) (run body) (behind (values P r update) (give tt)))))
   form_act place (ForArray target of_it ty captures ss n body) =
       bind (value_of P r of_it) (λ array. turns k (array_turn target array (take_element place ty captures ss n) (run body)) 0)
   form_act place (ForIterable target of_it ty captures ss n body) =

@@ -82,7 +82,8 @@ module _ (S : Type 0) (shown : S → Shown) where
   pub smooth_both : {A B : Type 0} (D e D' : ℕ) (m m' : Run S A) (f f' : A → Run S B) (g g' : ℕ → Run S B) → D ≤ D' + e → Smooth D e m m' → ((a : A) → Smooth D' 0 (f a) (f' a)) → ((v : ℕ) → Smooth D' 0 (g v) (g' v)) → Smooth D 0 (both_ways m f g) (both_ways m' f' g')
   smooth_both D e D' m m' f f' g g' hD sm sf sg = record {
     grow = λ u s hu. grow_both D e D' u f f' g g' (m u s) (m' (suc u) s) hu hD sf sg (sm.grow u s hu);
-    quiet = λ s. quiet_both f' g' (shown s) (m' 0 s) (λ a s. (sf a).quiet s) (λ v s. (sg v).quiet s) (sm.quiet s) }
+    quiet = λ s. quiet_both f' g' (shown s) (m' 0 s) (λ a s. (sf a).quiet s) (λ v s. (sg v).quiet s) (sm.quiet s);
+  }
 
   pub smooth_throw : {A : Type 0} (D v : ℕ) → Smooth {A = A} D 0 (throw v) (throw v)
   smooth_throw D v = record { grow = λ u s hu. (refl, omega arith); quiet = λ s. (refl, refl) }
@@ -106,8 +107,8 @@ module _ (S : Type 0) (shown : S → Shown) where
   pub smooth_node : {A : Type 0} (D : ℕ) (m m' : Run S A) → Smooth D 0 m m' → Smooth (suc D) 1 (node m) (node m')
   smooth_node D m m' sm =
       smooth_spend D 0 _ _ (smooth_both D 0 D m m' _ _ _ _ (omega arith) sm
-        (λ a. smooth_less (suc D) 1 D 0 _ _ (omega arith) (omega arith) (smooth_spend D 0 _ _ (smooth_give D a)))
-        (λ v. smooth_less (suc D) 1 D 0 _ _ (omega arith) (omega arith) (smooth_spend D 0 _ _ (smooth_throw D v))))
+      (λ a. smooth_less (suc D) 1 D 0 _ _ (omega arith) (omega arith) (smooth_spend D 0 _ _ (smooth_give D a)))
+      (λ v. smooth_less (suc D) 1 D 0 _ _ (omega arith) (omega arith) (smooth_spend D 0 _ _ (smooth_throw D v))))
 
   -- the end of the units
   pub smooth_stop : {A : Type 0} (D e : ℕ) → Smooth {A = A} D e stop stop
@@ -153,17 +154,18 @@ module _ (S : Type 0) (shown : S → Shown) where
   zero_grow turn' i u s hu q =
       let e : 0 ≡ u = omega arith in
       subst (λ n. After (shown s) (bind (turn' i) (λ t. on_turn t (turns 0 turn')) n s)) e
-        (after_quiet (shown s) (shown s) (bind (turn' i) (λ t. on_turn t (turns 0 turn')) 0 s) (nothing_more refl)
-          (quiet_both (λ t. on_turn t (turns 0 turn')) throw (shown s) (turn' i 0 s) (λ t s'. (smooth_turn 0 (turns 0 turn') (turns 0 turn') (λ j. smooth_stop 0 0) t).quiet s') (λ v s'. (refl, refl)) (q i s)))
+      (after_quiet (shown s) (shown s) (bind (turn' i) (λ t. on_turn t (turns 0 turn')) 0 s) (nothing_more refl)
+      (quiet_both (λ t. on_turn t (turns 0 turn')) throw (shown s) (turn' i 0 s) (λ t s'. (smooth_turn 0 (turns 0 turn') (turns 0 turn') (λ j. smooth_stop 0 0) t).quiet s') (λ v s'. (refl, refl)) (q i s)))
 
   -- a loop, where the turns may be one more than the units
   pub smooth_turns : {I : Type 0} (k : ℕ) (turn turn' : I → Run S (Turn I)) → ((D : ℕ) → D ≤ k → (i : I) → Smooth D 0 (turn i) (turn' i)) → (i : I) → Smooth k 0 (turns k turn i) (turns (suc k) turn' i)
   smooth_turns zero turn turn' st i = record {
     grow = λ u s hu. zero_grow turn' i u s hu (λ j s'. (st 0 (omega arith) j).quiet s');
-    quiet = λ s. refl }
+    quiet = λ s. refl;
+  }
   smooth_turns (suc k) turn turn' st i =
       smooth_less (suc k) 1 (suc k) 0 _ _ (omega arith) (omega arith)
-        (smooth_spend k 0 _ _ (smooth_bind k 0 k _ _ _ _ (omega arith) (st k (omega arith) i) (smooth_turn k _ _ (smooth_turns k turn turn' (λ D hD. st D (omega arith))))))
+      (smooth_spend k 0 _ _ (smooth_bind k 0 k _ _ _ _ (omega arith) (st k (omega arith) i) (smooth_turn k _ _ (smooth_turns k turn turn' (λ D hD. st D (omega arith))))))
 
   -- a node at no depth, and one at the first
   leave_after : {A : Type 0} (p : Shown) (r : Out S A) → Quiet r p → After p (leave r)
@@ -176,7 +178,8 @@ module _ (S : Type 0) (shown : S → Shown) where
   pub smooth_first : {A : Type 0} (m : Run S A) → ((s : S) → Quiet (m 0 s) (shown s)) → Smooth 0 1 stop (node m)
   smooth_first m q = record {
     grow = λ u s hu. let e : 0 ≡ u = omega arith in subst (λ n. After (shown s) (node m (suc n) s)) e (leave_after (shown s) (m 0 s) (q s));
-    quiet = λ s. refl }
+    quiet = λ s. refl;
+  }
 
   -- what is left of a node that ended with the next unit showed nothing more by that
   going_on : {A : Type 0} (p : Shown) (o : Out S A) → After p o → OneMore shown p (leave o)
