@@ -5,11 +5,14 @@
 //! the tree at a place, as `expr_of nodes at`.
 #![tactic(auto)]
 
+mod expression_bulk;
 mod expressions;
 mod lists;
 mod nodes;
 mod program;
+mod statement_bulk;
 mod statements;
+mod weights;
 
 pub use expressions::{CallKind, ExprForm, ExprNode, Joint, OperandNode, Printed, VariableNode};
 pub use lists::{
@@ -21,4 +24,5 @@ pub use program::{
     Body, BoxedIn, Boxes, Iterating, Known, Local, Natives, Printing, Selection, ThrownClasses,
     TypedMethod, TypedProgram,
 };
+pub use statement_bulk::bulk;
 pub use statements::{StmtForm, StmtNode};
