@@ -1,7 +1,9 @@
 -- What a program does is smooth in its units.
-use Rattle.std.proofs.Common.{◌≡◌, ℕ, zero, suc, ◌+◌, ◌≤◌, List, [], ◌∷◌, inl, inr, refl, arith}
+use Rattle.std.proofs.Common.{◌≡◌, ℕ, zero, suc, ◌+◌, ◌≤◌, List, [], ◌∷◌, inl, inr, refl, subst, ◌∙◌, arith}
 use Rattle.std.specs.Prelude.{Bool, true, false, Option, Some, None, slice_get, if◌then◌else◌}
+use Rattle.jc_types.specs.Arrays.{array_over}
 use Rattle.jc_types.specs.declared.form.Ty.{Ty}
+use Rattle.jc_types.specs.declared.form.Ty.TheVariants.{Class}
 use Rattle.jc_types.specs.declared.ids.ClassId.{ClassId}
 use Rattle.jc_types.specs.declared.ids.MethodId.{MethodId}
 use Rattle.jc_types.specs.Accessors.{is_interface}
@@ -9,7 +11,7 @@ use Rattle.jc_running.specs.declared.value.Value.{Value}
 use Rattle.jc_running.specs.declared.value.Value.TheVariants.{Whole, Long, Address, Null}
 use Rattle.jc_running.specs.declared.value.Readiness.{Readiness}
 use Rattle.jc_running.specs.declared.value.Readiness.TheVariants.{Untouched, Begun, Ready, Failed}
-use Rattle.jc_running.specs.Outcomes.{Run, Out, give, throw, wrong, stop, bind, behind, node, Completion, WithOneUnitMore}
+use Rattle.jc_running.specs.Outcomes.{Run, Out, Val, Thrown, Exited, Going, Wrong, give, throw, wrong, stop, bind, behind, node, Completion, WithOneUnitMore}
 use Rattle.jc_running.proofs.Smooth.{Smooth, Quiet, smooth_less, smooth_node, smooth_first, smooth_stop, node_goes_on}
 use Rattle.jc_heaps.specs.States.{State, shown_of}
 use Rattle.jc_heaps.specs.Numbers.{whole_of}
@@ -23,7 +25,7 @@ use Rattle.jc_meaning.specs.Programs.{body_of, initialiser_of, method_class}
 use Rattle.jc_meaning.specs.Expressions.{Inner}
 use Rattle.jc_meaning.specs.Classes.{set_readiness, if_superclass, superclass_first, run_initialiser, as_error, initialise, use_class, ready_by}
 use Rattle.jc_meaning.specs.Natives.{Native, HashCode, ClassName, Put, ReadByte, Halt, native_of, native_act, address_in}
-use Rattle.jc_meaning.specs.Meaning.{Meaning, inner_of, written_body, native_or, body_act, meaning, run_static, outcome, first_state}
+use Rattle.jc_meaning.specs.Meaning.{Meaning, inner_of, written_body, native_or, body_act, meaning, run_static, run_main, argument_strings, outcome, main_outcome, first_state, seen, is_over}
 use Rattle.jc_meaning.proofs.SmoothCalls as c
 use Rattle.jc_meaning.proofs.SmoothExpressions as e
 use Rattle.jc_meaning.proofs.SmoothExpressions.{Levels}
@@ -151,3 +153,44 @@ run_goes_on P m input n =
     node_goes_on TypedState shown_of n n (run_static P m n) (run_static P m (suc n)) (first_state P m input)
     (andso n ((smooths P n).readies (method_class P.table m)) (λ _. c.calls_static n P _ _ (smooths P n).bodies m [] []))
     (omega arith)
+
+module _ (D : ℕ) (P : TypedProgram) where
+  arguments_s : (texts : List (List ℕ)) → Smooth TypedState shown_of D 0 (argument_strings P texts) (argument_strings P texts)
+  arguments_s [] = gives D []
+  arguments_s (text ∷ texts) =
+    andso D (h.makes_string Ty Frame (List Read) D (typed_keeping P.table) P.table P.known text) (λ v. andso D (arguments_s texts) (λ vs. gives D (v ∷ vs)))
+
+-- a run of a main method with one unit more
+pub main_goes_on : (P : TypedProgram) (m : MethodId) (args : List (List ℕ)) (input : List ℕ) (n : ℕ) → WithOneUnitMore shown_of (main_outcome P m args input n) (main_outcome P m args input (suc n))
+main_goes_on P m args input n =
+    node_goes_on TypedState shown_of n n (run_main P m args n) (run_main P m args (suc n)) (first_state P m input)
+      (andso n (arguments_s n P args) (λ vs.
+       andso n (h.makes Ty Frame (List Read) n (record { kept = array_over 0 (Class P.known.string []); parts = vs })) (λ a.
+       andso n ((smooths P n).readies (method_class P.table m)) (λ _. c.calls_static n P _ _ (smooths P n).bodies m (Address a ∷ []) []))))
+      (omega arith)
+
+-- what is over stays as it is
+record Stays (P : TypedProgram) (o o' : Out TypedState Value) : Type 0 where
+  over : is_over o' ≡ true
+  same : seen P o' ≡ seen P o
+
+stays_once : (P : TypedProgram) (o o' : Out TypedState Value) → is_over o ≡ true → WithOneUnitMore shown_of o o' → Stays P o o'
+stays_once P (Val v u s) o' h g = record { over = rw g refl; same = rw g refl }
+stays_once P (Thrown a u s) o' h g = record { over = rw g refl; same = rw g refl }
+stays_once P (Exited code s) o' h g = record { over = rw g refl; same = rw g refl }
+stays_once P (Going s) o' h g = cc
+stays_once P Wrong o' h g = record { over = rw g refl; same = rw g refl }
+
+stays_on : (P : TypedProgram) (f : ℕ → Out TypedState Value) → ((n : ℕ) → WithOneUnitMore shown_of (f n) (f (suc n))) → (n k : ℕ) → is_over (f n) ≡ true → Stays P (f n) (f (n + k))
+stays_on P f g n zero h = let e : n ≡ n + 0 = omega arith in subst (λ i. Stays P (f n) (f i)) e (record { over = h; same = refl })
+stays_on P f g n (suc k) h =
+    let first : Stays P (f n) (f (n + k)) = stays_on P f g n k h in
+    let once : Stays P (f (n + k)) (f (suc (n + k))) = stays_once P (f (n + k)) (f (suc (n + k))) first.over (g (n + k)) in
+    let e : suc (n + k) ≡ n + suc k = omega arith in
+    subst (λ i. Stays P (f n) (f i)) e (record { over = once.over; same = once.same ∙ first.same })
+
+pub run_stays : (P : TypedProgram) (m : MethodId) (input : List ℕ) (n k : ℕ) → is_over (outcome P m input n) ≡ true → seen P (outcome P m input (n + k)) ≡ seen P (outcome P m input n)
+run_stays P m input n k h = (stays_on P (outcome P m input) (run_goes_on P m input) n k h).same
+
+pub main_stays : (P : TypedProgram) (m : MethodId) (args : List (List ℕ)) (input : List ℕ) (n k : ℕ) → is_over (main_outcome P m args input n) ≡ true → seen P (main_outcome P m args input (n + k)) ≡ seen P (main_outcome P m args input n)
+main_stays P m args input n k h = (stays_on P (main_outcome P m args input) (main_goes_on P m args input) n k h).same

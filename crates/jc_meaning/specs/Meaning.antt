@@ -1,7 +1,7 @@
 -- What a typed program does, by recursion on a depth. Expressions, statements, bodies of methods and initialisations of classes are
 -- nodes, each of which spends a unit as it is entered and another as it is left; a turn of a loop, a byte out or in, a failed check
 -- and an exit spend one. Each level of depth spends one, so that where the depth isn't below the units it never runs out first.
-use Rattle.std.specs.Prelude.{ℕ, zero, suc, ◌+◌, List, [], ◌∷◌, map, length, replicate, Option, Some, None, slice_get}
+use Rattle.std.specs.Prelude.{ℕ, zero, suc, Bool, true, false, List, [], ◌∷◌, map, length, replicate, Option, Some, None, slice_get}
 use Rattle.jc_types.specs.declared.ids.ClassId.{ClassId}
 use Rattle.jc_types.specs.declared.ids.FieldId.{FieldId}
 use Rattle.jc_types.specs.declared.ids.MethodId.{MethodId}
@@ -126,3 +126,11 @@ seen P (Thrown a u s) = Some (seen_with s (Threw (class_name P (slice_get s.heap
 seen P (Exited code s) = Some (seen_with s (EndedWith code))
 seen P (Going s) = Some (seen_with s GoesOn)
 seen P Wrong = None
+
+-- a run that is over: it came to its end, threw, or exited
+abbrev pub is_over : Out TypedState Value → Bool
+is_over (Val v u s) = true
+is_over (Thrown a u s) = true
+is_over (Exited code s) = true
+is_over (Going s) = false
+is_over Wrong = true

@@ -1,18 +1,25 @@
-ghost use Rattle.std.specs.Prelude.{◌≡◌, ℕ, suc, List};
+ghost use Rattle.std.specs.Prelude.{◌≡◌, ℕ, suc, ◌+◌, true, List};
 ghost use Rattle.jc_types.specs.declared.form.Ty.{Ty};
 ghost use Rattle.jc_types.specs.declared.ids.MethodId.{MethodId};
 ghost use Rattle.jc_types.specs.declared.table.Table.{Table};
 ghost use Rattle.jc_typed.specs.declared.program.TypedProgram.{TypedProgram};
 ghost use Rattle.jc_running.specs.Outcomes.{WithOneUnitMore};
 ghost use Rattle.jc_heaps.specs.States.{shown_of};
-ghost use Rattle.jc_meaning.specs.Meaning.{outcome};
+ghost use Rattle.jc_meaning.specs.Meaning.{is_over, main_outcome, outcome, seen};
 ghost use Rattle.jc_meaning.specs.Levels.{BelowAt, FitsAt, SoundAt};
 
-/// A run with one unit more: one that had come to an end is the same; one that was going on shows the same or one thing more,
-/// a byte out, a byte in or a failed check, or it comes to its end and shows nothing more.
-#[tactic(auto, using(crate::proofs::SmoothMeaning::run_goes_on))]
+/// A run with one unit more, of a static method without parameters and of a main method: one that had come to an end is the same;
+/// one that was going on shows the same or one thing more, a byte out, a byte in or a failed check, or it comes to its end and
+/// shows nothing more.
 pub fn one_unit_more()
-    ensures { (P : TypedProgram) (m : MethodId) (input : List ℕ) (n : ℕ) → WithOneUnitMore shown_of (outcome P m input n) (outcome P m input (suc n)) }
+    ensures methods { (P : TypedProgram) (m : MethodId) (input : List ℕ) (n : ℕ) → WithOneUnitMore shown_of (outcome P m input n) (outcome P m input (suc n)) }
+    ensures mains { (P : TypedProgram) (m : MethodId) (args : List (List ℕ)) (input : List ℕ) (n : ℕ) → WithOneUnitMore shown_of (main_outcome P m args input n) (main_outcome P m args input (suc n)) }
+{}
+
+/// A run that is over shows the same with any number of units more.
+pub fn ended_runs_stay()
+    ensures methods { (P : TypedProgram) (m : MethodId) (input : List ℕ) (n k : ℕ) → is_over (outcome P m input n) ≡ true → seen P (outcome P m input (n + k)) ≡ seen P (outcome P m input n) }
+    ensures mains { (P : TypedProgram) (m : MethodId) (args : List (List ℕ)) (input : List ℕ) (n k : ℕ) → is_over (main_outcome P m args input n) ≡ true → seen P (main_outcome P m args input (n + k)) ≡ seen P (main_outcome P m args input n) }
 {}
 
 /// Below is transitive at each level, and what is below, fits or is sound at a level is so at the smaller one.

@@ -4,4 +4,4 @@
 
 mod laws;
 
-pub use laws::{levels_go_down, one_unit_more};
+pub use laws::{ended_runs_stay, levels_go_down, one_unit_more};
