@@ -3,3 +3,4 @@ pub mod Numbers
 pub mod Classes
 pub mod Layout
 pub mod Making
+pub mod Erases

@@ -1,31 +1,29 @@
 -- Calls and steps are smooth in their units where the bodies that they run are.
-use Rattle.std.proofs.Common.{◌≡◌, ℕ, suc, ◌+◌, ◌≤◌, List, [], ◌∷◌, ◌++◌, refl, arith}
-use Rattle.std.specs.Prelude.{Bool, true, false, Option, Some, None, slice_get}
+use Rattle.std.proofs.Common.{ℕ, List, [], ◌∷◌}
+use Rattle.std.specs.Prelude.{Option, Some, None}
 use Rattle.jc_types.specs.declared.form.Ty.{Ty}
 use Rattle.jc_types.specs.declared.ids.ClassId.{ClassId}
 use Rattle.jc_types.specs.declared.ids.MethodId.{MethodId}
 use Rattle.jc_types.specs.declared.erased.Erased.{Erased}
-use Rattle.jc_types.specs.declared.table.Table.{Table}
 use Rattle.jc_types.specs.Accessors.{params_of, result_of}
 use Rattle.jc_types.specs.Erasing.{erasure}
 use Rattle.jc_running.specs.declared.value.Value.{Value}
 use Rattle.jc_running.specs.declared.value.Value.TheVariants.{Address}
 use Rattle.jc_running.specs.declared.seen.Check.TheVariants.{EntryGuard}
-use Rattle.jc_running.specs.Shows.{Shown}
-use Rattle.jc_running.specs.Outcomes.{Run, give, wrong, bind, behind, Completion, Normal, Broke, Continued, Returned}
+use Rattle.jc_running.specs.Outcomes.{give, wrong, bind, Completion, Normal, Broke, Continued, Returned}
 use Rattle.jc_running.proofs.Smooth.{Smooth}
-use Rattle.jc_heaps.specs.States.{Object, State, shown_of}
+use Rattle.jc_heaps.specs.States.{Object, shown_of}
 use Rattle.jc_heaps.specs.Classes.{is_of, same_erased, methods_class}
 use Rattle.jc_heaps.specs.Numbers.{converted}
-use Rattle.jc_heaps.proofs.Plain.{seq, both, soft}
+use Rattle.jc_heaps.proofs.Plain.{seq, soft}
 use Rattle.jc_heaps.proofs.SmoothHeaps as h
 use Rattle.jc_typed.specs.declared.program.BoxedIn.{BoxedIn}
 use Rattle.jc_typed.specs.declared.program.TypedProgram.{TypedProgram}
 use Rattle.jc_typed.specs.Trees.{Step, Widen, Narrow, BoxUp, Unbox, Up, Test}
 use Rattle.jc_meaning.specs.Kept.{Frame, Read, TypedState, TypedRun, typed_keeping}
 use Rattle.jc_meaning.specs.Programs.{selected}
-use Rattle.jc_meaning.specs.Calls.{Bodies, answer_of, frame_of, first_locals, run_method, call_static, call_direct, entered, entered_all, answered, call_selected, call_virtual}
-use Rattle.jc_meaning.specs.Steps.{Ready, box_of, boxed, unboxed, step, steps}
+use Rattle.jc_meaning.specs.Calls.{Bodies, answer_of, run_method, call_static, call_direct, entered, entered_all, answered, call_selected, call_virtual}
+use Rattle.jc_meaning.specs.Steps.{Ready, box_of, boxed, step, steps}
 
 module _ (D : ℕ) where
   abbrev pub Steady : {A : Type 0} → TypedRun A → TypedRun A → Type 0

@@ -1,6 +1,6 @@
 -- What a program does is smooth in its units.
-use Rattle.std.proofs.Common.{◌≡◌, ℕ, zero, suc, ◌+◌, ◌≤◌, List, [], ◌∷◌, inl, inr, refl, subst, ◌∙◌, arith}
-use Rattle.std.specs.Prelude.{Bool, true, false, Option, Some, None, slice_get, if◌then◌else◌}
+use Rattle.std.proofs.Common.{◌≡◌, ℕ, zero, suc, ◌+◌, List, [], ◌∷◌, inl, inr, refl, subst, ◌∙◌, arith}
+use Rattle.std.specs.Prelude.{Bool, true, false, Option, Some, None, if◌then◌else◌}
 use Rattle.jc_types.specs.Arrays.{array_over}
 use Rattle.jc_types.specs.declared.form.Ty.{Ty}
 use Rattle.jc_types.specs.declared.form.Ty.TheVariants.{Class}
@@ -11,18 +11,17 @@ use Rattle.jc_running.specs.declared.value.Value.{Value}
 use Rattle.jc_running.specs.declared.value.Value.TheVariants.{Whole, Long, Address, Null}
 use Rattle.jc_running.specs.declared.value.Readiness.{Readiness}
 use Rattle.jc_running.specs.declared.value.Readiness.TheVariants.{Untouched, Begun, Ready, Failed}
-use Rattle.jc_running.specs.Outcomes.{Run, Out, Val, Thrown, Exited, Going, Wrong, give, throw, wrong, stop, bind, behind, node, Completion, WithOneUnitMore}
-use Rattle.jc_running.proofs.Smooth.{Smooth, Quiet, smooth_less, smooth_node, smooth_first, smooth_stop, node_goes_on}
-use Rattle.jc_heaps.specs.States.{State, shown_of}
+use Rattle.jc_running.specs.Outcomes.{Out, Val, Thrown, Exited, Going, Wrong, give, stop, bind, Completion, WithOneUnitMore}
+use Rattle.jc_running.proofs.Smooth.{Smooth, smooth_less, smooth_node, smooth_first, smooth_stop, node_goes_on}
+use Rattle.jc_heaps.specs.States.{shown_of}
 use Rattle.jc_heaps.specs.Numbers.{whole_of}
-use Rattle.jc_heaps.specs.Classes.{superclass_of, is_subclass}
-use Rattle.jc_heaps.proofs.Plain.{seq, both, soft}
+use Rattle.jc_heaps.specs.Classes.{superclass_of}
+use Rattle.jc_heaps.proofs.Plain.{seq, both}
 use Rattle.jc_heaps.proofs.SmoothHeaps as h
 use Rattle.jc_typed.specs.declared.program.TypedProgram.{TypedProgram}
 use Rattle.jc_typed.specs.Trees.{Expr, Stmt}
 use Rattle.jc_meaning.specs.Kept.{Frame, Read, TypedState, TypedRun, typed_keeping}
 use Rattle.jc_meaning.specs.Programs.{body_of, initialiser_of, method_class}
-use Rattle.jc_meaning.specs.Expressions.{Inner}
 use Rattle.jc_meaning.specs.Classes.{set_readiness, if_superclass, superclass_first, run_initialiser, as_error, initialise, use_class, ready_by}
 use Rattle.jc_meaning.specs.Natives.{Native, HashCode, ClassName, Put, ReadByte, Halt, native_of, native_act, address_in}
 use Rattle.jc_meaning.specs.Meaning.{Meaning, inner_of, written_body, native_or, body_act, meaning, run_static, run_main, argument_strings, outcome, main_outcome, first_state, seen, is_over}
@@ -158,16 +157,16 @@ module _ (D : ℕ) (P : TypedProgram) where
   arguments_s : (texts : List (List ℕ)) → Smooth TypedState shown_of D 0 (argument_strings P texts) (argument_strings P texts)
   arguments_s [] = gives D []
   arguments_s (text ∷ texts) =
-    andso D (h.makes_string Ty Frame (List Read) D (typed_keeping P.table) P.table P.known text) (λ v. andso D (arguments_s texts) (λ vs. gives D (v ∷ vs)))
+      andso D (h.makes_string Ty Frame (List Read) D (typed_keeping P.table) P.table P.known text) (λ v. andso D (arguments_s texts) (λ vs. gives D (v ∷ vs)))
 
 -- a run of a main method with one unit more
 pub main_goes_on : (P : TypedProgram) (m : MethodId) (args : List (List ℕ)) (input : List ℕ) (n : ℕ) → WithOneUnitMore shown_of (main_outcome P m args input n) (main_outcome P m args input (suc n))
 main_goes_on P m args input n =
     node_goes_on TypedState shown_of n n (run_main P m args n) (run_main P m args (suc n)) (first_state P m input)
-      (andso n (arguments_s n P args) (λ vs.
-       andso n (h.makes Ty Frame (List Read) n (record { kept = array_over 0 (Class P.known.string []); parts = vs })) (λ a.
-       andso n ((smooths P n).readies (method_class P.table m)) (λ _. c.calls_static n P _ _ (smooths P n).bodies m (Address a ∷ []) []))))
-      (omega arith)
+    (andso n (arguments_s n P args) (λ vs.
+    andso n (h.makes Ty Frame (List Read) n (record { kept = array_over 0 (Class P.known.string []); parts = vs })) (λ a.
+    andso n ((smooths P n).readies (method_class P.table m)) (λ _. c.calls_static n P _ _ (smooths P n).bodies m (Address a ∷ []) []))))
+    (omega arith)
 
 -- what is over stays as it is
 record Stays (P : TypedProgram) (o o' : Out TypedState Value) : Type 0 where

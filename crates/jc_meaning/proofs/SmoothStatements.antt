@@ -1,27 +1,26 @@
 -- Statements are smooth in their units where their parts are.
-use Rattle.std.proofs.Common.{◌≡◌, ℕ, zero, suc, ◌+◌, ◌≤◌, List, [], ◌∷◌, ◌++◌, ◌⊎◌, inl, inr, refl, sym, subst, arith}
-use Rattle.std.specs.Prelude.{ℤ, pos, Bool, true, false, Option, Some, None, drop, int_lt, ◌==◌, if◌then◌else◌}
+use Rattle.std.proofs.Common.{◌≡◌, ℕ, suc, ◌≤◌, List, [], ◌∷◌, ◌⊎◌, inl, inr, sym, subst, arith}
+use Rattle.std.specs.Prelude.{pos, Bool, true, false, Option, Some, None, drop, ◌==◌, if◌then◌else◌}
 use Rattle.jc_rules.specs.declared.rule.Place.{Place}
 use Rattle.jc_types.specs.declared.form.Ty.{Ty}
 use Rattle.jc_types.specs.declared.ids.FieldId.{FieldId}
 use Rattle.jc_types.specs.declared.erased.Erased.{Erased}
 use Rattle.jc_running.specs.declared.value.Value.{Value}
 use Rattle.jc_running.specs.declared.value.Value.TheVariants.{Whole, Long, Address, Null}
-use Rattle.jc_running.specs.Outcomes.{Run, give, throw, wrong, bind, behind, Completion, Normal, Broke, Continued, Returned, next, instead, Turn, Again, Last, turns}
+use Rattle.jc_running.specs.Outcomes.{give, throw, bind, Completion, Normal, Broke, Continued, Returned, Turn, turns}
 use Rattle.jc_running.proofs.Smooth.{Smooth, smooth_less, smooth_next, smooth_instead, smooth_turns, smooth_stop}
-use Rattle.jc_heaps.specs.States.{State, shown_of, set_local, local}
+use Rattle.jc_heaps.specs.States.{shown_of}
 use Rattle.jc_heaps.specs.Numbers.{whole_of}
 use Rattle.jc_heaps.specs.Layout.{is_static}
 use Rattle.jc_heaps.proofs.Plain.{seq, both, soft}
 use Rattle.jc_heaps.proofs.SmoothHeaps as h
 use Rattle.jc_typed.specs.declared.lists.Capture.{Capture}
-use Rattle.jc_typed.specs.declared.lists.Case.{Case}
 use Rattle.jc_typed.specs.declared.program.TypedProgram.{TypedProgram}
-use Rattle.jc_typed.specs.Trees.{Step, Operand, Operands, Declared, NoDeclared, MoreDeclared, Stmt, stmt, StmtForm, Empty, Block, Locals, Effect, If, Labelled, While, Do, For, ForArray, ForIterable, Switch, Return, Break, Continue, Throw, Try, Construct, Initialise, Stmts, Arms, NoArms, MoreArms, Catches, NoCatches, MoreCatches}
+use Rattle.jc_typed.specs.Trees.{Step, Declared, NoDeclared, MoreDeclared, Stmt, stmt, StmtForm, Empty, Block, Locals, Effect, If, Labelled, While, Do, For, ForArray, ForIterable, Switch, Return, Break, Continue, Throw, Try, Construct, Initialise, Arms, NoArms, MoreArms, Catches, NoCatches, MoreCatches}
 use Rattle.jc_meaning.specs.Kept.{Frame, Read, TypedState, TypedRun, typed_keeping}
-use Rattle.jc_meaning.specs.Programs.{stmt_list, operand_list}
+use Rattle.jc_meaning.specs.Programs.{stmt_list}
 use Rattle.jc_meaning.specs.Expressions.{Inner}
-use Rattle.jc_meaning.specs.Statements.{run_all, set_first, declare, if_any, after_body, while_turn, do_turn, loop, true_or, take_element, is_before, array_turn, iterator_turn, labelled, default_in, or_else, run_from, switched, is_any_of, caught, catch, try, finally, initialise, normally, form_act, stmt_act}
+use Rattle.jc_meaning.specs.Statements.{run_all, set_first, declare, if_any, after_body, while_turn, do_turn, take_element, is_before, array_turn, iterator_turn, run_from, is_any_of, caught, try, finally, initialise, form_act, stmt_act}
 use Rattle.jc_meaning.proofs.SmoothExpressions as e
 use Rattle.jc_meaning.proofs.SmoothExpressions.{Levels}
 

@@ -1,21 +1,19 @@
 -- Calls of methods and constructors (JLS 15.12.4).
-use Rattle.std.specs.Prelude.{ℕ, ◌-◌, List, [], ◌∷◌, ◌++◌, map, length, replicate, Option, Some, None, if◌then◌else◌}
-use Rattle.jc_types.specs.declared.ids.ClassId.{ClassId}
+use Rattle.std.specs.Prelude.{ℕ, ◌-◌, List, [], ◌∷◌, ◌++◌, length, replicate, Option, Some, None, if◌then◌else◌}
 use Rattle.jc_types.specs.declared.ids.MethodId.{MethodId}
 use Rattle.jc_types.specs.declared.form.Ty.{Ty}
 use Rattle.jc_types.specs.declared.erased.Erased.{Erased}
-use Rattle.jc_types.specs.declared.table.Table.{Table}
 use Rattle.jc_types.specs.Accessors.{method_vars_of, params_of, result_of}
 use Rattle.jc_types.specs.Erasing.{erasure}
 use Rattle.jc_running.specs.declared.value.Value.{Value}
 use Rattle.jc_running.specs.declared.value.Value.TheVariants.{Address, Null}
 use Rattle.jc_running.specs.declared.seen.Check.TheVariants.{EntryGuard}
-use Rattle.jc_running.specs.Outcomes.{Run, give, wrong, bind, behind, Completion, Normal, Broke, Continued, Returned}
-use Rattle.jc_heaps.specs.States.{Object, State, object_at, in_frame}
+use Rattle.jc_running.specs.Outcomes.{give, wrong, bind, Completion, Normal, Broke, Continued, Returned}
+use Rattle.jc_heaps.specs.States.{Object, object_at, in_frame}
 use Rattle.jc_heaps.specs.Classes.{is_of, same_erased, methods_class}
-use Rattle.jc_heaps.specs.Making.{Keeping, address_of, checked}
+use Rattle.jc_heaps.specs.Making.{address_of, checked}
 use Rattle.jc_typed.specs.declared.program.TypedProgram.{TypedProgram}
-use Rattle.jc_meaning.specs.Kept.{Binding, bindings, class_bindings, Frame, TypedState, TypedRun, unsaid_all, typed_keeping}
+use Rattle.jc_meaning.specs.Kept.{Binding, bindings, class_bindings, Frame, TypedRun, unsaid_all, typed_keeping}
 use Rattle.jc_meaning.specs.Programs.{captured_of, locals_of, method_class, selected}
 
 -- what runs a method's body in its own variables

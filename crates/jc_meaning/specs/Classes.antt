@@ -1,15 +1,14 @@
 -- The initialisation of classes and interfaces (JLS 12.4).
-use Rattle.std.specs.Prelude.{ℕ, List, [], Option, Some, None, slice_get, slice_set, if◌then◌else◌}
+use Rattle.std.specs.Prelude.{ℕ, [], Option, Some, None, slice_get, slice_set, if◌then◌else◌}
 use Rattle.jc_types.specs.declared.ids.ClassId.{ClassId}
 use Rattle.jc_types.specs.declared.ids.MethodId.{MethodId}
-use Rattle.jc_types.specs.declared.table.Table.{Table}
 use Rattle.jc_types.specs.Accessors.{is_interface}
 use Rattle.jc_running.specs.declared.value.Readiness.{Readiness}
 use Rattle.jc_running.specs.declared.value.Readiness.TheVariants.{Untouched, Begun, Ready as IsReady, Failed}
-use Rattle.jc_running.specs.Outcomes.{Run, give, throw, both_ways, bind, behind, node}
-use Rattle.jc_heaps.specs.States.{State, Object, look, change, object_at}
+use Rattle.jc_running.specs.Outcomes.{give, throw, both_ways, bind, behind}
+use Rattle.jc_heaps.specs.States.{look, change, object_at}
 use Rattle.jc_heaps.specs.Classes.{superclass_of, is_subclass, methods_class}
-use Rattle.jc_heaps.specs.Making.{Keeping, raise}
+use Rattle.jc_heaps.specs.Making.{raise}
 use Rattle.jc_typed.specs.declared.program.TypedProgram.{TypedProgram}
 use Rattle.jc_meaning.specs.Kept.{TypedRun, typed_keeping}
 use Rattle.jc_meaning.specs.Programs.{initialiser_of}

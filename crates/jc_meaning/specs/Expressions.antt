@@ -1,12 +1,11 @@
 -- What expressions do (JLS 15).
-use Rattle.std.specs.Prelude.{ℕ, zero, suc, ◌+◌, ◌-◌, ◌==◌, ℤ, pos, Bool, true, false, List, [], ◌∷◌, ◌++◌, map, length, replicate, Option, Some, None, slice_get, slice_set, if◌then◌else◌, int_lt, unsigned_abs}
+use Rattle.std.specs.Prelude.{ℕ, zero, suc, ◌-◌, ℤ, pos, Bool, true, false, List, [], ◌∷◌, ◌++◌, length, replicate, Option, Some, None, slice_get, slice_set, if◌then◌else◌, int_lt, unsigned_abs}
 use Rattle.jc_rules.specs.declared.rule.Place.{Place}
 use Rattle.jc_types.specs.declared.ids.ClassId.{ClassId}
 use Rattle.jc_types.specs.declared.ids.CaptureId.{CaptureId}
 use Rattle.jc_types.specs.declared.ids.FieldId.{FieldId}
 use Rattle.jc_types.specs.declared.ids.MethodId.{MethodId}
-use Rattle.jc_types.specs.declared.form.Ty.{Ty, Ty-F, out-Ty}
-use Rattle.jc_types.specs.declared.form.Arg.{Arg}
+use Rattle.jc_types.specs.declared.form.Ty.{Ty}
 use Rattle.jc_types.specs.declared.form.Primitive.{Primitive}
 use Rattle.jc_types.specs.declared.form.Primitive.TheVariants.{Long as LongType}
 use Rattle.jc_types.specs.declared.constant.Constant.{Constant}
@@ -18,10 +17,10 @@ use Rattle.jc_types.specs.Arrays.{element}
 use Rattle.jc_types.specs.Erasing.{erasure}
 use Rattle.jc_running.specs.declared.value.Value.{Value}
 use Rattle.jc_running.specs.declared.value.Value.TheVariants.{Whole, Long, Address, Null as NullValue}
-use Rattle.jc_running.specs.Outcomes.{Run, Val, give, wrong, bind, behind}
-use Rattle.jc_heaps.specs.States.{Object, State, look, change, some_or_wrong, local, set_local, object_at, set_part}
+use Rattle.jc_running.specs.Outcomes.{Val, give, wrong, bind, behind}
+use Rattle.jc_heaps.specs.States.{Object, look, change, some_or_wrong, local, set_local, object_at, set_part}
 use Rattle.jc_heaps.specs.Numbers.{truth, operated, prefixed, stepped, boolean_of, whole_of}
-use Rattle.jc_heaps.specs.Classes.{object_class, element_of}
+use Rattle.jc_heaps.specs.Classes.{element_of}
 use Rattle.jc_heaps.specs.Layout.{field_class, slot_of, default_erased, new_fields}
 use Rattle.jc_heaps.specs.Making.{Keeping, make, raise, constant_string, address_of, place_of, passes, store, given}
 use Rattle.jc_typed.specs.declared.expressions.CallKind.{CallKind}
@@ -34,7 +33,7 @@ use Rattle.jc_typed.specs.declared.lists.Capture.{Capture}
 use Rattle.jc_typed.specs.declared.program.Printing.{Printing}
 use Rattle.jc_typed.specs.declared.program.TypedProgram.{TypedProgram}
 use Rattle.jc_typed.specs.Trees.{Step, Expr, NoExpr, expr, Operand, NoOperand, operand, Form, Fixed, Null, Local, This, StaticField, Field, Element, Length, Prefix, Chain, AllOf, AnyOf, InstanceOf, Conditional, Assign, Compound, Change, Call, New, NewArray, ArrayOf, Cast, Variable, LocalVariable, StaticVariable, FieldVariable, ElementVariable, Operands, Links, NoLinks, MoreLinks}
-use Rattle.jc_meaning.specs.Kept.{Frame, Read, TypedState, TypedRun, arguments_as, kept_by, kept_array, typed_keeping, closed, closed_in, closed_all, unsaid, set_captured}
+use Rattle.jc_meaning.specs.Kept.{TypedState, TypedRun, arguments_as, kept_by, kept_array, typed_keeping, closed, closed_in, closed_all, unsaid, set_captured}
 use Rattle.jc_meaning.specs.Programs.{operand_list, captured_of, method_class}
 use Rattle.jc_meaning.specs.Calls.{Bodies, call_static, call_direct, call_virtual}
 use Rattle.jc_meaning.specs.Steps.{Ready, steps}

@@ -1,8 +1,8 @@
 -- The types that a running program keeps: what objects keep of theirs, and what type variables stand for.
-use Rattle.std.specs.Prelude.{ℕ, zero, suc, ◌+◌, ◌-◌, ◌==◌, Bool, List, [], ◌∷◌, ◌++◌, map, length, replicate, Option, Some, None, slice_get, slice_set, get_or, if◌then◌else◌}
+use Rattle.std.specs.Prelude.{◌==◌, List, [], ◌∷◌, ◌++◌, map, length, replicate, Option, Some, None, slice_set, get_or, if◌then◌else◌}
 use Rattle.jc_rules.specs.declared.rule.Place.{Place}
 use Rattle.jc_types.specs.declared.form.Ty.{Ty, Ty-F, out-Ty, roll-Ty, fold-Ty}
-use Rattle.jc_types.specs.declared.form.Ty.TheVariants.{Class, Raw, NullTy, Prim, Array}
+use Rattle.jc_types.specs.declared.form.Ty.TheVariants.{Class, NullTy, Prim, Array}
 use Rattle.jc_types.specs.declared.form.Arg.{Arg, Arg-F, out-Arg, roll-Arg}
 use Rattle.jc_types.specs.declared.form.Arg.TheVariants.{Exact, Any}
 use Rattle.jc_types.specs.declared.form.Primitive.TheVariants.{Char}
@@ -17,9 +17,8 @@ use Rattle.jc_types.specs.Arrays.{array_over}
 use Rattle.jc_types.specs.Erasing.{erasure}
 use Rattle.jc_judge.specs.Views.{view}
 use Rattle.jc_running.specs.declared.value.Value.{Value}
-use Rattle.jc_running.specs.declared.value.Value.TheVariants.{Address}
-use Rattle.jc_running.specs.Outcomes.{Run, give, bind, behind}
-use Rattle.jc_heaps.specs.States.{Object, State, look, change}
+use Rattle.jc_running.specs.Outcomes.{Run, give}
+use Rattle.jc_heaps.specs.States.{State, change}
 use Rattle.jc_heaps.specs.Making.{Keeping}
 
 -- what a type variable stands for

@@ -1,5 +1,5 @@
 -- What it means that a value's kept type fits a type, and that one type is below another, level by level (JLS 4.5.1, 4.10).
-use Rattle.std.specs.Prelude.{◌≡◌, ℕ, zero, suc, ◌==◌, ◌||◌, not, Bool, true, false, Option, Some, None, List, [], ◌∷◌, length, map}
+use Rattle.std.specs.Prelude.{◌≡◌, ℕ, zero, suc, ◌==◌, ◌||◌, not, Bool, true, false, Some, List, [], ◌∷◌, length, map}
 use Rattle.jc_types.specs.declared.form.Ty.{Ty, Ty-F, out-Ty}
 use Rattle.jc_types.specs.declared.form.Ty.TheVariants.{Class}
 use Rattle.jc_types.specs.declared.form.Arg.{Arg, Arg-F, out-Arg}

@@ -1,9 +1,8 @@
 -- What a typed program does, by recursion on a depth. Expressions, statements, bodies of methods and initialisations of classes are
 -- nodes, each of which spends a unit as it is entered and another as it is left; a turn of a loop, a byte out or in, a failed check
 -- and an exit spend one. Each level of depth spends one, so that where the depth isn't below the units it never runs out first.
-use Rattle.std.specs.Prelude.{ℕ, zero, suc, Bool, true, false, List, [], ◌∷◌, map, length, replicate, Option, Some, None, slice_get}
+use Rattle.std.specs.Prelude.{ℕ, zero, suc, Bool, true, false, List, [], ◌∷◌, length, replicate, Option, Some, None, slice_get}
 use Rattle.jc_types.specs.declared.ids.ClassId.{ClassId}
-use Rattle.jc_types.specs.declared.ids.FieldId.{FieldId}
 use Rattle.jc_types.specs.declared.ids.MethodId.{MethodId}
 use Rattle.jc_types.specs.declared.form.Ty.{Ty}
 use Rattle.jc_types.specs.declared.table.Table.{Table}
@@ -17,13 +16,13 @@ use Rattle.jc_running.specs.declared.seen.Ending.{Ending}
 use Rattle.jc_running.specs.declared.seen.Ending.TheVariants.{Going as GoesOn, Ended, Threw, Exited as EndedWith}
 use Rattle.jc_running.specs.declared.value.Readiness.TheVariants.{Untouched}
 use Rattle.jc_running.specs.Shows.{nothing_shown}
-use Rattle.jc_running.specs.Outcomes.{Out, Val, Thrown, Exited, Going, Wrong, Run, give, wrong, stop, bind, behind, node, Completion, Returned}
-use Rattle.jc_heaps.specs.States.{State, Object}
+use Rattle.jc_running.specs.Outcomes.{Out, Val, Thrown, Exited, Going, Wrong, give, wrong, stop, bind, behind, node, Completion, Returned}
+use Rattle.jc_heaps.specs.States.{Object}
 use Rattle.jc_heaps.specs.Layout.{default_of}
 use Rattle.jc_heaps.specs.Making.{make, make_string}
 use Rattle.jc_typed.specs.declared.program.TypedProgram.{TypedProgram}
 use Rattle.jc_typed.specs.Trees.{Expr, Stmt}
-use Rattle.jc_meaning.specs.Kept.{Frame, TypedState, TypedRun, typed_keeping}
+use Rattle.jc_meaning.specs.Kept.{TypedState, TypedRun, typed_keeping}
 use Rattle.jc_meaning.specs.Programs.{body_of, method_class}
 use Rattle.jc_meaning.specs.Calls.{call_static}
 use Rattle.jc_meaning.specs.Expressions.{Inner, expr_act}

@@ -1,5 +1,5 @@
 -- The native methods of the library.
-use Rattle.std.specs.Prelude.{ℕ, zero, suc, ◌+◌, ◌%◌, ◌==◌, ℤ, pos, Bool, List, [], ◌∷◌, ◌++◌, codes, replicate, Option, Some, None, slice_get, if◌then◌else◌}
+use Rattle.std.specs.Prelude.{ℕ, ◌%◌, ◌==◌, ℤ, List, [], ◌++◌, codes, replicate, Option, Some, None, if◌then◌else◌}
 use Rattle.std.specs.Int.{w32, cast_unsigned}
 use Rattle.jc_types.specs.declared.ids.MethodId.{MethodId}
 use Rattle.jc_types.specs.declared.form.Primitive.{Primitive}
@@ -10,9 +10,9 @@ use Rattle.jc_types.specs.declared.erased.Base.TheVariants as base
 use Rattle.jc_types.specs.declared.table.Table.{Table}
 use Rattle.jc_types.specs.Accessors.{binary_of}
 use Rattle.jc_running.specs.declared.value.Value.{Value}
-use Rattle.jc_running.specs.declared.value.Value.TheVariants.{Whole, Address, Null}
-use Rattle.jc_running.specs.Outcomes.{Run, give, wrong, bind, behind, Completion, Returned}
-use Rattle.jc_heaps.specs.States.{Object, State, some_or_wrong, local, object_at}
+use Rattle.jc_running.specs.declared.value.Value.TheVariants.{Address, Null}
+use Rattle.jc_running.specs.Outcomes.{Run, give, wrong, bind, behind}
+use Rattle.jc_heaps.specs.States.{State, some_or_wrong, local, object_at}
 use Rattle.jc_heaps.specs.Numbers.{whole_of}
 use Rattle.jc_heaps.specs.Making.{Keeping, make_string, put_byte, take_byte, exit_with, identity_hash}
 use Rattle.jc_typed.specs.declared.program.Known.{Known}

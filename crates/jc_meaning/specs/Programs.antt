@@ -1,5 +1,5 @@
 -- What a typed program says of its methods and classes.
-use Rattle.std.specs.Prelude.{ℕ, ◌==◌, Bool, true, false, not, ◌&&◌, List, [], ◌∷◌, ◌++◌, length, Option, Some, None, slice_get, if◌then◌else◌}
+use Rattle.std.specs.Prelude.{ℕ, ◌==◌, Bool, true, false, List, [], ◌∷◌, ◌++◌, length, Option, Some, None, slice_get, if◌then◌else◌}
 use Rattle.jc_types.specs.declared.ids.ClassId.{ClassId}
 use Rattle.jc_types.specs.declared.ids.MethodId.{MethodId}
 use Rattle.jc_types.specs.declared.environment.Bounds.{Bounds}
@@ -9,11 +9,10 @@ use Rattle.jc_types.specs.declared.table.Table.{Table}
 use Rattle.jc_types.specs.Accessors.{methods_of, method_owner_of, method_kind_of}
 use Rattle.jc_heaps.specs.Layout.{or_object}
 use Rattle.jc_typed.specs.declared.program.Body.{Body}
-use Rattle.jc_typed.specs.declared.program.Local.{Local as LocalVariable}
 use Rattle.jc_typed.specs.declared.program.TypedMethod.{TypedMethod}
 use Rattle.jc_typed.specs.declared.program.Selection.{Selection}
 use Rattle.jc_typed.specs.declared.program.TypedProgram.{TypedProgram}
-use Rattle.jc_typed.specs.Trees.{Stmt, Stmts, NoStmts, MoreStmts, Expr, Operand, Operands, NoOperands, MoreOperands}
+use Rattle.jc_typed.specs.Trees.{Stmt, Stmts, NoStmts, MoreStmts, Operand, Operands, NoOperands, MoreOperands}
 use Rattle.jc_typed.specs.Parts.{stmts_of, stmt_of}
 
 -- lists of trees, from their first member on

@@ -1,30 +1,27 @@
 -- What statements do (JLS 14).
-use Rattle.std.specs.Prelude.{ℕ, zero, suc, ◌==◌, ℤ, pos, Bool, true, false, List, [], ◌∷◌, drop, Option, Some, None, if◌then◌else◌, int_lt}
-use Rattle.jc_types.specs.declared.ids.ClassId.{ClassId}
+use Rattle.std.specs.Prelude.{ℕ, suc, ◌==◌, ℤ, pos, Bool, true, false, List, [], ◌∷◌, drop, Option, Some, None, if◌then◌else◌, int_lt}
 use Rattle.jc_types.specs.declared.ids.FieldId.{FieldId}
-use Rattle.jc_types.specs.declared.ids.MethodId.{MethodId}
 use Rattle.jc_types.specs.declared.form.Ty.{Ty}
 use Rattle.jc_types.specs.declared.erased.Erased.{Erased}
-use Rattle.jc_types.specs.declared.table.Table.{Table}
 use Rattle.jc_types.specs.Erasing.{erasure}
 use Rattle.jc_rules.specs.declared.rule.Place.{Place}
 use Rattle.jc_running.specs.declared.value.Value.{Value}
 use Rattle.jc_running.specs.declared.value.Value.TheVariants.{Whole, Address, Null}
-use Rattle.jc_running.specs.Outcomes.{Run, give, throw, wrong, both_ways, bind, behind, Completion, Normal, Broke, Continued, Returned, next, instead, broken, Turn, Again, Last, turns}
-use Rattle.jc_heaps.specs.States.{Object, State, some_or_wrong, local, set_local, object_at}
-use Rattle.jc_heaps.specs.Numbers.{int_eq, boolean_of, whole_of}
+use Rattle.jc_running.specs.Outcomes.{give, throw, wrong, both_ways, bind, behind, Completion, Normal, Broke, Continued, Returned, next, instead, broken, Turn, Again, Last, turns}
+use Rattle.jc_heaps.specs.States.{some_or_wrong, local, set_local, object_at}
+use Rattle.jc_heaps.specs.Numbers.{int_eq, whole_of}
 use Rattle.jc_heaps.specs.Classes.{is_of}
 use Rattle.jc_heaps.specs.Layout.{is_static}
 use Rattle.jc_heaps.specs.Making.{Keeping, address_of}
 use Rattle.jc_typed.specs.declared.lists.Capture.{Capture}
 use Rattle.jc_typed.specs.declared.lists.Case.{Case}
 use Rattle.jc_typed.specs.declared.program.TypedProgram.{TypedProgram}
-use Rattle.jc_typed.specs.Trees.{Step, Operand, Operands, Declared, NoDeclared, MoreDeclared, Stmt, stmt, StmtForm, Empty, Block, Locals, Effect, If, Labelled, While, Do, For, ForArray, ForIterable, Switch, Return, Break, Continue, Throw, Try, Construct, Initialise, Stmts, Arms, NoArms, MoreArms, Catches, NoCatches, MoreCatches}
+use Rattle.jc_typed.specs.Trees.{Step, Declared, NoDeclared, MoreDeclared, Stmt, stmt, StmtForm, Empty, Block, Locals, Effect, If, Labelled, While, Do, For, ForArray, ForIterable, Switch, Return, Break, Continue, Throw, Try, Construct, Initialise, Arms, NoArms, MoreArms, Catches, NoCatches, MoreCatches}
 use Rattle.jc_meaning.specs.Kept.{TypedRun, typed_keeping}
-use Rattle.jc_meaning.specs.Programs.{stmt_list, operand_list}
+use Rattle.jc_meaning.specs.Programs.{stmt_list}
 use Rattle.jc_meaning.specs.Calls.{call_virtual, call_direct}
 use Rattle.jc_meaning.specs.Steps.{steps}
-use Rattle.jc_meaning.specs.Expressions.{Inner, value_of, values_of, values, choose, if_true, set_field, set_static, get_element, length_of, capture, note}
+use Rattle.jc_meaning.specs.Expressions.{Inner, value_of, values, choose, if_true, set_field, set_static, get_element, length_of, capture, note}
 
 module _ (P : TypedProgram) (r : Inner) (run : Stmt → TypedRun Completion) (k : ℕ) where
   abbrev keeping : Keeping Ty

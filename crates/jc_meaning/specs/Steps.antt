@@ -1,5 +1,5 @@
 -- What is done with a value where it stands: the steps of conversions and casts, and guards (JLS 5.1, 5.5).
-use Rattle.std.specs.Prelude.{List, [], ◌∷◌, Option, Some, None}
+use Rattle.std.specs.Prelude.{List, [], ◌∷◌}
 use Rattle.jc_types.specs.declared.form.Primitive.{Primitive}
 use Rattle.jc_types.specs.declared.form.Primitive.TheVariants.{Boolean, Byte, Short, Char, Int, Long}
 use Rattle.jc_types.specs.declared.ids.ClassId.{ClassId}
