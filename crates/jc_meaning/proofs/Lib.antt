@@ -1,0 +1,5 @@
+pub mod SmoothCalls
+pub mod SmoothExpressions
+pub mod SmoothStatements
+pub mod SmoothMeaning
+pub mod Levels

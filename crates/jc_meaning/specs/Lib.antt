@@ -1,0 +1,10 @@
+pub mod Kept
+pub mod Programs
+pub mod Steps
+pub mod Calls
+pub mod Expressions
+pub mod Statements
+pub mod Classes
+pub mod Natives
+pub mod Meaning
+pub mod Levels

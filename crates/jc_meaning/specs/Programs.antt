@@ -1,0 +1,90 @@
+-- What a typed program says of its methods and classes.
+use Rattle.std.specs.Prelude.{ℕ, ◌==◌, Bool, true, false, List, [], ◌∷◌, ◌++◌, length, Option, Some, None, slice_get, if◌then◌else◌}
+use Rattle.jc_types.specs.declared.ids.ClassId.{ClassId}
+use Rattle.jc_types.specs.declared.ids.MethodId.{MethodId}
+use Rattle.jc_types.specs.declared.environment.Bounds.{Bounds}
+use Rattle.jc_types.specs.declared.declarations.MethodKind.{MethodKind}
+use Rattle.jc_types.specs.declared.declarations.MethodKind.TheVariants.{StaticInitialiser}
+use Rattle.jc_types.specs.declared.table.Table.{Table}
+use Rattle.jc_types.specs.Accessors.{methods_of, method_owner_of, method_kind_of}
+use Rattle.jc_heaps.specs.Layout.{or_object}
+use Rattle.jc_typed.specs.declared.program.Body.{Body}
+use Rattle.jc_typed.specs.declared.program.TypedMethod.{TypedMethod}
+use Rattle.jc_typed.specs.declared.program.Selection.{Selection}
+use Rattle.jc_typed.specs.declared.program.TypedProgram.{TypedProgram}
+use Rattle.jc_typed.specs.Trees.{Stmt, Stmts, NoStmts, MoreStmts, Operand, Operands, NoOperands, MoreOperands}
+use Rattle.jc_typed.specs.Parts.{stmts_of, stmt_of}
+
+-- lists of trees, from their first member on
+abbrev pub stmts_before : Stmts → List Stmt → List Stmt
+stmts_before NoStmts ss = ss
+stmts_before (MoreStmts before last) ss = stmts_before before (last ∷ ss)
+
+abbrev pub stmt_list : Stmts → List Stmt
+stmt_list ss = stmts_before ss []
+
+abbrev pub operands_before : Operands → List Operand → List Operand
+operands_before NoOperands os = os
+operands_before (MoreOperands before last) os = operands_before before (last ∷ os)
+
+abbrev pub operand_list : Operands → List Operand
+operand_list os = operands_before os []
+
+-- the statements of a body: the call of another constructor, the initialisers, and the block
+abbrev pub body_in : TypedMethod → Option Body → Option (List Stmt)
+body_in m None = None
+body_in m (Some b) = Some (stmt_list (stmts_of m.nodes b.call) ++ stmt_list (stmts_of m.nodes b.initialisers) ++ stmt_of m.nodes b.rest ∷ [])
+
+abbrev pub body_of_method : Option TypedMethod → Option (List Stmt)
+body_of_method (Some m) = body_in m m.body
+body_of_method None = None
+
+abbrev pub body_of : TypedProgram → MethodId → Option (List Stmt)
+body_of P m = body_of_method (slice_get P.methods m.0)
+
+abbrev pub bounds_in : Option TypedMethod → List Bounds
+bounds_in (Some m) = m.captured.bounds
+bounds_in None = []
+
+-- the captured variables of a method
+abbrev pub captured_of : TypedProgram → MethodId → List Bounds
+captured_of P m = bounds_in (slice_get P.methods m.0)
+
+abbrev pub locals_in : Option TypedMethod → ℕ
+locals_in (Some m) = length m.locals
+locals_in None = 0
+
+abbrev pub locals_of : TypedProgram → MethodId → ℕ
+locals_of P m = locals_in (slice_get P.methods m.0)
+
+-- the class that declares a method
+abbrev pub method_class : Table → MethodId → ClassId
+method_class T m = or_object (method_owner_of T m)
+
+abbrev pub is_static_initialiser : MethodKind → Bool
+is_static_initialiser StaticInitialiser = true
+is_static_initialiser _ = false
+
+abbrev pub initialises : Option MethodKind → Bool
+initialises (Some kind) = is_static_initialiser kind
+initialises None = false
+
+abbrev pub first_initialiser : Table → List MethodId → Option MethodId
+first_initialiser T [] = None
+first_initialiser T (m ∷ ms) = if initialises (method_kind_of T m) then Some m else first_initialiser T ms
+
+-- the static initialiser of a class, if it has one (JLS 8.7)
+abbrev pub initialiser_of : Table → ClassId → Option MethodId
+initialiser_of T k = first_initialiser T (methods_of T k)
+
+abbrev pub selected_in : MethodId → List Selection → Option MethodId
+selected_in m [] = None
+selected_in m (s ∷ ss) = if s.method.0 == m.0 then Some s.body else selected_in m ss
+
+abbrev pub selected_of : MethodId → Option (List Selection) → Option MethodId
+selected_of m None = None
+selected_of m (Some ss) = selected_in m ss
+
+-- the body that a class has for a method that is called
+abbrev pub selected : TypedProgram → ClassId → MethodId → Option MethodId
+selected P k m = selected_of m (slice_get P.selections k.0)

@@ -1,0 +1,20 @@
+/// A value of a running program (JLS 4.2, 4.3).
+///
+/// `Whole` has the values of `boolean`, where false is 0 and true is 1, of `byte`, `short`, `char` and `int`. `Address` is a
+/// reference to an object or array: its place in the order in which they were made.
+#[derive(Clone, Copy, Debug, PartialEq, Eq)]
+pub enum Value {
+    Whole(i32),
+    Long(i64),
+    Address(u64),
+    Null,
+}
+
+/// How far the initialisation of a class or interface has come (JLS 12.4.2).
+#[derive(Clone, Copy, Debug, PartialEq, Eq)]
+pub enum Readiness {
+    Untouched,
+    Begun,
+    Ready,
+    Failed,
+}

@@ -1,0 +1,116 @@
+-- The typed trees (JLS 14, 15).
+use Rattle.std.specs.Prelude.{ℕ, Bool, List}
+use Rattle.jc_rules.specs.declared.rule.Place.{Place}
+use Rattle.jc_types.specs.declared.form.Ty.{Ty}
+use Rattle.jc_types.specs.declared.form.Primitive.{Primitive}
+use Rattle.jc_types.specs.declared.ids.FieldId.{FieldId}
+use Rattle.jc_types.specs.declared.ids.MethodId.{MethodId}
+use Rattle.jc_types.specs.declared.erased.Erased.{Erased}
+use Rattle.jc_types.specs.declared.constant.Constant.{Constant}
+use Rattle.jc_types.specs.declared.constant.Op.{Op}
+use Rattle.jc_types.specs.declared.conversion.Phase.{Phase}
+use Rattle.jc_running.specs.declared.seen.Check.{Check}
+use Rattle.jc_typed.specs.declared.expressions.CallKind.{CallKind}
+use Rattle.jc_typed.specs.declared.expressions.Joint.{Joint}
+use Rattle.jc_typed.specs.declared.lists.Capture.{Capture}
+use Rattle.jc_typed.specs.declared.lists.Case.{Case}
+
+-- a step of what is done with a value where it stands
+pub data Step : Type 0 where
+  Widen : (to : Primitive) → Step
+  Narrow : (to : Primitive) → Step
+  BoxUp : (of_it : Primitive) → Step
+  Unbox : (to : Primitive) → Step
+  Up : (to : Ty) (unchecked : Bool) → Step
+  Test : (check : Check) (to : Erased) → Step
+
+-- Expressions. Lists end in their last member. `before` and `receiver` have no operand or one.
+mutual
+  pub data Expr : Type 0 where
+    NoExpr : Expr
+    expr : (place : Place) (ty : Ty) (captures : List Capture) (form : Form) → Expr
+
+  pub data Operand : Type 0 where
+    NoOperand : Operand
+    operand : (of_it : Expr) (steps : List Step) → Operand
+
+  pub data Form : Type 0 where
+    Fixed : (before : Operands) (value : Constant) → Form
+    Null : Form
+    Local : (local : ℕ) → Form
+    This : Form
+    StaticField : (before : Operands) (field : FieldId) → Form
+    Field : (of_it : Operand) (field : FieldId) → Form
+    Element : (array : Operand) (index : Operand) → Form
+    Length : (array : Operand) → Form
+    Prefix : (ops : List Op) (of_it : Operand) → Form
+    Chain : (first : Operand) (links : Links) → Form
+    AllOf : (operands : Operands) → Form
+    AnyOf : (operands : Operands) → Form
+    InstanceOf : (of_it : Operand) (to : Erased) → Form
+    Conditional : (test then other : Operand) (from up_to : ℕ) → Form
+    Assign : (variable : Variable) (value : Operand) → Form
+    Compound : (variable : Variable) (joint : Joint) (left : List Step) (right : Operand) (into : List Step) → Form
+    Change : (variable : Variable) (op : Op) (from into : List Step) (is_prefix : Bool) → Form
+    Call : (kind : CallKind) (receiver : Operands) (method : MethodId) (type_args : List Ty) (args : Operands) (phase : Phase) → Form
+    New : (constructor : MethodId) (args : Operands) (phase : Phase) → Form
+    NewArray : (lengths : Operands) → Form
+    ArrayOf : (elements : Operands) → Form
+    Cast : (of_it : Operand) (to : Ty) (steps : List Step) (is_below : Bool) → Form
+
+  pub data Variable : Type 0 where
+    LocalVariable : (local : ℕ) → Variable
+    StaticVariable : (before : Operands) (field : FieldId) → Variable
+    FieldVariable : (of_it : Operand) (field : FieldId) → Variable
+    ElementVariable : (array : Operand) (index : Operand) → Variable
+
+  pub data Operands : Type 0 where
+    NoOperands : Operands
+    MoreOperands : (before : Operands) (last : Operand) → Operands
+
+  pub data Links : Type 0 where
+    NoLinks : Links
+    MoreLinks : (before : Links) (joint : Joint) (left : List Step) (right : Operand) → Links
+
+-- variables that a statement declares, each with no initialiser or one
+pub data Declared : Type 0 where
+  NoDeclared : Declared
+  MoreDeclared : (before : Declared) (place : Place) (local : ℕ) (value : Operands) → Declared
+
+-- Statements. `other` and `last` have no statement or one; `test` of a `For` and `value` of a `Return` no operand or one.
+mutual
+  pub data Stmt : Type 0 where
+    stmt : (place : Place) (form : StmtForm) → Stmt
+
+  pub data StmtForm : Type 0 where
+    Empty : StmtForm
+    Block : (stmts : Stmts) → StmtForm
+    Locals : (declared : Declared) → StmtForm
+    Effect : (of_it : Operand) → StmtForm
+    If : (arms : Arms) (other : Stmts) → StmtForm
+    Labelled : (target : ℕ) (body : Stmt) → StmtForm
+    While : (target : ℕ) (test : Operand) (body : Stmt) → StmtForm
+    Do : (target : ℕ) (body : Stmt) (test : Operand) → StmtForm
+    For : (target : ℕ) (declared : Declared) (before test update : Operands) (body : Stmt) → StmtForm
+    ForArray : (target : ℕ) (of_it : Operand) (ty : Ty) (captures : List Capture) (steps : List Step) (local : ℕ) (body : Stmt) → StmtForm
+    ForIterable : (target : ℕ) (of_it : Operand) (ty : Ty) (captures : List Capture) (steps : List Step) (local : ℕ) (body : Stmt) → StmtForm
+    Switch : (target : ℕ) (of_it : Operand) (cases : List Case) (stmts : Stmts) → StmtForm
+    Return : (value : Operands) → StmtForm
+    Break : (target : ℕ) → StmtForm
+    Continue : (target : ℕ) → StmtForm
+    Throw : (of_it : Operand) → StmtForm
+    Try : (body : Stmt) (catches : Catches) (last : Stmts) (copies : ℕ) → StmtForm
+    Construct : (constructor : MethodId) (args : Operands) (phase : Phase) → StmtForm
+    Initialise : (field : FieldId) (value : Operand) → StmtForm
+
+  pub data Stmts : Type 0 where
+    NoStmts : Stmts
+    MoreStmts : (before : Stmts) (last : Stmt) → Stmts
+
+  pub data Arms : Type 0 where
+    NoArms : Arms
+    MoreArms : (before : Arms) (test : Operand) (then : Stmt) → Arms
+
+  pub data Catches : Type 0 where
+    NoCatches : Catches
+    MoreCatches : (before : Catches) (place : Place) (local : ℕ) (types : List Ty) (body : Stmt) → Catches
