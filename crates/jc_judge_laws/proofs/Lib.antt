@@ -1,1 +1,3 @@
 pub mod Decides
+pub mod StrictPaths
+pub mod Viewed
