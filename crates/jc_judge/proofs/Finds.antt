@@ -12,7 +12,7 @@ use Rattle.jc_types.specs.Accessors.{vars_of, supers_of, supers_in}
 use Rattle.jc_types.proofs.Substituted.{subst_out}
 use Rattle.jc_judge.specs.Kinds.{class_of, class_at}
 use Rattle.jc_types.specs.Reifying.{counted}
-use Rattle.jc_judge.specs.Views.{view, view_within, class_count, class_supers, first_of, or_else, is_class, supers, supers_at, exacts, erased, erased_at}
+use Rattle.jc_judge.specs.Views.{view, view_within, class_supers, first_of, or_else, is_class, supers, supers_at, exacts, erased, erased_at}
 use Rattle.std.proofs.lemmas.Option.{slice_get_within}
 use Rattle.jc_types.specs.declared.declarations.ClassDecl.{ClassDecl}
 use Rattle.jc_judge.proofs.ShortPaths.{path_is_short}
@@ -25,7 +25,7 @@ unfolding class_of
 layer_class vars by (Ty-F.Class i xs) k e = ap class_at (out-roll-Ty _) ∙ e
 layer_class vars by (Ty-F.Raw i) k e = ap class_at (out-roll-Ty _) ∙ e
 layer_class vars by (Ty-F.Prim p) k e = cc
-layer_class vars by (Ty-F.Array t) k e = cc
+layer_class vars by (Ty-F.Array t n) k e = cc
 layer_class vars by (Ty-F.Variable v) k e = cc
 layer_class vars by (Ty-F.Captured v) k e = cc
 layer_class vars by (Ty-F.Meet ts) k e = cc
@@ -41,7 +41,7 @@ erased_layer t (Ty-F.Class i []) k e f = e
 erased_layer t (Ty-F.Class i (x ∷ xs)) k e f = ap class_at (outs-Raw i) ∙ f
 erased_layer t (Ty-F.Raw i) k e f = e
 erased_layer t (Ty-F.Prim p) k e f = e
-erased_layer t (Ty-F.Array u) k e f = e
+erased_layer t (Ty-F.Array u n) k e f = e
 erased_layer t (Ty-F.Variable v) k e f = e
 erased_layer t (Ty-F.Captured v) k e f = e
 erased_layer t (Ty-F.Meet ts) k e f = e
@@ -78,7 +78,7 @@ of_layer T (Ty-F.Raw i) a t k f m e =
     let same : numbered a ≡ i = cc in
     by_arguments T i (counted (vars_of T i) []) t k (subst (λ i. IsIn t (supers_of T i)) same m) e
 of_layer T (Ty-F.Prim p) a t k f m e = cc
-of_layer T (Ty-F.Array u) a t k f m e = cc
+of_layer T (Ty-F.Array u n) a t k f m e = cc
 of_layer T (Ty-F.Variable v) a t k f m e = cc
 of_layer T (Ty-F.Captured v) a t k f m e = cc
 of_layer T (Ty-F.Meet ts) a t k f m e = cc

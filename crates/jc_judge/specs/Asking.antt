@@ -6,6 +6,7 @@ use Rattle.jc_types.specs.declared.ids.ClassId.{ClassId}
 use Rattle.jc_types.specs.declared.environment.Bounds.{Bounds}
 use Rattle.jc_types.specs.declared.table.Table.{Table}
 use Rattle.jc_types.specs.Accessors.{bounds_of, uppers_of, lower_bound_of}
+use Rattle.jc_types.specs.Arrays.{element}
 use Rattle.jc_types.specs.Reifying.{arguments}
 use Rattle.jc_judge.specs.declared.question.Part.{Part}
 use Rattle.jc_judge.specs.declared.question.Part.TheVariants.{Sure, Never, Ask, Same}
@@ -68,16 +69,16 @@ unfoldable pub classes : Table → List Bounds → Ty → Ty → Question
 classes T env s t = classes_from T (length env) s t (class_of s) (class_of t)
 
 -- two arrays of references: their elements are asked
-abbrev pub to_array_at : Ty → Layer → Question
-to_array_at a (Ty-F.Array b) = if is_primitive a || is_primitive b then Fails else Every [] (Ask a b ∷ [])
-to_array_at a _ = Fails
+abbrev pub to_elements : Ty → Option Ty → Question
+to_elements a (Some b) = if is_primitive a || is_primitive b then Fails else Every [] (Ask a b ∷ [])
+to_elements a None = Fails
 
-abbrev pub shapes_at : Table → List Bounds → Ty → Ty → Layer → Question
-shapes_at T env s t (Ty-F.Array a) = to_array_at a (out-Ty t)
-shapes_at T env s t _ = classes T env s t
+abbrev pub shapes_by : Table → List Bounds → Ty → Ty → Option Ty → Question
+shapes_by T env s t (Some a) = to_elements a (element t)
+shapes_by T env s t None = classes T env s t
 
 unfoldable pub shapes : Table → List Bounds → Ty → Ty → Question
-shapes T env s t = shapes_at T env s t (out-Ty s)
+shapes T env s t = shapes_by T env s t (element s)
 
 abbrev pub lower_at : List Bounds → Layer → Option Ty
 lower_at env (Ty-F.Captured c) = lower_bound_of env c

@@ -1,13 +1,13 @@
 -- Supertypes, and the supertype of a given class (JLS 4.8, 4.10.2).
 use Rattle.std.specs.Prelude.{ℕ, zero, suc, ◌+◌, ◌==◌, Bool, false, Option, Some, None, List, [], ◌∷◌, ◌++◌, length, map, if◌then◌else◌}
 use Rattle.jc_types.specs.declared.form.Ty.{Ty, Ty-F, out-Ty}
-use Rattle.jc_types.specs.declared.form.Ty.TheVariants.{Raw}
+use Rattle.jc_types.specs.declared.form.Ty.TheVariants.{Class, Raw}
 use Rattle.jc_types.specs.declared.form.Arg.{Arg, Arg-F, out-Arg}
 use Rattle.jc_types.specs.declared.ids.ClassId.{ClassId}
 use Rattle.jc_types.specs.declared.table.Table.{Table}
 use Rattle.jc_types.specs.Substitution.{subst}
 use Rattle.jc_types.specs.Reifying.{counted}
-use Rattle.jc_types.specs.Accessors.{vars_of, supers_of}
+use Rattle.jc_types.specs.Accessors.{vars_of, supers_of, class_count}
 use Rattle.jc_judge.specs.Kinds.{Layer, ArgLayer, class_of}
 
 abbrev pub exact_at : ArgLayer → List Ty
@@ -40,9 +40,11 @@ abbrev pub supers_at : Table → Layer → List Ty
 supers_at T (Ty-F.Class id args) = class_supers T id (counted (vars_of T id) args)
 supers_at T (Ty-F.Raw id) = class_supers T id (counted (vars_of T id) [])
 supers_at T (Ty-F.Meet parts) = parts
+supers_at T (Ty-F.Array t n) = Class (record { 0 = 0 }) [] ∷ []
 supers_at T _ = []
 
--- the direct supertypes of a captured class or raw type (JLS 4.10.2), and the parts of an intersection
+-- the direct supertypes of a captured class or raw type (JLS 4.10.2), the parts of an intersection, and Object above an array
+-- (JLS 4.10.3)
 unfoldable pub supers : Table → Ty → List Ty
 supers T t = supers_at T (out-Ty t)
 
@@ -62,9 +64,6 @@ is_class k (Some id) = id.0 == k.0
 abbrev pub view_within : Table → ℕ → ClassId → Ty → Option Ty
 view_within T zero k t = None
 view_within T (suc n) k t = if is_class k (class_of t) then Some t else first_of (view_within T n k) (supers T t)
-
-abbrev pub class_count : Table → ℕ
-class_count T = length T.classes
 
 -- the view of a type as class k: its supertype of that class. An intersection's is that of its first part that has one. Where no
 -- class is above itself these are steps enough

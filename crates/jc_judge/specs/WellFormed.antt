@@ -2,13 +2,14 @@
 use Rattle.std.specs.Prelude.{◌≡◌, ℕ, ◌+◌, ◌==◌, Bool, true, false, Option, Some, None, List, [], ◌∷◌, ◌++◌, length, map}
 use Rattle.jc_rules.specs.declared.stop.Stop.{Stop}
 use Rattle.jc_rules.specs.declared.stop.Stop.TheVariants.{Refused, WantOfMemory}
-use Rattle.jc_types.specs.declared.form.Ty.{Ty, Ty-F, out-Ty, para-Ty}
+use Rattle.jc_types.specs.declared.form.Ty.{Ty, Ty-F, out-Ty}
 use Rattle.jc_types.specs.declared.form.Ty.TheVariants.{Class}
-use Rattle.jc_types.specs.declared.form.Arg.{Arg, Arg-F, out-Arg, para-Arg}
+use Rattle.jc_types.specs.declared.form.Arg.{Arg, Arg-F, out-Arg}
 use Rattle.jc_types.specs.declared.ids.VarId.{VarId}
 use Rattle.jc_types.specs.declared.table.Table.{Table}
 use Rattle.jc_types.specs.declared.environment.Bounds.{Bounds}
 use Rattle.jc_types.specs.Accessors.{vars_of}
+use Rattle.jc_types.specs.Inside.{inside}
 use Rattle.jc_judge.specs.declared.question.Part.{Part}
 use Rattle.jc_judge.specs.declared.question.Part.TheVariants.{Ask}
 use Rattle.jc_judge.specs.declared.question.Answer.{Answer}
@@ -48,27 +49,34 @@ unless_deep Yes Yes = None
 unless_deep _ _ = Some fault.Deep
 
 -- the fault of argument i, that of the least rule, by the verdicts on its upper and its lower parts
-abbrev pub arg_fault : ℕ → Answer → Answer → Bool → Bool → Option TypeFault
-arg_fault i No lower primitive meets = Some (fault.Bound i)
-arg_fault i Yes No primitive meets = Some (fault.SuperBound i)
-arg_fault i Deep No primitive meets = Some (fault.SuperBound i)
-arg_fault i upper lower true meets = Some (fault.PrimitiveArgument i)
-arg_fault i upper lower false true = Some (fault.ClassesMeet i)
-arg_fault i upper lower false false = unless_deep upper lower
+abbrev pub arg_fault : ℕ → Answer → Answer → Bool → Option TypeFault
+arg_fault i No lower meets = Some (fault.Bound i)
+arg_fault i Yes No meets = Some (fault.SuperBound i)
+arg_fault i Deep No meets = Some (fault.SuperBound i)
+arg_fault i upper lower true = Some (fault.ClassesMeet i)
+arg_fault i upper lower false = unless_deep upper lower
 
 -- the first fault, or what is found in the rest
 abbrev pub OrElse : Option TypeFault → (Option TypeFault → Type 0) → Option TypeFault → Type 0
 OrElse None rest found = rest found
 OrElse (Some f) rest found = found ≡ Some f
 
--- `found` is the fault of argument i, which is captured as s. The env has the fresh variables in `full`, and has them with no
--- bound but Object in `plain`
-pub record ArgChecked (T : Table) (full plain : List Bounds) (bounds : List Ty) (i : ℕ) (s : Ty) (a : Arg) (found : Option TypeFault) : Type 0 where
+-- `found` is the fault of argument i, a reference, which is captured as s. The env has the fresh variables in `full`, and has
+-- them with no bound but Object in `plain`
+pub record ReferenceChecked (T : Table) (full plain : List Bounds) (bounds : List Ty) (i : ℕ) (s : Ty) (a : Arg) (found : Option TypeFault) : Type 0 where
   pub upper : Answer
   pub lower : Answer
   pub upper_is : Verdict T full (upper_parts s bounds) upper
   pub lower_is : Verdict T plain (lower_parts (out-Arg a) bounds) lower
-  pub found_is : found ≡ arg_fault i upper lower (is_primitive_arg (out-Arg a)) (meets_at T bounds (out-Arg a))
+  pub found_is : found ≡ arg_fault i upper lower (meets_at T bounds (out-Arg a))
+
+-- a primitive argument, or a wildcard with a primitive bound, has that fault alone: its declared bounds aren't asked
+abbrev pub KindChecked : Table → List Bounds → List Bounds → List Ty → ℕ → Ty → Arg → Option TypeFault → Bool → Type 0
+KindChecked T full plain bounds i s a found true = found ≡ Some (fault.PrimitiveArgument i)
+KindChecked T full plain bounds i s a found false = ReferenceChecked T full plain bounds i s a found
+
+abbrev pub ArgChecked : Table → List Bounds → List Bounds → List Ty → ℕ → Ty → Arg → Option TypeFault → Type 0
+ArgChecked T full plain bounds i s a found = KindChecked T full plain bounds i s a found (is_primitive_arg (out-Arg a))
 
 -- the fault of the first argument that has one, from argument i on, where `by` stands for the parameters `vars`
 abbrev pub ArgsChecked : Table → List Bounds → List Bounds → List VarId → List Ty → ℕ → List VarId → List Ty → List Arg → Option TypeFault → Type 0
@@ -94,41 +102,6 @@ OwnChecked_at T env _ found = found ≡ None
 -- `found` is the type's own fault: that of its count, or of its first argument with one
 unfoldable pub OwnChecked : Table → List Bounds → Ty → Option TypeFault → Type 0
 OwnChecked T env t found = OwnChecked_at T env (out-Ty t) found
-
-abbrev pub parts_of_args : List (Arg × List Ty) → List Ty
-parts_of_args [] = []
-parts_of_args (x ∷ xs) = x.1 ++ parts_of_args xs
-
-abbrev pub parts_of_types : List (Ty × List Ty) → List Ty
-parts_of_types [] = []
-parts_of_types (x ∷ xs) = x.1 ++ parts_of_types xs
-
-abbrev pub inside_arg_at : Arg-F (Arg × List Ty) (Ty × List Ty) → List Ty
-inside_arg_at (Arg-F.Exact x) = x.1
-inside_arg_at Arg-F.Any = []
-inside_arg_at (Arg-F.Extends x) = x.1
-inside_arg_at (Arg-F.Super x) = x.1
-
-abbrev pub inside_at : Ty-F (Arg × List Ty) (Ty × List Ty) → List Ty
-inside_at (Ty-F.Class id xs) = Class id (map (λ x. x.0) xs) ∷ parts_of_args xs
-inside_at (Ty-F.Array x) = x.1
-inside_at (Ty-F.Meet xs) = parts_of_types xs
-inside_at _ = []
-
--- the class types in a type, itself first, in the order in which they are written
-unfoldable pub inside : Ty → List Ty
-inside t = para-Ty (List Ty) (List Ty) inside_arg_at inside_at t
-
-unfoldable pub inside_arg : Arg → List Ty
-inside_arg a = para-Arg (List Ty) (List Ty) inside_arg_at inside_at a
-
-abbrev pub inside_args : List Arg → List Ty
-inside_args [] = []
-inside_args (a ∷ args) = inside_arg a ++ inside_args args
-
-abbrev pub inside_types : List Ty → List Ty
-inside_types [] = []
-inside_types (t ∷ ts) = inside t ++ inside_types ts
 
 abbrev pub AllChecked : Table → List Bounds → List Ty → Option TypeFault → Type 0
 AllChecked T env [] found = found ≡ None

@@ -23,8 +23,8 @@ module _ (vs : VarId → Erased) (cs : CaptureId → Erased) where
   unfolding erased_by
   erased_out t = fold_out-Ty (Unit {0}) Erased (λ _. tt) (erased_step vs cs) t
 
-  pub erased-Array : (t : Ty) → erased_by vs cs (Array t) ≡ raised 1 (erased_by vs cs t)
-  erased-Array t = erased_out (Array t) ∙ ap of_layer (outs-Array t)
+  pub erased-Array : (t : Ty) (n : ℕ) → erased_by vs cs (Array t n) ≡ raised (n + 1) (erased_by vs cs t)
+  erased-Array t n = erased_out (Array t n) ∙ ap of_layer (outs-Array t n)
 
   pub erased-Meet : (t : Ty) (ts : List Ty) → erased_by vs cs (Meet (t ∷ ts)) ≡ erased_by vs cs t
   erased-Meet t ts = erased_out (Meet (t ∷ ts)) ∙ ap of_layer (outs-Meet (t ∷ ts))
@@ -39,11 +39,11 @@ raised_zero e = ap (erased e.base) (omega arith)
 pub reaches_itself : (t : Ty) → Reaches t t 0
 reaches_itself t = record { same = λ vs cs. ap capped (sym (raised_zero (erased_by vs cs t))) }
 
--- one array more
-pub reaches_element : (t u e : Ty) (n m : ℕ) → Reaches t u n → u ≡ Array e → m ≡ min (n + 1) (2 ^ 32 - 1) → Reaches t e m
-reaches_element t u e n m r eu em = record {
-  same = λ vs cs. r.same vs cs ∙ ap (λ x. capped (raised n x)) (ap (erased_by vs cs) eu ∙ erased-Array vs cs e)
-      ∙ ap (erased (erased_by vs cs e).base) (let k = (erased_by vs cs e).dims in let same : min (k + 1 + n) (2 ^ 32 - 1) ≡ min (k + m) (2 ^ 32 - 1) = omega arith in same);
+-- an array's dimensions more
+pub reaches_element : (t u e : Ty) (n d m : ℕ) → Reaches t u n → u ≡ Array e d → m ≡ min (n + (d + 1)) (2 ^ 32 - 1) → Reaches t e m
+reaches_element t u e n d m r eu em = record {
+  same = λ vs cs. r.same vs cs ∙ ap (λ x. capped (raised n x)) (ap (erased_by vs cs) eu ∙ erased-Array vs cs e d)
+      ∙ ap (erased (erased_by vs cs e).base) (let k = (erased_by vs cs e).dims in let same : min (k + (d + 1) + n) (2 ^ 32 - 1) ≡ min (k + m) (2 ^ 32 - 1) = omega arith in same);
 }
 
 -- the first part
@@ -62,7 +62,7 @@ inner_layer : (T : Table) (env : List Bounds) (n : ℕ) (l : Ty-F Arg Ty) → is
 inner_layer T env n (Ty-F.Prim p) e = refl
 inner_layer T env n (Ty-F.Class i xs) e = refl
 inner_layer T env n (Ty-F.Raw i) e = refl
-inner_layer T env n (Ty-F.Array t) e = cc
+inner_layer T env n (Ty-F.Array t d) e = cc
 inner_layer T env n (Ty-F.Variable v) e = refl
 inner_layer T env n (Ty-F.Captured c) e = refl
 inner_layer T env n (Ty-F.Meet []) e = refl

@@ -33,8 +33,8 @@ count-Class i xs = count_out (Class i xs) ∙ ap of_layer (outs-Class i xs)
 pub count-Raw : (i : ClassId) → count_of (Raw i) ≡ 1
 count-Raw i = count_out (Raw i) ∙ ap of_layer (outs-Raw i)
 
-pub count-Array : (t : Ty) → count_of (Array t) ≡ count_of t + 1
-count-Array t = count_out (Array t) ∙ ap of_layer (outs-Array t)
+pub count-Array : (t : Ty) (n : ℕ) → count_of (Array t n) ≡ count_of t + n + 1
+count-Array t n = count_out (Array t n) ∙ ap of_layer (outs-Array t n)
 
 pub count-Variable : (v : VarId) → count_of (Variable v) ≡ 1
 count-Variable v = count_out (Variable v) ∙ ap of_layer (outs-Variable v)

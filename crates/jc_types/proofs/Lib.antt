@@ -1,6 +1,7 @@
 pub mod Cores
 pub mod Counted
 mod Finds
+pub mod Insides
 pub mod Least
 pub mod Opened
 pub mod Pointwise

@@ -88,7 +88,10 @@ layer_told (Ty-F.Class i zs) (Ty-F.Class j xs) e =
     let args : map (λ z. z.0) zs ≡ xs = args_told zs xs (second (i.0 == j.0) _ e) in
     cc
 layer_told (Ty-F.Raw i) (Ty-F.Raw j) e = ap Ty-F.Raw (class_same i j e)
-layer_told (Ty-F.Array z) (Ty-F.Array t) e = ap Ty-F.Array (z.1 t e)
+layer_told (Ty-F.Array z n) (Ty-F.Array t m) e =
+    let dims : n ≡ m = number_same n m (first _ _ e) in
+    let of : z.0 ≡ t = z.1 t (second (n == m) _ e) in
+    cc
 layer_told (Ty-F.Variable v) (Ty-F.Variable w) e = ap Ty-F.Variable (var_same v w e)
 layer_told (Ty-F.Captured v) (Ty-F.Captured w) e = ap Ty-F.Captured (capture_same v w e)
 layer_told (Ty-F.Meet zs) (Ty-F.Meet xs) e = ap Ty-F.Meet (types_told zs xs e)
@@ -147,7 +150,7 @@ layer_self : (y : Ty-F SelfArg SelfTy) → type_passes (tests (own y)) (own y) �
 layer_self (Ty-F.Prim p) = prim_self (prim_number p)
 layer_self (Ty-F.Class i zs) = both_true _ _ (prim_self i.0) (args_self zs)
 layer_self (Ty-F.Raw i) = prim_self i.0
-layer_self (Ty-F.Array z) = z.1
+layer_self (Ty-F.Array z n) = both_true _ _ (prim_self n) z.1
 layer_self (Ty-F.Variable v) = prim_self v.0
 layer_self (Ty-F.Captured v) = prim_self v.0
 layer_self (Ty-F.Meet zs) = types_self zs

@@ -1,97 +1,357 @@
 -- What a table says of its declarations. Definitions of the layers above speak through these, so they hold of two tables
 -- that differ in places alone. What is said of an id that is no place in its list is empty.
-use Rattle.std.specs.Prelude.{ℕ, Bool, true, false, List, [], Option, Some, None, slice_get}
+use Rattle.std.specs.Prelude.{ℕ, Bool, true, false, List, [], Option, Some, None, slice_get, length}
+use Rattle.jc_rules.specs.declared.rule.Place.{Place}
 use Rattle.jc_types.specs.declared.ids.ClassId.{ClassId}
 use Rattle.jc_types.specs.declared.ids.MethodId.{MethodId}
 use Rattle.jc_types.specs.declared.ids.FieldId.{FieldId}
+use Rattle.jc_types.specs.declared.ids.ScopeId.{ScopeId}
 use Rattle.jc_types.specs.declared.ids.VarId.{VarId}
 use Rattle.jc_types.specs.declared.form.Ty.{Ty}
 use Rattle.jc_types.specs.declared.declarations.ClassDecl.{ClassDecl}
 use Rattle.jc_types.specs.declared.declarations.MethodDecl.{MethodDecl}
 use Rattle.jc_types.specs.declared.declarations.FieldDecl.{FieldDecl}
+use Rattle.jc_types.specs.declared.declarations.FieldValue.{FieldValue}
+use Rattle.jc_types.specs.declared.declarations.FieldValue.TheVariants.{Unknown}
 use Rattle.jc_types.specs.declared.declarations.VariableDecl.{VariableDecl}
 use Rattle.jc_types.specs.declared.declarations.Kind.{Kind}
 use Rattle.jc_types.specs.declared.declarations.Kind.TheVariants as kind
+use Rattle.jc_types.specs.declared.declarations.MethodKind.{MethodKind}
+use Rattle.jc_types.specs.declared.declarations.Modifiers.{Modifiers}
+use Rattle.jc_types.specs.declared.declarations.Owner.{Owner}
+use Rattle.jc_types.specs.declared.declarations.ParamName.{ParamName}
+use Rattle.jc_types.specs.declared.declarations.TypePlaces.{TypePlaces}
+use Rattle.jc_types.specs.declared.declarations.Written.{Written}
 use Rattle.jc_types.specs.declared.ids.CaptureId.{CaptureId}
 use Rattle.jc_types.specs.declared.environment.Bounds.{Bounds}
 use Rattle.jc_types.specs.declared.table.Table.{Table}
 use Rattle.jc_types.specs.Names.{named}
 
-abbrev pub vars_in : Option ClassDecl → List VarId
-vars_in (Some c) = c.vars
-vars_in None = []
-
-abbrev pub supers_in : Option ClassDecl → List Ty
-supers_in (Some c) = c.supers.types
-supers_in None = []
-
-abbrev pub methods_in : Option ClassDecl → List MethodId
-methods_in (Some c) = c.methods
-methods_in None = []
-
-abbrev pub fields_in : Option ClassDecl → List FieldId
-fields_in (Some c) = c.fields
-fields_in None = []
-
 abbrev pub is_interface_kind : Kind → Bool
 is_interface_kind kind.Interface = true
 is_interface_kind _ = false
+
+abbrev pub written_type : Option Written → Option Ty
+written_type (Some w) = Some w.ty
+written_type None = None
+
+-- how many classes and type variables there are
+abbrev pub class_count : Table → ℕ
+class_count T = length T.classes
+
+abbrev pub variable_count : Table → ℕ
+variable_count T = length T.variables
+
+abbrev pub class_place_in : Option ClassDecl → Option Place
+class_place_in (Some c) = Some c.place
+class_place_in None = None
+
+-- where a class is declared
+abbrev pub class_place_of : Table → ClassId → Option Place
+class_place_of T id = class_place_in (slice_get T.classes id.0)
+
+abbrev pub class_name_in : Option ClassDecl → List ℕ
+class_name_in (Some c) = c.name
+class_name_in None = []
+
+-- its simple name, its binary name with dots and the name of its package
+abbrev pub class_name_of : Table → ClassId → List ℕ
+class_name_of T id = class_name_in (slice_get T.classes id.0)
+
+abbrev pub binary_in : Option ClassDecl → List ℕ
+binary_in (Some c) = c.binary
+binary_in None = []
+
+abbrev pub binary_of : Table → ClassId → List ℕ
+binary_of T id = binary_in (slice_get T.classes id.0)
+
+abbrev pub package_in : Option ClassDecl → List ℕ
+package_in (Some c) = c.package
+package_in None = []
+
+abbrev pub package_of : Table → ClassId → List ℕ
+package_of T id = package_in (slice_get T.classes id.0)
+
+abbrev pub outer_in : Option ClassDecl → Option ClassId
+outer_in (Some c) = c.outer
+outer_in None = None
+
+-- the class that it is a member of, and its member types
+abbrev pub outer_of : Table → ClassId → Option ClassId
+outer_of T id = outer_in (slice_get T.classes id.0)
+
+abbrev pub members_in : Option ClassDecl → List ClassId
+members_in (Some c) = c.members
+members_in None = []
+
+abbrev pub members_of : Table → ClassId → List ClassId
+members_of T id = members_in (slice_get T.classes id.0)
+
+abbrev pub class_scope_in : Option ClassDecl → Option ScopeId
+class_scope_in (Some c) = Some c.scope
+class_scope_in None = None
+
+-- the scope of its body
+abbrev pub class_scope_of : Table → ClassId → Option ScopeId
+class_scope_of T id = class_scope_in (slice_get T.classes id.0)
+
+abbrev pub class_modifiers_in : Option ClassDecl → Option Modifiers
+class_modifiers_in (Some c) = Some c.modifiers
+class_modifiers_in None = None
+
+-- its modifiers and its kind
+abbrev pub class_modifiers_of : Table → ClassId → Option Modifiers
+class_modifiers_of T id = class_modifiers_in (slice_get T.classes id.0)
+
+abbrev pub kind_in : Option ClassDecl → Option Kind
+kind_in (Some c) = Some c.kind
+kind_in None = None
+
+abbrev pub kind_of : Table → ClassId → Option Kind
+kind_of T id = kind_in (slice_get T.classes id.0)
 
 abbrev pub interface_in : Option ClassDecl → Bool
 interface_in (Some c) = is_interface_kind c.kind
 interface_in None = false
 
-abbrev pub bounds_in : Option VariableDecl → List Ty
-bounds_in (Some v) = v.bounds.types
-bounds_in None = []
+abbrev pub is_interface : Table → ClassId → Bool
+is_interface T id = interface_in (slice_get T.classes id.0)
 
-abbrev pub method_vars_in : Option MethodDecl → List VarId
-method_vars_in (Some m) = m.vars
-method_vars_in None = []
+abbrev pub vars_in : Option ClassDecl → List VarId
+vars_in (Some c) = c.vars
+vars_in None = []
 
-abbrev pub params_in : Option MethodDecl → List Ty
-params_in (Some m) = m.params.types
-params_in None = []
-
-abbrev pub field_type_in : Option FieldDecl → Option Ty
-field_type_in (Some f) = Some f.ty.ty
-field_type_in None = None
-
-abbrev pub id_or_object : Option ℕ → ClassId
-id_or_object (Some n) = record { 0 = n }
-id_or_object None = record { 0 = 0 }
-
--- the type parameters of a class
+-- its type parameters
 abbrev pub vars_of : Table → ClassId → List VarId
 vars_of T id = vars_in (slice_get T.classes id.0)
+
+abbrev pub supers_in : Option ClassDecl → List Ty
+supers_in (Some c) = c.supers.types
+supers_in None = []
 
 -- its direct supertypes as they are declared: the superclass first, and then the superinterfaces
 abbrev pub supers_of : Table → ClassId → List Ty
 supers_of T id = supers_in (slice_get T.classes id.0)
 
-abbrev pub is_interface : Table → ClassId → Bool
-is_interface T id = interface_in (slice_get T.classes id.0)
+abbrev pub super_places_in : Option ClassDecl → List TypePlaces
+super_places_in (Some c) = c.supers.places
+super_places_in None = []
+
+-- where they are written
+abbrev pub super_places_of : Table → ClassId → List TypePlaces
+super_places_of T id = super_places_in (slice_get T.classes id.0)
+
+abbrev pub methods_in : Option ClassDecl → List MethodId
+methods_in (Some c) = c.methods
+methods_in None = []
 
 -- the methods and the fields that it declares
 abbrev pub methods_of : Table → ClassId → List MethodId
 methods_of T id = methods_in (slice_get T.classes id.0)
 
+abbrev pub fields_in : Option ClassDecl → List FieldId
+fields_in (Some c) = c.fields
+fields_in None = []
+
 abbrev pub fields_of : Table → ClassId → List FieldId
 fields_of T id = fields_in (slice_get T.classes id.0)
 
+abbrev pub variable_place_in : Option VariableDecl → Option Place
+variable_place_in (Some v) = Some v.place
+variable_place_in None = None
+
+-- where a type variable is declared, its name and what declares it
+abbrev pub variable_place_of : Table → VarId → Option Place
+variable_place_of T id = variable_place_in (slice_get T.variables id.0)
+
+abbrev pub variable_name_in : Option VariableDecl → List ℕ
+variable_name_in (Some v) = v.name
+variable_name_in None = []
+
+abbrev pub variable_name_of : Table → VarId → List ℕ
+variable_name_of T id = variable_name_in (slice_get T.variables id.0)
+
+abbrev pub variable_owner_in : Option VariableDecl → Option Owner
+variable_owner_in (Some v) = Some v.owner
+variable_owner_in None = None
+
+abbrev pub variable_owner_of : Table → VarId → Option Owner
+variable_owner_of T id = variable_owner_in (slice_get T.variables id.0)
+
+abbrev pub bounds_in : Option VariableDecl → List Ty
+bounds_in (Some v) = v.bounds.types
+bounds_in None = []
+
 -- the declared bounds of a type variable
 abbrev pub bounds_of : Table → VarId → List Ty
-bounds_of T v = bounds_in (slice_get T.variables v.0)
+bounds_of T id = bounds_in (slice_get T.variables id.0)
 
--- the type parameters of a method, and the types of its parameters
+abbrev pub bound_places_in : Option VariableDecl → List TypePlaces
+bound_places_in (Some v) = v.bounds.places
+bound_places_in None = []
+
+-- where they are written
+abbrev pub bound_places_of : Table → VarId → List TypePlaces
+bound_places_of T id = bound_places_in (slice_get T.variables id.0)
+
+abbrev pub method_place_in : Option MethodDecl → Option Place
+method_place_in (Some m) = Some m.place
+method_place_in None = None
+
+-- where a method is declared, and the class that declares it
+abbrev pub method_place_of : Table → MethodId → Option Place
+method_place_of T id = method_place_in (slice_get T.methods id.0)
+
+abbrev pub method_owner_in : Option MethodDecl → Option ClassId
+method_owner_in (Some m) = Some m.class
+method_owner_in None = None
+
+abbrev pub method_owner_of : Table → MethodId → Option ClassId
+method_owner_of T id = method_owner_in (slice_get T.methods id.0)
+
+abbrev pub method_name_in : Option MethodDecl → List ℕ
+method_name_in (Some m) = m.name
+method_name_in None = []
+
+-- its name, kind and modifiers, and the scope of its body
+abbrev pub method_name_of : Table → MethodId → List ℕ
+method_name_of T id = method_name_in (slice_get T.methods id.0)
+
+abbrev pub method_kind_in : Option MethodDecl → Option MethodKind
+method_kind_in (Some m) = Some m.kind
+method_kind_in None = None
+
+abbrev pub method_kind_of : Table → MethodId → Option MethodKind
+method_kind_of T id = method_kind_in (slice_get T.methods id.0)
+
+abbrev pub method_modifiers_in : Option MethodDecl → Option Modifiers
+method_modifiers_in (Some m) = Some m.modifiers
+method_modifiers_in None = None
+
+abbrev pub method_modifiers_of : Table → MethodId → Option Modifiers
+method_modifiers_of T id = method_modifiers_in (slice_get T.methods id.0)
+
+abbrev pub method_scope_in : Option MethodDecl → Option ScopeId
+method_scope_in (Some m) = Some m.scope
+method_scope_in None = None
+
+abbrev pub method_scope_of : Table → MethodId → Option ScopeId
+method_scope_of T id = method_scope_in (slice_get T.methods id.0)
+
+abbrev pub method_vars_in : Option MethodDecl → List VarId
+method_vars_in (Some m) = m.vars
+method_vars_in None = []
+
+-- its type parameters, the types of its parameters, where these are written, and their names
 abbrev pub method_vars_of : Table → MethodId → List VarId
-method_vars_of T m = method_vars_in (slice_get T.methods m.0)
+method_vars_of T id = method_vars_in (slice_get T.methods id.0)
+
+abbrev pub params_in : Option MethodDecl → List Ty
+params_in (Some m) = m.params.types
+params_in None = []
 
 abbrev pub params_of : Table → MethodId → List Ty
-params_of T m = params_in (slice_get T.methods m.0)
+params_of T id = params_in (slice_get T.methods id.0)
 
+abbrev pub param_places_in : Option MethodDecl → List TypePlaces
+param_places_in (Some m) = m.params.places
+param_places_in None = []
+
+abbrev pub param_places_of : Table → MethodId → List TypePlaces
+param_places_of T id = param_places_in (slice_get T.methods id.0)
+
+abbrev pub param_names_in : Option MethodDecl → List ParamName
+param_names_in (Some m) = m.param_names
+param_names_in None = []
+
+abbrev pub param_names_of : Table → MethodId → List ParamName
+param_names_of T id = param_names_in (slice_get T.methods id.0)
+
+abbrev pub result_in : Option MethodDecl → Option Ty
+result_in (Some m) = written_type m.result
+result_in None = None
+
+-- its result, which only a method with a result has
+abbrev pub result_of : Table → MethodId → Option Ty
+result_of T id = result_in (slice_get T.methods id.0)
+
+abbrev pub thrown_in : Option MethodDecl → List Ty
+thrown_in (Some m) = m.thrown.types
+thrown_in None = []
+
+-- the types that it says it throws
+abbrev pub thrown_of : Table → MethodId → List Ty
+thrown_of T id = thrown_in (slice_get T.methods id.0)
+
+abbrev pub thrown_places_in : Option MethodDecl → List TypePlaces
+thrown_places_in (Some m) = m.thrown.places
+thrown_places_in None = []
+
+abbrev pub thrown_places_of : Table → MethodId → List TypePlaces
+thrown_places_of T id = thrown_places_in (slice_get T.methods id.0)
+
+abbrev pub variable_arity_in : Option MethodDecl → Bool
+variable_arity_in (Some m) = m.is_variable_arity
+variable_arity_in None = false
+
+-- whether its last parameter takes any number of arguments, and whether it has a body
+abbrev pub is_variable_arity : Table → MethodId → Bool
+is_variable_arity T id = variable_arity_in (slice_get T.methods id.0)
+
+abbrev pub body_in : Option MethodDecl → Bool
+body_in (Some m) = m.has_body
+body_in None = false
+
+abbrev pub has_body : Table → MethodId → Bool
+has_body T id = body_in (slice_get T.methods id.0)
+
+abbrev pub field_place_in : Option FieldDecl → Option Place
+field_place_in (Some f) = Some f.place
+field_place_in None = None
+
+-- where a field is declared, the class that declares it, its name and modifiers
+abbrev pub field_place_of : Table → FieldId → Option Place
+field_place_of T id = field_place_in (slice_get T.fields id.0)
+
+abbrev pub field_owner_in : Option FieldDecl → Option ClassId
+field_owner_in (Some f) = Some f.class
+field_owner_in None = None
+
+abbrev pub field_owner_of : Table → FieldId → Option ClassId
+field_owner_of T id = field_owner_in (slice_get T.fields id.0)
+
+abbrev pub field_name_in : Option FieldDecl → List ℕ
+field_name_in (Some f) = f.name
+field_name_in None = []
+
+abbrev pub field_name_of : Table → FieldId → List ℕ
+field_name_of T id = field_name_in (slice_get T.fields id.0)
+
+abbrev pub field_modifiers_in : Option FieldDecl → Option Modifiers
+field_modifiers_in (Some f) = Some f.modifiers
+field_modifiers_in None = None
+
+abbrev pub field_modifiers_of : Table → FieldId → Option Modifiers
+field_modifiers_of T id = field_modifiers_in (slice_get T.fields id.0)
+
+abbrev pub field_type_in : Option FieldDecl → Option Ty
+field_type_in (Some f) = Some f.ty.ty
+field_type_in None = None
+
+-- its type, and what is known of its value before it runs
 abbrev pub field_type_of : Table → FieldId → Option Ty
-field_type_of T f = field_type_in (slice_get T.fields f.0)
+field_type_of T id = field_type_in (slice_get T.fields id.0)
+
+abbrev pub field_value_in : Option FieldDecl → FieldValue
+field_value_in (Some f) = f.value
+field_value_in None = Unknown
+
+abbrev pub field_value_of : Table → FieldId → FieldValue
+field_value_of T id = field_value_in (slice_get T.fields id.0)
+
+abbrev pub id_or_object : Option ℕ → ClassId
+id_or_object (Some n) = record { 0 = n }
+id_or_object None = record { 0 = 0 }
 
 -- the first class of this binary name, and Object where there is none
 abbrev pub class_named : Table → List ℕ → ClassId

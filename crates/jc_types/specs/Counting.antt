@@ -11,11 +11,11 @@ count_arg_step (Arg-F.Super n) = n + 1
 
 abbrev pub count_step : Ty-F ℕ ℕ → ℕ
 count_step (Ty-F.Class id args) = sum args + 1
-count_step (Ty-F.Array n) = n + 1
+count_step (Ty-F.Array n d) = n + d + 1
 count_step (Ty-F.Meet parts) = sum parts + 1
 count_step _ = 1
 
--- how many types and wildcards a type consists of, itself included
+-- how many types and wildcards a type consists of, itself included, where each dimension of an array counts
 unfoldable pub count_of : Ty → ℕ
 count_of t = fold-Ty ℕ ℕ count_arg_step count_step t
 

@@ -9,7 +9,7 @@ use Rattle.jc_types.specs.declared.erased.Base.{Base}
 use Rattle.jc_types.specs.declared.erased.Base.TheVariants as base
 use Rattle.jc_types.specs.declared.environment.Bounds.{Bounds}
 use Rattle.jc_types.specs.declared.table.Table.{Table}
-use Rattle.jc_types.specs.Accessors.{bounds_of, uppers_of}
+use Rattle.jc_types.specs.Accessors.{bounds_of, uppers_of, variable_count}
 
 abbrev pub plain : Base → Erased
 plain b = record { base = b; dims = 0 }
@@ -30,7 +30,7 @@ abbrev pub erased_step : (VarId → Erased) → (CaptureId → Erased) → Ty-F 
 erased_step vs cs (Ty-F.Prim p) = plain (base.Prim p)
 erased_step vs cs (Ty-F.Class id args) = plain (base.Class id)
 erased_step vs cs (Ty-F.Raw id) = plain (base.Class id)
-erased_step vs cs (Ty-F.Array e) = raised 1 e
+erased_step vs cs (Ty-F.Array e n) = raised (n + 1) e
 erased_step vs cs (Ty-F.Variable v) = vs v
 erased_step vs cs (Ty-F.Captured c) = cs c
 erased_step vs cs (Ty-F.Meet parts) = first_or_object parts
@@ -57,11 +57,11 @@ capped e = record { base = e.base; dims = min e.dims (2 ^ 32 - 1) }
 
 -- no chain of bounds goes through more variables than there are, where none depends on itself
 unfoldable pub erasure : Table → List Bounds → Ty → Erased
-erasure T env t = capped (erased_within T env (length T.variables + length env) t)
+erasure T env t = capped (erased_within T env (variable_count T + length env) t)
 
 -- neither an array nor an intersection with a part
 abbrev pub is_inner : {A T : Type 0} → Ty-F A T → Bool
-is_inner (Ty-F.Array t) = false
+is_inner (Ty-F.Array t n) = false
 is_inner (Ty-F.Meet (t ∷ ts)) = false
 is_inner _ = true
 

@@ -1,8 +1,11 @@
 pub mod Accessors
+pub mod Arrays
 pub mod Breaks
 pub mod Counting
 pub mod Erasing
+pub mod Inside
 pub mod Names
 pub mod Reifying
 pub mod Sameness
 pub mod Substitution
+pub mod Tables

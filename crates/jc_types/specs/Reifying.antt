@@ -41,7 +41,7 @@ abbrev pub reifiable_step : Table → Ty-F Bool Bool → Bool
 reifiable_step T (Ty-F.Prim p) = true
 reifiable_step T (Ty-F.Class id args) = raw_or_all (counted (vars_of T id) args)
 reifiable_step T (Ty-F.Raw id) = true
-reifiable_step T (Ty-F.Array t) = t
+reifiable_step T (Ty-F.Array t n) = t
 reifiable_step T _ = false
 
 -- primitive types, classes without parameters, raw types, class types whose arguments are all `?`, and arrays of these

@@ -31,7 +31,7 @@ abbrev pub type_passes : Ty-F (Arg → Bool) (Ty → Bool) → Ty-F Arg Ty → B
 type_passes (Ty-F.Prim p) (Ty-F.Prim q) = prim_number p == prim_number q
 type_passes (Ty-F.Class i fs) (Ty-F.Class j xs) = (i.0 == j.0) && all_pass fs xs
 type_passes (Ty-F.Raw i) (Ty-F.Raw j) = i.0 == j.0
-type_passes (Ty-F.Array f) (Ty-F.Array t) = f t
+type_passes (Ty-F.Array f n) (Ty-F.Array t m) = (n == m) && f t
 type_passes (Ty-F.Variable v) (Ty-F.Variable w) = v.0 == w.0
 type_passes (Ty-F.Captured v) (Ty-F.Captured w) = v.0 == w.0
 type_passes (Ty-F.Meet fs) (Ty-F.Meet xs) = all_pass fs xs

@@ -4,6 +4,7 @@ use Rattle.jc_types.specs.declared.form.Ty.{Ty, Ty-F, roll-Ty, fold-Ty}
 use Rattle.jc_types.specs.declared.form.Ty.TheVariants.{Variable}
 use Rattle.jc_types.specs.declared.form.Arg.{Arg, roll-Arg, fold-Arg}
 use Rattle.jc_types.specs.declared.ids.VarId.{VarId}
+use Rattle.jc_types.specs.Arrays.{array_over}
 
 -- what stands for a variable: the type at its place, or itself
 abbrev pub replacement : List VarId → List Ty → VarId → Ty
@@ -14,6 +15,7 @@ replacement (w ∷ vars) (t ∷ by) v = if w.0 == v.0 then t else replacement va
 -- a layer whose parts are done
 abbrev pub subst_step : List VarId → List Ty → Ty-F Arg Ty → Ty
 subst_step vars by (Ty-F.Variable v) = replacement vars by v
+subst_step vars by (Ty-F.Array t n) = array_over n t
 subst_step vars by layer = roll-Ty layer
 
 unfoldable pub subst : List VarId → List Ty → Ty → Ty

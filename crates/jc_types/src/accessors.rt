@@ -1,33 +1,43 @@
 ghost use Rattle.std.specs.Prelude.{◌≡◌, slice_get};
 ghost use Rattle.std.specs.Option.{option_copied};
-ghost use Rattle.jc_types.specs.Accessors.{vars_of, supers_of, is_interface, methods_of, fields_of, bounds_of, method_vars_of, params_of, field_type_of, class_named, uppers_of, lower_bound_of};
+ghost use Rattle.jc_types.specs.Accessors.{class_name_of, binary_of, package_of, outer_of, members_of, class_modifiers_of, kind_of, is_interface, vars_of, supers_of, super_places_of, methods_of, fields_of, bounds_of, bound_places_of, variable_owner_of, method_owner_of, method_name_of, method_kind_of, method_modifiers_of, method_vars_of, params_of, param_places_of, param_names_of, result_of, thrown_of, thrown_places_of, is_variable_arity, has_body, field_owner_of, field_name_of, field_modifiers_of, field_type_of, class_named, uppers_of, lower_bound_of};
 
-use crate::declarations::{ClassDecl, FieldDecl, Kind, MethodDecl};
+use crate::declarations::{
+    ClassDecl, FieldDecl, Kind, MethodDecl, MethodKind, Modifiers, Owner, ParamName, TypePlaces,
+    VariableDecl,
+};
 use crate::environment::Bounds;
 use crate::form::Ty;
 use crate::ids::{CaptureId, ClassId, FieldId, MethodId, ScopeId, VarId};
 use crate::scopes::Scope;
 use crate::table::Table;
 
-/// The declaration of a class.
+/// The declaration of a class, with its places.
 pub fn class_at(table: &Table, id: ClassId) -> Option<&ClassDecl>
     ensures { option_copied result ≡ slice_get table.now.classes id.0 }
 {
     table.classes.get(id.0 as usize)
 }
 
-/// The declaration of a method.
+/// The declaration of a method, with its places.
 pub fn method_at(table: &Table, id: MethodId) -> Option<&MethodDecl>
     ensures { option_copied result ≡ slice_get table.now.methods id.0 }
 {
     table.methods.get(id.0 as usize)
 }
 
-/// The declaration of a field.
+/// The declaration of a field, with its places.
 pub fn field_at(table: &Table, id: FieldId) -> Option<&FieldDecl>
     ensures { option_copied result ≡ slice_get table.now.fields id.0 }
 {
     table.fields.get(id.0 as usize)
+}
+
+/// The declaration of a type variable, with its places.
+pub fn variable_at(table: &Table, id: VarId) -> Option<&VariableDecl>
+    ensures { option_copied result ≡ slice_get table.now.variables id.0 }
+{
+    table.variables.get(id.0 as usize)
 }
 
 /// A scope.
@@ -44,6 +54,88 @@ pub fn class_named(table: &Table, name: &str) -> ClassId
     match table.index.find(name) {
         Some(place) => ClassId(place),
         None => ClassId(0),
+    }
+}
+
+/// The simple name of a class.
+pub fn class_name(table: &Table, id: ClassId) -> &str
+    ensures { result.now ≡ class_name_of table.now id }
+{
+    match table.classes.get(id.0 as usize) {
+        Some(class) => class.name.str(),
+        None => "",
+    }
+}
+
+/// The binary name of a class, with dots (JLS 13.1).
+pub fn class_binary(table: &Table, id: ClassId) -> &str
+    ensures { result.now ≡ binary_of table.now id }
+{
+    match table.classes.get(id.0 as usize) {
+        Some(class) => class.binary.str(),
+        None => "",
+    }
+}
+
+/// The name of the package of a class, which is empty for the unnamed one.
+pub fn class_package(table: &Table, id: ClassId) -> &str
+    ensures { result.now ≡ package_of table.now id }
+{
+    match table.classes.get(id.0 as usize) {
+        Some(class) => class.package.str(),
+        None => "",
+    }
+}
+
+/// The class that a class is a member of.
+pub fn class_outer(table: &Table, id: ClassId) -> Option<ClassId>
+    ensures { result ≡ outer_of table.now id }
+{
+    match table.classes.get(id.0 as usize) {
+        Some(class) => class.outer,
+        None => None,
+    }
+}
+
+/// The member types of a class, in their order.
+pub fn class_members(table: &Table, id: ClassId) -> &[ClassId]
+    ensures { result.now ≡ members_of table.now id }
+{
+    match table.classes.get(id.0 as usize) {
+        Some(class) => class.members.slice(),
+        None => &[],
+    }
+}
+
+/// The modifiers of a class.
+pub fn class_modifiers(table: &Table, id: ClassId) -> Option<Modifiers>
+    ensures { result ≡ class_modifiers_of table.now id }
+{
+    match table.classes.get(id.0 as usize) {
+        Some(class) => Some(class.modifiers),
+        None => None,
+    }
+}
+
+/// What a type declaration declares.
+pub fn class_kind(table: &Table, id: ClassId) -> Option<Kind>
+    ensures { result ≡ kind_of table.now id }
+{
+    match table.classes.get(id.0 as usize) {
+        Some(class) => Some(class.kind),
+        None => None,
+    }
+}
+
+pub fn is_interface(table: &Table, id: ClassId) -> bool
+    ensures { result ≡ is_interface table.now id }
+{
+    match table.classes.get(id.0 as usize) {
+        Some(class) => match class.kind {
+            Kind::Class => false,
+            Kind::Interface => true,
+        },
+        None => false,
     }
 }
 
@@ -67,15 +159,13 @@ pub fn class_supers(table: &Table, id: ClassId) -> &[Ty]
     }
 }
 
-pub fn is_interface(table: &Table, id: ClassId) -> bool
-    ensures { result ≡ is_interface table.now id }
+/// Where the direct supertypes of a class are written.
+pub fn class_super_places(table: &Table, id: ClassId) -> &[TypePlaces]
+    ensures { result.now ≡ super_places_of table.now id }
 {
     match table.classes.get(id.0 as usize) {
-        Some(class) => match class.kind {
-            Kind::Class => false,
-            Kind::Interface => true,
-        },
-        None => false,
+        Some(class) => class.supers.places.slice(),
+        None => &[],
     }
 }
 
@@ -109,6 +199,66 @@ pub fn declared_bounds(table: &Table, var: VarId) -> &[Ty]
     }
 }
 
+/// Where the declared bounds of a type variable are written.
+pub fn bound_places(table: &Table, id: VarId) -> &[TypePlaces]
+    ensures { result.now ≡ bound_places_of table.now id }
+{
+    match table.variables.get(id.0 as usize) {
+        Some(variable) => variable.bounds.places.slice(),
+        None => &[],
+    }
+}
+
+/// The class or method whose type parameter a variable is.
+pub fn variable_owner(table: &Table, id: VarId) -> Option<Owner>
+    ensures { result ≡ variable_owner_of table.now id }
+{
+    match table.variables.get(id.0 as usize) {
+        Some(variable) => Some(variable.owner),
+        None => None,
+    }
+}
+
+/// The class that declares a method.
+pub fn method_owner(table: &Table, id: MethodId) -> Option<ClassId>
+    ensures { result ≡ method_owner_of table.now id }
+{
+    match table.methods.get(id.0 as usize) {
+        Some(method) => Some(method.class),
+        None => None,
+    }
+}
+
+/// The name of a method.
+pub fn method_name(table: &Table, id: MethodId) -> &str
+    ensures { result.now ≡ method_name_of table.now id }
+{
+    match table.methods.get(id.0 as usize) {
+        Some(method) => method.name.str(),
+        None => "",
+    }
+}
+
+/// What a method of the table is.
+pub fn method_kind(table: &Table, id: MethodId) -> Option<MethodKind>
+    ensures { result ≡ method_kind_of table.now id }
+{
+    match table.methods.get(id.0 as usize) {
+        Some(method) => Some(method.kind),
+        None => None,
+    }
+}
+
+/// The modifiers of a method.
+pub fn method_modifiers(table: &Table, id: MethodId) -> Option<Modifiers>
+    ensures { result ≡ method_modifiers_of table.now id }
+{
+    match table.methods.get(id.0 as usize) {
+        Some(method) => Some(method.modifiers),
+        None => None,
+    }
+}
+
 /// The type parameters of a method.
 pub fn method_vars(table: &Table, id: MethodId) -> &[VarId]
     ensures { result.now ≡ method_vars_of table.now id }
@@ -126,6 +276,109 @@ pub fn method_params(table: &Table, id: MethodId) -> &[Ty]
     match table.methods.get(id.0 as usize) {
         Some(method) => method.params.types.slice(),
         None => &[],
+    }
+}
+
+/// Where the types of a method's parameters are written.
+pub fn method_param_places(table: &Table, id: MethodId) -> &[TypePlaces]
+    ensures { result.now ≡ param_places_of table.now id }
+{
+    match table.methods.get(id.0 as usize) {
+        Some(method) => method.params.places.slice(),
+        None => &[],
+    }
+}
+
+/// The names of a method's parameters.
+pub fn method_param_names(table: &Table, id: MethodId) -> &[ParamName]
+    ensures { result.now ≡ param_names_of table.now id }
+{
+    match table.methods.get(id.0 as usize) {
+        Some(method) => method.param_names.slice(),
+        None => &[],
+    }
+}
+
+/// The result of a method. None for `void`, for a constructor and for a static initialiser.
+pub fn method_result(table: &Table, id: MethodId) -> Option<&Ty>
+    ensures { option_copied result ≡ result_of table.now id }
+{
+    match table.methods.get(id.0 as usize) {
+        Some(method) => match &method.result {
+            Some(written) => Some(&written.ty),
+            None => None,
+        },
+        None => None,
+    }
+}
+
+/// The types that a method says it throws (JLS 8.4.6).
+pub fn method_thrown(table: &Table, id: MethodId) -> &[Ty]
+    ensures { result.now ≡ thrown_of table.now id }
+{
+    match table.methods.get(id.0 as usize) {
+        Some(method) => method.thrown.types.slice(),
+        None => &[],
+    }
+}
+
+/// Where the types that a method throws are written.
+pub fn method_thrown_places(table: &Table, id: MethodId) -> &[TypePlaces]
+    ensures { result.now ≡ thrown_places_of table.now id }
+{
+    match table.methods.get(id.0 as usize) {
+        Some(method) => method.thrown.places.slice(),
+        None => &[],
+    }
+}
+
+/// Whether a method's last parameter takes any number of arguments (JLS 8.4.1).
+pub fn is_variable_arity(table: &Table, id: MethodId) -> bool
+    ensures { result ≡ is_variable_arity table.now id }
+{
+    match table.methods.get(id.0 as usize) {
+        Some(method) => method.is_variable_arity,
+        None => false,
+    }
+}
+
+/// Whether a method is written with a body.
+pub fn has_body(table: &Table, id: MethodId) -> bool
+    ensures { result ≡ has_body table.now id }
+{
+    match table.methods.get(id.0 as usize) {
+        Some(method) => method.has_body,
+        None => false,
+    }
+}
+
+/// The class that declares a field.
+pub fn field_owner(table: &Table, id: FieldId) -> Option<ClassId>
+    ensures { result ≡ field_owner_of table.now id }
+{
+    match table.fields.get(id.0 as usize) {
+        Some(field) => Some(field.class),
+        None => None,
+    }
+}
+
+/// The name of a field.
+pub fn field_name(table: &Table, id: FieldId) -> &str
+    ensures { result.now ≡ field_name_of table.now id }
+{
+    match table.fields.get(id.0 as usize) {
+        Some(field) => field.name.str(),
+        None => "",
+    }
+}
+
+/// The modifiers of a field.
+pub fn field_modifiers(table: &Table, id: FieldId) -> Option<Modifiers>
+    ensures { result ≡ field_modifiers_of table.now id }
+{
+    match table.fields.get(id.0 as usize) {
+        Some(field) => Some(field.modifiers),
+        None => None,
     }
 }
 

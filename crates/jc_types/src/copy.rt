@@ -17,10 +17,11 @@ pub fn copy_type(alloc: Global, ty: &Ty) -> Result<Ty, WantOfMemory>
             Ok(Ty::Class { id: *id, args })
         }
         Ty::Raw { id } => Ok(Ty::Raw { id: *id }),
-        Ty::Array { of } => {
+        Ty::Array { of, further } => {
             let of = copy_type(alloc, of.get())?;
             Ok(Ty::Array {
                 of: Boxed::new(alloc, of)?,
+                further: *further,
             })
         }
         Ty::Variable(v) => Ok(Ty::Variable(*v)),

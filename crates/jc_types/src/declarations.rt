@@ -3,19 +3,26 @@ use crate::form::Ty;
 use crate::ids::{ClassId, FieldId, MethodId, ScopeId, VarId};
 use jc_rules::{Items, Place, Text};
 
-/// A type as it is written: the type, and a place for each class or raw type inside it, itself included, in the order in
-/// which they are written. An implied type has no places.
+/// Where a type is written: the place of its first token, and a place for each class or raw type inside it, itself included,
+/// in the order of `class_types`. A type that is implied has the place of what implies it, and no places inside.
+#[derive(Drop)]
+pub struct TypePlaces {
+    pub first: Place,
+    pub classes: Items<Place>,
+}
+
+/// A type as it is written.
 #[derive(Drop)]
 pub struct Written {
     pub ty: Ty,
-    pub places: Items<Place>,
+    pub places: TypePlaces,
 }
 
-/// Types as they are written, with the places of each as in `Written`.
+/// Types as they are written, with the places of each.
 #[derive(Drop)]
 pub struct WrittenTypes {
     pub types: Items<Ty>,
-    pub places: Items<Items<Place>>,
+    pub places: Items<TypePlaces>,
 }
 
 /// Who may use a declaration (JLS 6.6).
@@ -51,16 +58,19 @@ pub enum Kind {
 
 /// A class or interface (JLS 8 and 9).
 ///
-/// `name` is its simple name and `binary` its binary name with dots (JLS 13.1). `outer` is the class that it is a member
-/// of. The first of `supers` is the superclass, which is `Object` for an interface and where none is written; `Object`
-/// alone has no supertype. The superinterfaces follow in the order in which they are written. `methods` and `fields` list
-/// what it declares, in their order.
+/// `name` is its simple name, `binary` its binary name with dots (JLS 13.1), and `package` the name of its package, which is
+/// empty for the unnamed one. `outer` is the class that it is a member of, and `members` lists its own member types in their
+/// order. `scope` is that of its body. The first of `supers` is the superclass, which is `Object` for an interface and where
+/// none is written; `Object` alone has no supertype. The superinterfaces follow in the order in which they are written.
+/// `methods` and `fields` list what it declares, in their order.
 #[derive(Drop)]
 pub struct ClassDecl {
     pub place: Place,
     pub name: Text,
     pub binary: Text,
+    pub package: Text,
     pub outer: Option<ClassId>,
+    pub members: Items<ClassId>,
     pub scope: ScopeId,
     pub modifiers: Modifiers,
     pub kind: Kind,
@@ -83,10 +93,19 @@ pub enum MethodKind {
     StaticInitialiser,
 }
 
+/// The name of a parameter (JLS 8.4.1), with its place, and whether it is `final`.
+#[derive(Drop)]
+pub struct ParamName {
+    pub place: Place,
+    pub name: Text,
+    pub is_final: bool,
+}
+
 /// A method, constructor or static initialiser (JLS 8.4, 8.8 and 9.4).
 ///
-/// `result` is None for `void`, for a constructor and for a static initialiser. `is_variable_arity` tells that the last
-/// parameter, whose type is an array, was written with dots (JLS 8.4.1).
+/// `class` declares it. `param_names` has the name of each parameter of `params`. `result` is None for `void`, for a constructor
+/// and for a static initialiser. `is_variable_arity` tells that the last parameter, whose type is an array, was written with
+/// dots (JLS 8.4.1).
 #[derive(Drop)]
 pub struct MethodDecl {
     pub place: Place,
@@ -97,7 +116,7 @@ pub struct MethodDecl {
     pub scope: ScopeId,
     pub vars: Items<VarId>,
     pub params: WrittenTypes,
-    pub param_names: Items<Text>,
+    pub param_names: Items<ParamName>,
     pub result: Option<Written>,
     pub thrown: WrittenTypes,
     pub is_variable_arity: bool,
@@ -117,7 +136,7 @@ pub enum FieldValue {
     Known(Constant),
 }
 
-/// A field (JLS 8.3 and 9.3).
+/// A field (JLS 8.3 and 9.3). `class` declares it.
 #[derive(Drop)]
 pub struct FieldDecl {
     pub place: Place,

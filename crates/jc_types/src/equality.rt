@@ -32,7 +32,13 @@ fn equal_types(a: &Ty, b: &Ty) -> bool
             },
         ) => { id == other && equal_arg_lists(args.slice(), others.slice()) }
         (Ty::Raw { id }, Ty::Raw { id: other }) => id == other,
-        (Ty::Array { of }, Ty::Array { of: other }) => equal_types(of.get(), other.get()),
+        (
+            Ty::Array { of, further },
+            Ty::Array {
+                of: other,
+                further: others,
+            },
+        ) => { further == others && equal_types(of.get(), other.get()) }
         (Ty::Variable(v), Ty::Variable(w)) => v == w,
         (Ty::Captured(v), Ty::Captured(w)) => v == w,
         (Ty::Meet { parts }, Ty::Meet { parts: others }) => equal_lists(

@@ -1,4 +1,4 @@
-ghost use Rattle.std.specs.Prelude.{◌≡◌, IsTrue};
+ghost use Rattle.std.specs.Prelude.{◌≡◌, ◌+◌, ◌-◌, ◌^◌, min, IsTrue};
 ghost use Rattle.std.specs.Option.{option_copied};
 ghost use Rattle.jc_types.specs.declared.form.Ty.{out-Ty};
 ghost use Rattle.jc_types.specs.Erasing.{erasure, erased_within, capped, raised, leftmost_within, is_inner, own_base, variable_bounds, Reaches, object};
@@ -87,8 +87,8 @@ fn inner_type(ty: &Ty) -> (&Ty, u32)
     let mut inner = ty;
     loop {
         match inner {
-            Ty::Array { of } => {
-                dims = dims.saturating_add(1);
+            Ty::Array { of, further } => {
+                dims = more_dims(dims, *further);
                 inner = of.get();
             }
             Ty::Meet { parts } => match parts.slice() {
@@ -98,6 +98,13 @@ fn inner_type(ty: &Ty) -> (&Ty, u32)
             _ => return (inner, dims),
         }
     }
+}
+
+// That many dimensions, and `further + 1` more.
+fn more_dims(dims: u32, further: u64) -> u32
+    ensures { result ≡ min (dims + (further + 1)) (2 ^ 32 - 1) }
+{
+    dims.saturating_add(further.saturating_add(1).min(u32::MAX as u64) as u32)
 }
 
 #[tactic(auto, using(crate::proofs::Opened::opened))]

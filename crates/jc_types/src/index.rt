@@ -1,4 +1,5 @@
-ghost use Rattle.std.specs.Prelude.{◌≡◌, [], ◌++◌, ◌∷◌, None, OnOk, OnErr, string_bytes};
+ghost use Rattle.std.specs.Prelude.{◌≡◌, [], ◌++◌, ◌∷◌, None, OnOk, OnErr, length, slice_get, string_bytes};
+ghost use Rattle.std.specs.Option.{option_copied, option_map};
 ghost use Rattle.indexmap.specs.IndexMap.{get_by_text};
 ghost use Rattle.jc_types.specs.Names.{named};
 
@@ -40,6 +41,26 @@ impl Names {
         look_up(&self.entries_by_name, name)
     }
 
+    pub fn len(&self) -> usize
+        ensures { result ≡ length self.now }
+    {
+        count(&self.entries_by_name)
+    }
+
+    /// The name that was added at this turn, counted from 0.
+    pub fn name_at(&self, turn: usize) -> Option<&str>
+        ensures { option_copied result ≡ option_map (λ e. e.0) (slice_get self.now turn) }
+    {
+        key_at(&self.entries_by_name, turn)
+    }
+
+    /// The place of the name that was added at this turn, counted from 0.
+    pub fn place_at(&self, turn: usize) -> Option<u64>
+        ensures { result ≡ option_map (λ e. e.1) (slice_get self.now turn) }
+    {
+        value_at(&self.entries_by_name, turn)
+    }
+
     /// Adds a name that isn't there yet.
     pub fn add(&mut self, name: String, place: u64) -> Result<(), WantOfMemory>
         requires { named (string_bytes name) self.old ≡ None }
@@ -54,6 +75,30 @@ fn look_up(entries: &IndexMap<String, u64>, name: &str) -> Option<u64>
     ensures { result ≡ get_by_text entries.now name.now }
 {
     entries.get(name).copied()
+}
+
+fn count(entries: &IndexMap<String, u64>) -> usize
+    ensures { result ≡ length entries.now.entries }
+{
+    entries.len()
+}
+
+fn key_at(entries: &IndexMap<String, u64>, turn: usize) -> Option<&str>
+    ensures { option_copied result ≡ option_map (λ e. string_bytes e.0) (slice_get entries.now.entries turn) }
+{
+    match entries.get_index(turn) {
+        Some((name, _)) => Some(name.as_str()),
+        None => None,
+    }
+}
+
+fn value_at(entries: &IndexMap<String, u64>, turn: usize) -> Option<u64>
+    ensures { result ≡ option_map (λ e. e.1) (slice_get entries.now.entries turn) }
+{
+    match entries.get_index(turn) {
+        Some((_, place)) => Some(*place),
+        None => None,
+    }
 }
 
 #[tactic(auto, using(crate::proofs::Finds::new_entry))]

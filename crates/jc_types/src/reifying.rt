@@ -45,7 +45,7 @@ pub fn reifiable(table: &Table, ty: &Ty) -> bool
         Ty::Prim(_) => true,
         Ty::Class { id, args } => is_raw_or_unbounded(class_vars(table, *id), args.slice()),
         Ty::Raw { .. } => true,
-        Ty::Array { of } => reifiable(table, of.get()),
+        Ty::Array { of, .. } => reifiable(table, of.get()),
         Ty::Variable(_) => false,
         Ty::Captured(_) => false,
         Ty::Meet { .. } => false,
@@ -71,10 +71,12 @@ fn is_raw_or_unbounded(vars: &[VarId], args: &[Arg]) -> bool
 fn all_unbounded(args: &[Arg]) -> bool
     ensures { result ≡ all_true (map is_unbounded args.now) }
 {
-    match args {
-        [] => true,
-        [arg, args @ ..] => is_unbounded(arg) && all_unbounded(args),
+    for i in 0..args.len() {
+        if !is_unbounded(&args[i]) {
+            return false;
+        }
     }
+    true
 }
 
 #[tactic(auto, using(crate::proofs::Opened::opened), unfolding(crate::specs::Reifying::is_unbounded))]

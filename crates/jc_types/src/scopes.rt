@@ -51,10 +51,19 @@ pub struct Scope {
     pub of: ScopeOf,
 }
 
-/// A type that a body writes, its scope, and the place of its first token.
+/// What a type that a body writes stands for: the type itself, or the type that is inferred for a diamond (JLS 15.9), of which
+/// the class alone is written. A diamond's class stands here as a raw type, and is no raw type that is written.
+#[derive(Clone, Copy, Debug, PartialEq, Eq, Hash)]
+pub enum UseKind {
+    Type,
+    Diamond,
+}
+
+/// A type that a body writes: the class whose body it is, the scope in which it stands there, and what it stands for.
 #[derive(Drop)]
 pub struct Use {
+    pub class: ClassId,
     pub scope: ScopeId,
-    pub place: Place,
     pub ty: Written,
+    pub kind: UseKind,
 }

@@ -1,9 +1,9 @@
-ghost use Rattle.std.specs.Prelude.{◌≡◌, sum, map};
+ghost use Rattle.std.specs.Prelude.{◌≡◌, ◌+◌, sum, map};
 ghost use Rattle.jc_types.specs.Counting.{count_of, arg_count_of, capped};
 
 use crate::form::{Arg, Ty};
 
-/// How many types and wildcards a type consists of, itself included. It stays at the greatest u32 where there are more.
+/// How many types and wildcards a type consists of, itself and each dimension of an array included. It stays at the greatest u32 where there are more.
 #[cycle(size)]
 #[tactic(auto, using(crate::proofs::Counted::counted))]
 pub fn size(ty: &Ty) -> u32
@@ -13,12 +13,20 @@ pub fn size(ty: &Ty) -> u32
         Ty::Prim(_) => 1,
         Ty::Class { args, .. } => args_size(args.slice()).saturating_add(1),
         Ty::Raw { .. } => 1,
-        Ty::Array { of } => size(of.get()).saturating_add(1),
+        Ty::Array { of, further } => with_dims(size(of.get()), *further),
         Ty::Variable(_) => 1,
         Ty::Captured(_) => 1,
         Ty::Meet { parts } => types_size(parts.slice()).saturating_add(1),
         Ty::NullTy => 1,
     }
+}
+
+// A size, and one for each dimension.
+fn with_dims(of: u32, further: u64) -> u32
+    ensures { result ≡ capped (of + further + 1) }
+{
+    let dims = further.saturating_add(1).min(u32::MAX as u64) as u32;
+    of.saturating_add(dims)
 }
 
 #[cycle(size)]

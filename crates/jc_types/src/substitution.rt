@@ -1,10 +1,11 @@
 ghost use Rattle.std.specs.Prelude.{◌≡◌, IfOk, map, length};
 ghost use Rattle.jc_types.specs.Substitution.{subst, subst_arg, replacement};
 
+use crate::arrays::array_over;
 use crate::copy::copy_type;
 use crate::form::{Arg, Ty};
 use crate::ids::VarId;
-use jc_rules::{Boxed, Items, WantOfMemory};
+use jc_rules::{Items, WantOfMemory};
 use std::alloc::Global;
 
 /// The type with the types of `by` for the variables of `vars`, place by place (JLS 4.5.2).
@@ -21,11 +22,9 @@ pub fn substitute(alloc: Global, ty: &Ty, vars: &[VarId], by: &[Ty]) -> Result<T
             Ok(Ty::Class { id: *id, args })
         }
         Ty::Raw { id } => Ok(Ty::Raw { id: *id }),
-        Ty::Array { of } => {
+        Ty::Array { of, further } => {
             let of = substitute(alloc, of.get(), vars, by)?;
-            Ok(Ty::Array {
-                of: Boxed::new(alloc, of)?,
-            })
+            array_over(alloc, of, *further)
         }
         Ty::Variable(v) => put_for(alloc, *v, vars, by),
         Ty::Captured(c) => Ok(Ty::Captured(*c)),
@@ -95,17 +94,10 @@ fn put_for(alloc: Global, v: VarId, vars: &[VarId], by: &[Ty]) -> Result<Ty, Wan
     requires { length vars.now ≡ length by.now }
     ensures { IfOk result (λ r. r ≡ replacement vars.now by.now v) }
 {
-    match vars {
-        [] => Ok(Ty::Variable(v)),
-        [w, vars @ ..] => match by {
-            [] => Ok(Ty::Variable(v)),
-            [t, by @ ..] => {
-                if *w == v {
-                    copy_type(alloc, t)
-                } else {
-                    put_for(alloc, v, vars, by)
-                }
-            }
-        },
+    for i in 0..vars.len() {
+        if vars[i] == v {
+            return copy_type(alloc, &by[i]);
+        }
     }
+    Ok(Ty::Variable(v))
 }

@@ -5,7 +5,7 @@ use Rattle.jc_types.proofs.erasing.inner_type.Goals as goal
 
 pub loop-inner-preserved-in-Array : goal.loop-inner-preserved-in-Array
 loop-inner-preserved-in-Array c =
-    reaches_element _ _ _ _ _ c.loop-inner.invariant (c.in-Array.is ∙ ap Array (sym c.get-inner.ensures)) c.saturating_add-dims.ensures
+    reaches_element _ _ _ _ _ _ c.loop-inner.invariant (c.in-Array.is ∙ ap (λ e. Array e c.in-Array.further) (sym c.get-inner.ensures)) c.more_dims-dims.ensures
 
 pub loop-inner-preserved : goal.loop-inner-preserved
 loop-inner-preserved c =

@@ -1,6 +1,6 @@
 use Rattle.std.proofs.Common.{◌≡◌, ◌++◌, take}
-use Rattle.jc_judge.specs.WellFormed.{inside_args, inside_types}
-use Rattle.jc_wellformed.proofs.inside.+inside.Given as goal
+use Rattle.jc_types.specs.Inside.{inside_args, inside_types}
+use Rattle.jc_types.proofs.inside.+inside.Given as goal
 
 abbrev pub invariant-push_inside_args-loop-i : goal.invariant-push_inside_args-loop-i
 invariant-push_inside_args-loop-i l = l.out ≡ l.fn.out ++ inside_args (take l.i l.args)

@@ -9,7 +9,7 @@ use Rattle.jc_types.specs.declared.ids.ClassId.{ClassId}
 use Rattle.jc_types.specs.declared.ids.VarId.{VarId}
 use Rattle.jc_types.specs.declared.ids.CaptureId.{CaptureId}
 use Rattle.jc_types.specs.declared.form.Primitive.{Primitive}
-use Rattle.jc_judge.specs.WellFormed.{inside, inside_arg, inside_args, inside_types, inside_at, inside_arg_at, parts_of_args, parts_of_types}
+use Rattle.jc_types.specs.Inside.{inside, inside_arg, inside_args, inside_types, inside_at, inside_arg_at, parts_of_args, parts_of_types}
 
 inside_rolled : (l : Ty-F Arg Ty) → inside (roll-Ty l) ≡ inside_at (map-Ty Arg Ty (Arg × List Ty) (Ty × List Ty) (λ a. (a, inside_arg a)) (λ t. (t, inside t)) l)
 unfolding inside inside_arg
@@ -37,8 +37,8 @@ inside-Class i xs =
     ∙ ap (λ ys. Class i ys ∷ parts_of_args (map (λ a. (a, inside_arg a)) xs)) (paired_args xs)
     ∙ ap (λ ys. Class i xs ∷ ys) (args_parts xs)
 
-pub inside-Array : (t : Ty) → inside (Array t) ≡ inside t
-inside-Array t = ap inside (sym (rolls-Array t)) ∙ inside_rolled (Ty-F.Array t)
+pub inside-Array : (t : Ty) (n : ℕ) → inside (Array t n) ≡ inside t
+inside-Array t n = ap inside (sym (rolls-Array t n)) ∙ inside_rolled (Ty-F.Array t n)
 
 pub inside-Meet : (xs : List Ty) → inside (Meet xs) ≡ inside_types xs
 inside-Meet xs = ap inside (sym (rolls-Meet xs)) ∙ inside_rolled (Ty-F.Meet xs) ∙ types_parts xs
@@ -46,7 +46,7 @@ inside-Meet xs = ap inside (sym (rolls-Meet xs)) ∙ inside_rolled (Ty-F.Meet xs
 pub inside-Prim : (p : Primitive) → inside (Prim p) ≡ []
 inside-Prim p = ap inside (sym (rolls-Prim p)) ∙ inside_rolled (Ty-F.Prim p)
 
-pub inside-Raw : (i : ClassId) → inside (Raw i) ≡ []
+pub inside-Raw : (i : ClassId) → inside (Raw i) ≡ Raw i ∷ []
 inside-Raw i = ap inside (sym (rolls-Raw i)) ∙ inside_rolled (Ty-F.Raw i)
 
 pub inside-Variable : (v : VarId) → inside (Variable v) ≡ []

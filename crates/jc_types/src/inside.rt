@@ -1,14 +1,23 @@
-ghost use Rattle.std.specs.Prelude.{◌≡◌, ◌++◌, OnOk};
-ghost use Rattle.jc_judge.specs.WellFormed.{inside, inside_arg, inside_args, inside_types};
+ghost use Rattle.std.specs.Prelude.{◌≡◌, ◌++◌, IfOk, OnOk};
+ghost use Rattle.jc_types.specs.Inside.{inside, inside_arg, inside_args, inside_types};
 
+use crate::copy::copy_type;
+use crate::form::{Arg, Ty};
 use jc_rules::{Items, WantOfMemory};
-use jc_types::{Arg, Ty, copy_type};
 use std::alloc::Global;
 
-/// Adds the class types in a type, itself first, in the order in which they are written.
+/// The class and raw types in a type, itself first, in the order in which they are written.
+pub fn class_types(alloc: Global, ty: &Ty) -> Result<Items<Ty>, WantOfMemory>
+    ensures { IfOk result (λ r. r ≡ inside ty.now) }
+{
+    let mut out = Items::new(alloc);
+    push_inside(alloc, ty, &mut out)?;
+    Ok(out)
+}
+
 #[cycle(inside)]
 #[tactic(auto, using(crate::proofs::Insides::insides))]
-pub fn push_inside(alloc: Global, ty: &Ty, out: &mut Items<Ty>) -> Result<(), WantOfMemory>
+fn push_inside(alloc: Global, ty: &Ty, out: &mut Items<Ty>) -> Result<(), WantOfMemory>
     ensures { OnOk result (out.new ≡ out.old ++ inside ty.now) }
 {
     match ty {
@@ -17,10 +26,10 @@ pub fn push_inside(alloc: Global, ty: &Ty, out: &mut Items<Ty>) -> Result<(), Wa
             out.push(copy)?;
             push_inside_args(alloc, args.slice(), out)
         }
-        Ty::Array { of } => push_inside(alloc, of.get(), out),
+        Ty::Array { of, .. } => push_inside(alloc, of.get(), out),
         Ty::Meet { parts } => push_inside_types(alloc, parts.slice(), out),
         Ty::Prim(_) => Ok(()),
-        Ty::Raw { .. } => Ok(()),
+        Ty::Raw { id } => out.push(Ty::Raw { id: *id }),
         Ty::Variable(_) => Ok(()),
         Ty::Captured(_) => Ok(()),
         Ty::NullTy => Ok(()),

@@ -1,7 +1,7 @@
 use Rattle.std.proofs.Common.{◌++◌, ◌∷◌, [], arith, ap, ◌∙◌}
-use Rattle.jc_judge.specs.WellFormed.{inside, inside_arg}
-use Rattle.jc_wellformed.proofs.Insides.{inside-Prim, inside-Raw, inside-Variable, inside-Captured, inside-NullTy, inside_arg-Any, none_inside, args_step, types_step, class_step, on_ok_along}
-use Rattle.jc_wellformed.proofs.inside.+inside.Goals as goal
+use Rattle.jc_types.specs.Inside.{inside, inside_arg}
+use Rattle.jc_types.proofs.Insides.{inside-Prim, inside-Variable, inside-Captured, inside-NullTy, inside_arg-Any, none_inside, args_step, types_step, class_step, on_ok_along}
+use Rattle.jc_types.proofs.inside.+inside.Goals as goal
 
 pub push_inside-returns-in_ok-push-in-Class : goal.push_inside-returns-in_ok-push-in-Class
 push_inside-returns-in_ok-push-in-Class t c =
@@ -10,9 +10,6 @@ push_inside-returns-in_ok-push-in-Class t c =
 
 pub push_inside-returns-in-Prim : goal.push_inside-returns-in-Prim
 push_inside-returns-in-Prim t c = none_inside _ _ (ap inside c.in-Prim.is ∙ inside-Prim _)
-
-pub push_inside-returns-in-Raw : goal.push_inside-returns-in-Raw
-push_inside-returns-in-Raw t c = none_inside _ _ (ap inside c.in-Raw.is ∙ inside-Raw _)
 
 pub push_inside-returns-in-Variable : goal.push_inside-returns-in-Variable
 push_inside-returns-in-Variable t c = none_inside _ _ (ap inside c.in-Variable.is ∙ inside-Variable _)
