@@ -6,7 +6,7 @@ use crate::{Read, Unreadable};
 use jc_rules::{Items, Stop};
 use jc_sub::{Answer, CaptureFault, as_one, below, capture, classes_meet, contained, glb_parts, view};
 use jc_types::{Arg, Env, Table, Ty, erasure};
-use jc_wellformed::{TypeFault, check_type};
+use jc_wellformed::{TypeFault, check_type, class_faults, well_formed};
 use std::alloc::Global;
 
 /// A table, its names, and the variables that its captures made.
@@ -52,6 +52,8 @@ impl Asker {
             "glb" => self.glb(alloc, line),
             "erasure" => self.erasure(alloc, first),
             "wellformed" => self.well_formed(alloc, first),
+            "formed" => self.formed(alloc, first),
+            "faults" => self.faults(alloc, first),
             "view" => self.view(alloc, first, second),
             _ => Err(Stop::Refused(Unreadable)),
         }
@@ -134,6 +136,26 @@ impl Asker {
             Err(Stop::Refused(fault)) => fault_words(alloc, fault),
             Err(Stop::WantOfMemory) => Err(Stop::WantOfMemory),
         }
+    }
+
+    fn formed(&self, alloc: Global, first: &str) -> Read<String> {
+        let ty = self.type_of(alloc, first)?;
+        let answer = well_formed(alloc, &self.table, &self.env, &ty)?;
+        Ok(String::from_str(alloc, answer_word(answer))?)
+    }
+
+    fn faults(&self, alloc: Global, first: &str) -> Read<String> {
+        let ty = self.type_of(alloc, first)?;
+        let faults = class_faults(alloc, &self.table, &self.env, &ty)?;
+        let mut out = String::new(alloc);
+        for (n, fault) in faults.slice().iter().enumerate() {
+            if n > 0 {
+                out.push_str(", ")?;
+            }
+            let words = fault_words(alloc, *fault)?;
+            out.push_str(words.as_str())?;
+        }
+        Ok(out)
     }
 
     fn view(&self, alloc: Global, first: &str, second: &str) -> Read<String> {

@@ -4,8 +4,8 @@ use crate::types::{read_bounds, read_type};
 use crate::{Read, Unreadable};
 use jc_rules::{Items, Place, Stop, Text, WantOfMemory};
 use jc_types::{
-    Access, ClassDecl, ClassId, Kind, MethodId, Modifiers, Names, Owner, ScopeId, Table, Ty, VarId,
-    VariableDecl, WrittenTypes,
+    Access, ClassDecl, ClassId, Kind, MethodId, Modifiers, Names, Owner, ScopeId, Table, Ty, TypePlaces,
+    VarId, VariableDecl, WrittenTypes,
 };
 use std::alloc::Global;
 
@@ -129,17 +129,21 @@ fn add_variable(
         place: NOWHERE,
         name: Text::of(String::from_str(alloc, name)?),
         owner,
-        bounds: implied(alloc, bounds),
+        bounds: implied(alloc, bounds)?,
     })?;
     Ok(())
 }
 
-/// Types without places.
-fn implied(alloc: Global, types: Items<Ty>) -> WrittenTypes {
-    WrittenTypes {
-        types,
-        places: Items::new(alloc),
+/// Types that nothing writes.
+fn implied(alloc: Global, types: Items<Ty>) -> Result<WrittenTypes, WantOfMemory> {
+    let mut places = Items::new(alloc);
+    for _ in 0..types.len() {
+        places.push(TypePlaces {
+            first: NOWHERE,
+            classes: Items::new(alloc),
+        })?;
     }
+    Ok(WrittenTypes { types, places })
 }
 
 fn class_decl(
@@ -153,7 +157,9 @@ fn class_decl(
         place: NOWHERE,
         name: Text::of(String::from_str(alloc, name)?),
         binary: Text::of(String::from_str(alloc, name)?),
+        package: Text::of(String::new(alloc)),
         outer: None,
+        members: Items::new(alloc),
         scope: ScopeId(0),
         modifiers: Modifiers {
             access: Access::Public,
@@ -167,7 +173,7 @@ fn class_decl(
         },
         kind,
         vars,
-        supers: implied(alloc, supers),
+        supers: implied(alloc, supers)?,
         methods: Items::new(alloc),
         fields: Items::new(alloc),
     })

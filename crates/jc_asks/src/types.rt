@@ -1,8 +1,8 @@
 //! Types from words. They are read from left to right, and what is open stands on a stack.
 use crate::names::{Named, Scope};
 use crate::{Read, Unreadable};
-use jc_rules::{Boxed, Items, Stop};
-use jc_types::{Arg, CaptureId, ClassId, Primitive, Ty, VarId};
+use jc_rules::{Items, Stop};
+use jc_types::{Arg, CaptureId, ClassId, Primitive, Ty, VarId, array_over};
 use std::alloc::Global;
 use std::mem;
 
@@ -142,9 +142,7 @@ impl<'a> Reader<'a> {
         self.end_name(alloc)?;
         match self.last.take() {
             Some(ty) => {
-                self.last = Some(Ty::Array {
-                    of: Boxed::new(alloc, ty)?,
-                });
+                self.last = Some(array_over(alloc, ty, 0)?);
                 Ok(())
             }
             None => Err(Stop::Refused(Unreadable)),

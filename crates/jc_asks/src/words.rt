@@ -1,6 +1,7 @@
 //! Types in words, as they are read.
-use jc_types::{Arg, Base, Erased, Primitive, Table, Ty, VarId, class_at};
-use jc_types::{Bounds, ClassId};
+use jc_types::{
+    Arg, Base, Bounds, ClassId, Erased, Primitive, Table, Ty, VarId, class_at, variable_at,
+};
 use std::alloc::{AllocError, Global};
 
 fn put_number(alloc: Global, out: &mut String, number: u64) -> Result<(), AllocError> {
@@ -16,7 +17,7 @@ fn put_class(out: &mut String, table: &Table, id: ClassId) -> Result<(), AllocEr
 }
 
 fn put_variable(out: &mut String, table: &Table, id: VarId) -> Result<(), AllocError> {
-    match table.variables.get(id.0 as usize) {
+    match variable_at(table, id) {
         Some(variable) => out.push_str(variable.name.str()),
         None => out.push_str("NoVariable"),
     }
@@ -33,6 +34,14 @@ fn primitive_word(word: Primitive) -> &'static str {
     }
 }
 
+/// The brackets of an array with that many dimensions and one more.
+fn put_dimensions(out: &mut String, further: u64) -> Result<(), AllocError> {
+    for _ in 0..further {
+        out.push_str("[]")?;
+    }
+    out.push_str("[]")
+}
+
 #[cycle(words)]
 pub fn put_type(
     alloc: Global,
@@ -47,9 +56,9 @@ pub fn put_type(
             put_args(alloc, out, table, args.slice())
         }
         Ty::Raw { id } => put_class(out, table, *id),
-        Ty::Array { of } => {
+        Ty::Array { of, further } => {
             put_type(alloc, out, table, of.get())?;
-            out.push_str("[]")
+            put_dimensions(out, *further)
         }
         Ty::Variable(id) => put_variable(out, table, *id),
         Ty::Captured(id) => {

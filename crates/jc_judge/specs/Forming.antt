@@ -1,11 +1,12 @@
 -- Whether a type is well formed, as far as its bounds go (JLS 4.5), and all faults of a class type.
-use Rattle.std.specs.Prelude.{ℕ, ◌+◌, ◌==◌, Bool, true, false, List, [], ◌∷◌, ◌++◌, length, ◌⊎◌, if◌then◌else◌}
+use Rattle.std.specs.Prelude.{ℕ, ◌+◌, ◌==◌, ◌||◌, Bool, true, false, Option, Some, None, List, [], ◌∷◌, ◌++◌, length, ◌⊎◌, if◌then◌else◌}
 use Rattle.jc_types.specs.declared.form.Ty.{Ty, Ty-F, out-Ty}
 use Rattle.jc_types.specs.declared.form.Arg.{Arg, out-Arg}
 use Rattle.jc_types.specs.declared.ids.VarId.{VarId}
 use Rattle.jc_types.specs.declared.table.Table.{Table}
 use Rattle.jc_types.specs.declared.environment.Bounds.{Bounds}
 use Rattle.jc_types.specs.Accessors.{vars_of}
+use Rattle.jc_types.specs.Inside.{inside}
 use Rattle.jc_judge.specs.declared.question.Part.{Part}
 use Rattle.jc_judge.specs.declared.question.Answer.{Answer}
 use Rattle.jc_judge.specs.declared.question.Answer.TheVariants.{Yes, No, Deep}
@@ -15,7 +16,7 @@ use Rattle.jc_judge.specs.Kinds.{Layer, ArgLayer}
 use Rattle.jc_judge.specs.Capturing.{captured_args, fresh_args, put_bounds, meets_at}
 use Rattle.jc_judge.specs.Trees.{Trees, PartProved, PartRefuted, Each, OneOf, Proof, Refute, both}
 use Rattle.jc_judge.specs.Deciding.{answer_of, part_answer, every_answer}
-use Rattle.jc_judge.specs.WellFormed.{upper_parts, lower_parts, is_primitive_arg, bare, inside}
+use Rattle.jc_judge.specs.WellFormed.{upper_parts, lower_parts, is_primitive_arg, bare}
 
 -- what has to hold of an argument that is captured as s, whose parameter has these bounds. A primitive one is asked nothing
 abbrev pub captured_parts : Ty → ArgLayer → List Ty → List Part
@@ -99,9 +100,12 @@ IsWellFormed T d env t = Formed (Proof T d) T env t
 abbrev pub IsIllFormed : Table → ℕ → List Bounds → Ty → Type 0
 IsIllFormed T d env t = Ill (Refute T d) T env t
 
+-- whether all these hold, by trees of at most this height
+abbrev pub all_hold : Table → ℕ → List Bounds → List Part → Answer
+all_hold T d env parts = every_answer (part_answer (answer_of T d env)) parts
+
 abbrev pub needs_answer : Table → ℕ → Needs → Answer
-needs_answer T d n =
-    both (every_answer (part_answer (answer_of T d n.full)) n.captured) (every_answer (part_answer (answer_of T d n.plain)) n.lower)
+needs_answer T d n = both (all_hold T d n.full n.captured) (all_hold T d n.plain n.lower)
 
 abbrev pub all_formed_answer : Table → ℕ → List Bounds → List Ty → Answer
 all_formed_answer T d env [] = Yes
@@ -111,33 +115,32 @@ all_formed_answer T d env (t ∷ ts) = both (needs_answer T d (needs T env t)) (
 unfoldable pub formed_answer : Table → ℕ → List Bounds → Ty → Answer
 formed_answer T d env t = all_formed_answer T d env (inside t)
 
--- the faults of an argument, by the answers on its upper and its lower parts, in the order of the rules
-abbrev pub refused_fault : Answer → TypeFault → List TypeFault
-refused_fault No f = f ∷ []
-refused_fault _ f = []
+abbrev pub is_no : Answer → Bool
+is_no No = true
+is_no _ = false
 
-abbrev pub deep_fault : Answer → Answer → List TypeFault
-deep_fault Deep lower = fault.Deep ∷ []
-deep_fault upper Deep = fault.Deep ∷ []
-deep_fault upper lower = []
+abbrev pub is_deep : Answer → Bool
+is_deep Deep = true
+is_deep _ = false
 
-abbrev pub found_fault : Bool → TypeFault → List TypeFault
-found_fault true f = f ∷ []
-found_fault false f = []
+abbrev pub fault_if : Bool → TypeFault → List TypeFault
+fault_if true f = f ∷ []
+fault_if false f = []
 
+-- the faults of argument i, which is no primitive type, by the answers on its upper and its lower parts, in the order of the rules
 abbrev pub reference_faults : ℕ → Answer → Answer → Bool → List TypeFault
 reference_faults i upper lower meets =
-    refused_fault upper (fault.Bound i) ++ (refused_fault lower (fault.SuperBound i) ++ (found_fault meets (fault.ClassesMeet i) ++ deep_fault upper lower))
+    fault_if (is_no upper) (fault.Bound i) ++ fault_if (is_no lower) (fault.SuperBound i) ++ fault_if meets (fault.ClassesMeet i)
+    ++ fault_if (is_deep upper || is_deep lower) fault.Deep
 
 -- a primitive argument breaks its own rule alone
-abbrev pub faults_of_arg : ℕ → Answer → Answer → Bool → Bool → List TypeFault
-faults_of_arg i upper lower true meets = fault.PrimitiveArgument i ∷ []
-faults_of_arg i upper lower false meets = reference_faults i upper lower meets
+abbrev pub faults_of_arg : Table → List Bounds → List Bounds → List Ty → ℕ → Ty → Arg → Bool → List TypeFault
+faults_of_arg T full plain bounds i s a true = fault.PrimitiveArgument i ∷ []
+faults_of_arg T full plain bounds i s a false =
+    reference_faults i (all_hold T 64 full (upper_parts s bounds)) (all_hold T 64 plain (lower_parts (out-Arg a) bounds)) (meets_at T bounds (out-Arg a))
 
 abbrev pub arg_faults : Table → List Bounds → List Bounds → List Ty → ℕ → Ty → Arg → List TypeFault
-arg_faults T full plain bounds i s a =
-    faults_of_arg i (every_answer (part_answer (answer_of T 64 full)) (upper_parts s bounds)) (every_answer (part_answer (answer_of T 64 plain)) (lower_parts (out-Arg a) bounds))
-        (is_primitive_arg (out-Arg a)) (meets_at T bounds (out-Arg a))
+arg_faults T full plain bounds i s a = faults_of_arg T full plain bounds i s a (is_primitive_arg (out-Arg a))
 
 abbrev pub args_faults : Table → List Bounds → List Bounds → List VarId → List Ty → ℕ → List VarId → List Ty → List Arg → List TypeFault
 args_faults T full plain vars by i [] ss args = []
@@ -160,3 +163,15 @@ faults_at T env _ = []
 -- all faults of a class type, by its arguments in order and at each by the order of the rules (JLS 4.5)
 unfoldable pub class_faults : Table → List Bounds → Ty → List TypeFault
 class_faults T env t = faults_at T env (out-Ty t)
+
+abbrev pub all_faults : Table → List Bounds → List Ty → List TypeFault
+all_faults T env [] = []
+all_faults T env (t ∷ ts) = class_faults T env t ++ all_faults T env ts
+
+-- of each class type inside a type, in the order in which they are written
+abbrev pub type_faults : Table → List Bounds → Ty → List TypeFault
+type_faults T env t = all_faults T env (inside t)
+
+abbrev pub first_fault : List TypeFault → Option TypeFault
+first_fault [] = None
+first_fault (f ∷ fs) = Some f

@@ -1,5 +1,5 @@
 -- The functions that answer are right.
-use Rattle.std.proofs.Common.{◌≡◌, ◌≢◌, ◌↔◌, ◌⊎◌, inl, inr, ℕ, zero, suc, Bool, true, false, List, [], ◌∷◌, ◌++◌, if◌then◌else◌, refl, sym, ap, subst, ◌∙◌}
+use Rattle.std.proofs.Common.{◌≡◌, ◌≢◌, ◌⊎◌, inl, inr, ℕ, zero, suc, Bool, true, false, List, [], ◌∷◌, ◌++◌, if◌then◌else◌, refl, sym, subst}
 use Rattle.jc_types.specs.declared.form.Ty.{Ty}
 use Rattle.jc_types.specs.declared.form.Arg.{Arg}
 use Rattle.jc_types.specs.declared.table.Table.{Table}
@@ -15,8 +15,8 @@ use Rattle.jc_judge.specs.declared.question.Answer.TheVariants.{Yes, No, Deep}
 use Rattle.jc_judge.specs.Asking.{question, contained}
 use Rattle.jc_judge.specs.Trees.{Trees, Answers, Proof, Refute, Proved, Refuted, PartProved, PartRefuted, Each, OneOf, Contains, Excludes, both, either}
 use Rattle.jc_judge.specs.Deciding.{answer_of, part_answer, every_answer, some_answer, question_answer, contained_answer}
-use Rattle.jc_judge.specs.WellFormed.{inside}
-use Rattle.jc_judge.specs.Forming.{Needs, needs, IsFormedBy, IsIllBy, AllFormed, OneIll, IsWellFormed, IsIllFormed, needs_answer, all_formed_answer, formed_answer}
+use Rattle.jc_types.specs.Inside.{inside}
+use Rattle.jc_judge.specs.Forming.{all_hold, Needs, needs, IsFormedBy, IsIllBy, AllFormed, OneIll, IsWellFormed, IsIllFormed, needs_answer, all_formed_answer, formed_answer}
 
 both_right : {P Q R S : Type 0} (a b : Answer) → Answers P R a → Answers Q S b → Answers (P × Q) (R ⊎ S) (both a b)
 both_right Yes Yes x y = record { yes = (λ _. (x.yes.0 refl, y.yes.0 refl), λ _. refl); no = (λ e. cc, elim [ inl r ↦ x.no.1 r | inr s ↦ y.no.1 s ]) }
@@ -118,3 +118,10 @@ single Deep Deep x y = refl
 
 pub answer_single : (T : Table) (d : ℕ) (env : List Bounds) (s t : Ty) (a : Answer) → Answers (Proof T d env s t) (Refute T d env s t) a → a ≡ answer_of T d env s t
 answer_single T d env s t a h = single a (answer_of T d env s t) h (answer_right T d env s t)
+
+module _ (T : Table) (d : ℕ) (env : List Bounds) (parts : List Part) where
+  pub hold_right : Answers (Each (PartProved (Proof T d env)) parts) (OneOf (PartRefuted (Refute T d env)) parts) (all_hold T d env parts)
+  hold_right = every_right _ _ _ (part_right _ _ _ (answer_right T d env)) parts
+
+  pub hold_single : (a : Answer) → Answers (Each (PartProved (Proof T d env)) parts) (OneOf (PartRefuted (Refute T d env)) parts) a → a ≡ all_hold T d env parts
+  hold_single a h = single a (all_hold T d env parts) h hold_right

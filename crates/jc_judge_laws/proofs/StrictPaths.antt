@@ -1,5 +1,5 @@
 -- Without a cycle a path to a number below n has fewer steps than n.
-use Rattle.std.proofs.Common.{◌≡◌, ◌≢◌, ◌⊎◌, inl, inr, ℕ, ◌+◌, ◌<◌, ◌≤◌, List, [], ◌∷◌, ◌++◌, length, length-append, arith, refl, sym, subst, ◌∙◌}
+use Rattle.std.proofs.Common.{◌≡◌, ◌≢◌, ◌⊎◌, inl, inr, ℕ, ◌+◌, ◌<◌, ◌≤◌, List, [], ◌∷◌, ◌++◌, length, length-append, arith, refl, sym, subst}
 use Rattle.jc_judge.specs.Supers.{Path, IsAcyclic}
 use Rattle.jc_judge.proofs.ShortPaths.{path_is_short}
 

@@ -8,12 +8,12 @@ use Rattle.jc_types.specs.declared.form.Arg.{Arg}
 use Rattle.jc_types.specs.declared.ids.ClassId.{ClassId}
 use Rattle.jc_types.specs.declared.table.Table.{Table}
 use Rattle.jc_types.specs.declared.declarations.ClassDecl.{ClassDecl}
-use Rattle.jc_types.specs.Accessors.{vars_of, supers_of, supers_in}
+use Rattle.jc_types.specs.Accessors.{vars_of, supers_of, supers_in, class_count}
 use Rattle.jc_types.specs.Reifying.{counted}
 use Rattle.jc_types.specs.Substitution.{subst as put}
 use Rattle.jc_judge.specs.Kinds.{Layer, class_of, class_at}
-use Rattle.jc_judge.specs.Views.{view, view_within, class_count, class_supers, first_of, or_else, is_class, supers, supers_at, exacts, erased}
-use Rattle.jc_judge.specs.Supers.{Path, IsIn, IsSuper, HasNoCycle, IsAbove, numbered}
+use Rattle.jc_judge.specs.Views.{view, view_within, class_supers, first_of, or_else, is_class, supers, supers_at, exacts, erased}
+use Rattle.jc_judge.specs.Supers.{Path, IsIn, IsSuper, IsAbove, numbered}
 use Rattle.jc_judge.proofs.Finds.{put_class, erased_class, view_finds}
 use Rattle.jc_judge_laws.specs.Hierarchy.{IsOfTable, IsHierarchy, PartHas_at, OneHas, HasSupertype, HasSupertype_at, IsNoMeet_at, AreNoMeets, IsFlat, IsFlat_at}
 use Rattle.jc_judge_laws.proofs.StrictPaths.{path_is_shorter}
@@ -193,7 +193,7 @@ module _ (T : Table) (h : IsHierarchy T) where
   unfolding class_of supers
   part_stays_at (Ty-F.Class i xs) n k t e f le = class_stays n (class_count T - 1) k t i.0 (ap class_at e) (reach i.0) (long_enough n le)
   part_stays_at (Ty-F.Raw i) n k t e f le = class_stays n (class_count T - 1) k t i.0 (ap class_at e) (reach i.0) (long_enough n le)
-  part_stays_at (Ty-F.Array u) n k t e f le = array_stays n k t (ap (supers_at T) e) le
+  part_stays_at (Ty-F.Array u m) n k t e f le = array_stays n k t (ap (supers_at T) e) le
   part_stays_at (Ty-F.Meet ts) n k t e f le = absurd f
   part_stays_at (Ty-F.Prim p) n k t e f le = bare_stays n k t (ap (supers_at T) e) le
   part_stays_at (Ty-F.Variable v) n k t e f le = bare_stays n k t (ap (supers_at T) e) le
@@ -218,7 +218,7 @@ module _ (T : Table) (h : IsHierarchy T) where
   flat_stays_at (Ty-F.Meet ts) n k t e f lt = meet_stays n k t ts (ap (supers_at T) e) (subst (λ l. IsFlat_at l) e f) lt
   flat_stays_at (Ty-F.Class i xs) n k t e f lt = part_stays_at (Ty-F.Class i xs) n k t e tt (omega arith)
   flat_stays_at (Ty-F.Raw i) n k t e f lt = part_stays_at (Ty-F.Raw i) n k t e tt (omega arith)
-  flat_stays_at (Ty-F.Array u) n k t e f lt = part_stays_at (Ty-F.Array u) n k t e tt (omega arith)
+  flat_stays_at (Ty-F.Array u m) n k t e f lt = part_stays_at (Ty-F.Array u m) n k t e tt (omega arith)
   flat_stays_at (Ty-F.Prim p) n k t e f lt = part_stays_at (Ty-F.Prim p) n k t e tt (omega arith)
   flat_stays_at (Ty-F.Variable v) n k t e f lt = part_stays_at (Ty-F.Variable v) n k t e tt (omega arith)
   flat_stays_at (Ty-F.Captured c) n k t e f lt = part_stays_at (Ty-F.Captured c) n k t e tt (omega arith)
@@ -261,16 +261,16 @@ module _ (T : Table) (h : IsHierarchy T) where
   array_exact (suc n) k t e f le = (
     λ found. above_told n k (Class (record { 0 = 0 }) []) found.0 0 object_class (sym (array_view n k t e f) ∙ found.1),
     λ above.
-    let found : IsFound (view_within T n k (Class (record { 0 = 0 }) [])) =
-    view_finds T above.0 n k (Class (record { 0 = 0 }) []) 0 above.1 object_class (let short : length above.0 ≤ 0 = object_ends above.0 k.0 above.1 in let several : 1 < class_count T = h.several in omega arith) in
-    (found.0, array_view n k t e f ∙ found.1),
+        let found : IsFound (view_within T n k (Class (record { 0 = 0 }) [])) =
+        view_finds T above.0 n k (Class (record { 0 = 0 }) []) 0 above.1 object_class (let short : length above.0 ≤ 0 = object_ends above.0 k.0 above.1 in let several : 1 < class_count T = h.several in omega arith) in
+        (found.0, array_view n k t e f ∙ found.1),
   )
 
   part_exact_at : (l : Layer) (n : ℕ) (k : ClassId) (t : Ty) → out-Ty t ≡ l → IsNoMeet_at l → class_count T ≤ n → IsFound (view_within T n k t) ↔ PartHas_at T k l
   unfolding class_of supers
   part_exact_at (Ty-F.Class i xs) n k t e f le = class_exact n k t i.0 (ap class_at e) le
   part_exact_at (Ty-F.Raw i) n k t e f le = class_exact n k t i.0 (ap class_at e) le
-  part_exact_at (Ty-F.Array u) n k t e f le = array_exact n k t (ap class_at e) (ap (supers_at T) e) le
+  part_exact_at (Ty-F.Array u m) n k t e f le = array_exact n k t (ap class_at e) (ap (supers_at T) e) le
   part_exact_at (Ty-F.Meet ts) n k t e f le = absurd f
   part_exact_at (Ty-F.Prim p) n k t e f le = bare_exact n k t (ap class_at e) (ap (supers_at T) e)
   part_exact_at (Ty-F.Variable v) n k t e f le = bare_exact n k t (ap class_at e) (ap (supers_at T) e)
@@ -303,7 +303,7 @@ module _ (T : Table) (h : IsHierarchy T) where
   flat_exact_at (Ty-F.Meet ts) n k t e f lt = meet_exact n k t ts (ap class_at e) (ap (supers_at T) e) f lt
   flat_exact_at (Ty-F.Class i xs) n k t e f lt = part_exact_at (Ty-F.Class i xs) n k t e tt (omega arith)
   flat_exact_at (Ty-F.Raw i) n k t e f lt = part_exact_at (Ty-F.Raw i) n k t e tt (omega arith)
-  flat_exact_at (Ty-F.Array u) n k t e f lt = part_exact_at (Ty-F.Array u) n k t e tt (omega arith)
+  flat_exact_at (Ty-F.Array u m) n k t e f lt = part_exact_at (Ty-F.Array u m) n k t e tt (omega arith)
   flat_exact_at (Ty-F.Prim p) n k t e f lt = part_exact_at (Ty-F.Prim p) n k t e tt (omega arith)
   flat_exact_at (Ty-F.Variable v) n k t e f lt = part_exact_at (Ty-F.Variable v) n k t e tt (omega arith)
   flat_exact_at (Ty-F.Captured c) n k t e f lt = part_exact_at (Ty-F.Captured c) n k t e tt (omega arith)
@@ -324,6 +324,6 @@ view_at_object T (suc (suc n)) t lt e f =
     let itself : view_within T (suc n) (numbered 0) object ≡ Some object = ap (λ o. if is_class (numbered 0) o then Some object else first_of (view_within T n (numbered 0)) (supers T object)) (ap class_at (outs-Class (record { 0 = 0 }) [])) in
     ap (λ o. if is_class (numbered 0) o then Some t else first_of (view_within T (suc n) (numbered 0)) (supers T t)) e ∙ ap (first_of (view_within T (suc n) (numbered 0))) f ∙ ap (λ o. or_else o None) itself
 
-pub array_view_is_object : (T : Table) (t u : Ty) → 0 < class_count T → out-Ty t ≡ Ty-F.Array u → view T (numbered 0) t ≡ Some (Class (record { 0 = 0 }) [])
+pub array_view_is_object : (T : Table) (t u : Ty) (m : ℕ) → 0 < class_count T → out-Ty t ≡ Ty-F.Array u m → view T (numbered 0) t ≡ Some (Class (record { 0 = 0 }) [])
 unfolding view class_of supers
-array_view_is_object T t u lt e = view_at_object T (class_count T + 1) t (omega arith) (ap class_at e) (ap (supers_at T) e)
+array_view_is_object T t u m lt e = view_at_object T (class_count T + 1) t (omega arith) (ap class_at e) (ap (supers_at T) e)

@@ -3,9 +3,8 @@ use Rattle.std.specs.Prelude.{◌≡◌, ◌⊎◌, ℕ, ◌<◌, Option, Some, 
 use Rattle.jc_types.specs.declared.form.Ty.{Ty, Ty-F, out-Ty}
 use Rattle.jc_types.specs.declared.ids.ClassId.{ClassId}
 use Rattle.jc_types.specs.declared.table.Table.{Table}
-use Rattle.jc_types.specs.Accessors.{supers_of}
+use Rattle.jc_types.specs.Accessors.{supers_of, class_count}
 use Rattle.jc_judge.specs.Kinds.{Layer, class_of}
-use Rattle.jc_judge.specs.Views.{class_count}
 use Rattle.jc_judge.specs.Supers.{IsIn, HasNoCycle, IsAbove, numbered}
 
 abbrev pub IsOfTable : Table → Option ClassId → Type 0
@@ -23,7 +22,7 @@ pub record IsHierarchy (T : Table) : Type 0 where
 abbrev pub PartHas_at : Table → ClassId → Layer → Type 0
 PartHas_at T k (Ty-F.Class id args) = IsAbove T id.0 k.0
 PartHas_at T k (Ty-F.Raw id) = IsAbove T id.0 k.0
-PartHas_at T k (Ty-F.Array t) = IsAbove T 0 k.0
+PartHas_at T k (Ty-F.Array t n) = IsAbove T 0 k.0
 PartHas_at T k _ = ⊥
 
 abbrev pub OneHas : Table → ClassId → List Ty → Type 0

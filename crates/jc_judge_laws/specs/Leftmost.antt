@@ -6,7 +6,7 @@ use Rattle.jc_types.specs.declared.ids.CaptureId.{CaptureId}
 use Rattle.jc_types.specs.declared.erased.Erased.{Erased}
 use Rattle.jc_types.specs.declared.environment.Bounds.{Bounds}
 use Rattle.jc_types.specs.declared.table.Table.{Table}
-use Rattle.jc_types.specs.Accessors.{bounds_of, uppers_of}
+use Rattle.jc_types.specs.Accessors.{bounds_of, uppers_of, variable_count}
 use Rattle.jc_types.specs.Erasing.{object, erasure}
 use Rattle.jc_judge.specs.Supers.{IsAcyclic}
 
@@ -20,7 +20,7 @@ first_source [] = None
 first_source (r ∷ rs) = r
 
 abbrev pub source_step : Ty-F (Unit {0}) (Option Ref) → Option Ref
-source_step (Ty-F.Array r) = r
+source_step (Ty-F.Array r n) = r
 source_step (Ty-F.Variable v) = Some (Declared v)
 source_step (Ty-F.Captured c) = Some (Fresh c)
 source_step (Ty-F.Meet rs) = first_source rs
@@ -45,7 +45,7 @@ leftmost T env r = head (bounds_at T env r)
 -- the declared variables are counted first
 abbrev pub number : Table → Ref → ℕ
 number T (Declared v) = v.0
-number T (Fresh c) = length T.variables + c.0
+number T (Fresh c) = variable_count T + c.0
 
 -- the erasure of variable x comes from that of variable y
 abbrev pub Leads : Table → List Bounds → ℕ → ℕ → Type 0

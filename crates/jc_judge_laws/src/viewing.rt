@@ -5,7 +5,8 @@ ghost use Rattle.jc_types.specs.declared.ids.ClassId.{ClassId};
 ghost use Rattle.jc_types.specs.declared.table.Table.{Table};
 ghost use Rattle.jc_judge.specs.Kinds.{class_of};
 ghost use Rattle.jc_judge.specs.Supers.{numbered};
-ghost use Rattle.jc_judge.specs.Views.{view, view_within, class_count};
+ghost use Rattle.jc_types.specs.Accessors.{class_count};
+ghost use Rattle.jc_judge.specs.Views.{view, view_within};
 ghost use Rattle.jc_judge_laws.specs.Hierarchy.{IsHierarchy, IsFlat, HasSupertype};
 
 /// A view has the class that was asked for.
@@ -25,5 +26,5 @@ pub fn views_are_stable()
 
 /// The view of an array as `Object` is `Object` (JLS 4.10.3).
 pub fn array_is_an_object()
-    ensures { (T : Table) (t u : Ty) → 0 < class_count T → out-Ty t ≡ Ty-F.Array u → view T (numbered 0) t ≡ Some (Class (numbered 0) []) }
+    ensures { (T : Table) (t u : Ty) (n : ℕ) → 0 < class_count T → out-Ty t ≡ Ty-F.Array u n → view T (numbered 0) t ≡ Some (Class (numbered 0) []) }
 {}

@@ -1,1 +1,1 @@
-mod Insides
+mod Formed
