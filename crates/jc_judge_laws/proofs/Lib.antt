@@ -1,0 +1,5 @@
+pub mod Decides
+pub mod Faulted
+pub mod Grounded
+pub mod StrictPaths
+pub mod Viewed
