@@ -5,13 +5,14 @@ ASKS is the program that answers questions on types (crates/jc_asks). Tables of 
 are kept. Of each some types are asked whether they are well formed, which `javac` says of a parameter with that type, and some pairs
 whether one is below the other, which it says of an assignment. Each difference has to come from a rule that is the profile's own.
 """
+import os
 import random
 import re
 import shutil
 import subprocess
 import sys
 import tempfile
-import os
+import time
 
 SEED = 7
 TABLES = 330
@@ -437,11 +438,79 @@ def reason(sample, kind, one, other, answer, report):
     return None
 
 
+# types that are large
+
+
+MANY = 100000
+GENEROUS_SECONDS = 120
+
+
+def large_lines():
+    """Questions on arrays of many dimensions and a class of many parameters, with their answers."""
+    array = "Object" + "[]" * MANY
+    exact = "Wide<" + ",".join(["Object"] * MANY) + ">"
+    wild = "Wide<" + ",".join(["?"] * MANY) + ">"
+    captured = "Wide<" + ",".join(f"#{number}" for number in range(MANY)) + ">"
+    fresh = "".join(f" #{number}:Object" for number in range(MANY))
+    return [
+        (f"below {array} Object[]", "Yes"),
+        (f"below {array} {array}", "Yes"),
+        (f"below {array} Wide[]", "No"),
+        (f"contained {array} +Object[]", "Yes"),
+        (f"capture {array}", array),
+        (f"glb {array} Object", array),
+        (f"erasure {array}", f"Object dimensions {MANY}"),
+        (f"wellformed {array}", "Yes"),
+        (f"formed {array}", "Yes"),
+        (f"faults {array}", ""),
+        (f"view {array} Object", "Object"),
+        (f"below {exact} {wild}", "Yes"),
+        (f"below {wild} {exact}", "No"),
+        (f"below {exact} {exact}", "Yes"),
+        (f"contained {exact} +{wild}", "Yes"),
+        (f"capture {wild}", captured + fresh),
+        (f"glb {exact} Object", exact),
+        (f"erasure {wild}", "Wide"),
+        (f"wellformed {wild}", "Yes"),
+        (f"formed {exact}", "Yes"),
+        (f"faults {exact}", ""),
+        (f"view {exact} Up", "Up<" + exact + ">"),
+    ]
+
+
+def large_answers(program):
+    """Whether each call on a large type ends with the answer that it has to have."""
+    params = " ".join(f"A{number}" for number in range(MANY))
+    supertype = "Up<Wide<" + ",".join(f"A{number}" for number in range(MANY)) + ">>"
+    wrong = 0
+    for question, wanted in large_lines():
+        text = f"table\ninterface Up U : Object\nclass Wide {params} : Object {supertype}\n{question}\n"
+        start = time.time()
+        try:
+            run = subprocess.run(program, input=text, capture_output=True, text=True, timeout=GENEROUS_SECONDS)
+            found = run.stdout
+        except subprocess.TimeoutExpired:
+            found = "no answer in time"
+        if os.environ.get("TYPES_TIMES"):
+            print(f"    {time.time() - start:.2f} s: {question[:40]}")
+        if found != f"table\n{wanted}\n":
+            wrong += 1
+            print(f"FAIL: {question[:60]}: {found[:60]!r}, not {wanted[:60]!r}")
+    if not wrong:
+        print(f"types: {len(large_lines())} calls on {MANY} dimensions or parameters end with their answers")
+    return wrong
+
+
 def main():
     program = sys.argv[1:]
+    wrong = large_answers(program)
     if shutil.which("javac") is None:
-        print("skipped: types need javac")
-        return 0
+        print("skipped: a comparison of answers on types needs javac")
+        return 1 if wrong else 0
+    return 1 if compared(program) or wrong else 0
+
+
+def compared(program):
     rng = random.Random(int(os.environ.get("TYPES_SEED", SEED)))
     samples = taken_samples(rng)
     per_sample = QUESTIONS // max(1, len(samples)) + 4
