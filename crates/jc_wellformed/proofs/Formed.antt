@@ -1,5 +1,5 @@
 -- Answers joined from left to right, and what a right answer says of well-formedness.
-use Rattle.std.proofs.Common.{◌≡◌, ◌↔◌, List, refl, subst, ◌∙◌, ap}
+use Rattle.std.proofs.Common.{◌≡◌, ◌↔◌, List, Result, Ok, Err, IfOk, refl, subst}
 use Rattle.jc_types.specs.declared.form.Ty.{Ty}
 use Rattle.jc_types.specs.declared.table.Table.{Table}
 use Rattle.jc_types.specs.declared.environment.Bounds.{Bounds}
@@ -41,3 +41,7 @@ module _ (T : Table) (env : List Bounds) (t : Ty) (a : Answer) where
   formed_no e = (right e).no
 
 pub ruleset formed_clauses = (formed_yes, formed_no)
+
+pub if_ok_along : {A E : Type 0} (r : Result A E) (P Q : A → Type 0) → ((a : A) → P a → Q a) → IfOk r P → IfOk r Q
+if_ok_along (Ok a) P Q f h = f a h
+if_ok_along (Err e) P Q f h = tt

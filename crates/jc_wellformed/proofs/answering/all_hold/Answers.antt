@@ -1,5 +1,5 @@
-use Rattle.jc_sub.proofs.Decided.{if_ok_along}
 use Rattle.jc_judge_laws.proofs.Decides.{hold_single}
+use Rattle.jc_wellformed.proofs.Formed.{if_ok_along}
 use Rattle.jc_wellformed.proofs.answering.all_hold.Goals as goal
 
 pub returns-clause-answer : goal.returns-clause-answer
