@@ -1,8 +1,8 @@
 -- A greatest lower bound has no intersection as a part.
-use Rattle.std.proofs.Common.{◌≡◌, ◌<◌, Bool, true, false, cond, List, [], ◌∷◌, ◌++◌, length, nat_lt, filter, if◌then◌else◌, refl, sym, subst}
+use Rattle.std.proofs.Common.{◌≡◌, Bool, true, false, cond, List, [], ◌∷◌, ◌++◌, length, nat_lt, filter, if◌then◌else◌, refl, sym, subst}
 use Rattle.std.specs.Prelude.{not}
 use Rattle.jc_types.specs.declared.form.Ty.{Ty, Ty-F, out-Ty}
-use Rattle.jc_types.specs.declared.form.Ty.TheVariants.{Class, Meet, outs-Class, outs-Meet}
+use Rattle.jc_types.specs.declared.form.Ty.TheVariants.{outs-Class, outs-Meet}
 use Rattle.jc_types.specs.declared.table.Table.{Table}
 use Rattle.jc_judge.specs.Kinds.{Layer, is_object}
 use Rattle.jc_judge.specs.Meeting.{as_one, parts_at, flattened, is_listed, distinct, without_object, is_covered, uncovered, glb_parts, glb}
