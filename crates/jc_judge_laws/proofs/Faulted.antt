@@ -10,10 +10,9 @@ use Rattle.jc_types.specs.Inside.{inside}
 use Rattle.jc_judge.specs.declared.question.Answer.{Answer}
 use Rattle.jc_judge.specs.declared.question.Answer.TheVariants.{Yes, No, Deep}
 use Rattle.jc_judge.specs.declared.faults.TypeFault.{TypeFault}
-use Rattle.jc_judge.specs.declared.faults.TypeFault.TheVariants.{PrimitiveArgument}
 use Rattle.jc_judge.specs.Kinds.{Layer}
 use Rattle.jc_judge.specs.Capturing.{captured_args, fresh_args, put_bounds, meets_at}
-use Rattle.jc_judge.specs.WellFormed.{upper_parts, lower_parts, is_primitive_arg, bare, arg_fault, OrElse, ReferenceChecked, KindChecked, ArgChecked, ArgsChecked, CountChecked, OwnChecked, OwnChecked_at, AllChecked, IsChecked}
+use Rattle.jc_judge.specs.WellFormed.{upper_parts, lower_parts, is_primitive_arg, bare, arg_fault, OrElse, KindChecked, ArgsChecked, CountChecked, OwnChecked, OwnChecked_at, AllChecked, IsChecked}
 use Rattle.jc_judge.specs.Forming.{all_hold, reference_faults, faults_of_arg, arg_faults, args_faults, counted_faults, faults_at, class_faults, all_faults, type_faults, first_fault}
 use Rattle.jc_judge_laws.proofs.Decides.{hold_right, hold_single}
 

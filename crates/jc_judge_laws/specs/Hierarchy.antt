@@ -52,3 +52,7 @@ IsFlat_at _ = Unit {0}
 -- no part of an intersection is one
 unfoldable pub IsFlat : Ty → Type 0
 IsFlat t = IsFlat_at (out-Ty t)
+
+abbrev pub AreFlat : List Ty → Type 0
+AreFlat [] = Unit {0}
+AreFlat (t ∷ ts) = IsFlat t × AreFlat ts
