@@ -1,7 +1,7 @@
-ghost use Rattle.std.specs.Prelude.{◌≡◌, ◌+◌, ◌++◌, true, IfOk, OnOk, length};
+ghost use Rattle.std.specs.Prelude.{◌≡◌, ◌+◌, ◌++◌, true, false, IfOk, OnOk, length};
 ghost use Rattle.jc_types.specs.declared.form.Arg.{out-Arg};
-ghost use Rattle.jc_judge.specs.Forming.{class_faults, counted_faults, args_faults, arg_faults, faults_of_arg, reference_faults, fault_if};
-ghost use Rattle.std.specs.Prelude.{false};
+ghost use Rattle.jc_judge.specs.Forming.{class_faults, counted_faults, args_faults, arg_faults, faults_of_arg, reference_faults, fault_if, all_hold};
+ghost use Rattle.jc_judge.specs.WellFormed.{upper_parts, lower_parts};
 
 use crate::answering::{all_hold, is_deep, is_no};
 use crate::checking::{after, is_primitive_arg, lower_parts, push_bare};
@@ -137,12 +137,42 @@ fn asked_faults(
     ensures full { OnOk result (full.new ≡ full.old) }
     ensures plain { OnOk result (plain.new ≡ plain.old) }
 {
-    let uppers = asked_above(alloc, s, bounds.slice())?;
-    let lowers = lower_parts(alloc, arg, bounds.slice())?;
-    let upper = all_hold(alloc, table, env, full, uppers.slice())?;
-    let lower = all_hold(alloc, table, env, plain, lowers.slice())?;
+    let upper = upper_answer(alloc, table, env, full, bounds.slice(), s)?;
+    let lower = lower_answer(alloc, table, env, plain, bounds.slice(), arg)?;
     let meets = argument_meets(alloc, table, bounds, arg)?;
     reference_faults(alloc, i, upper, lower, meets)
+}
+
+// Whether what an argument is captured as is below these bounds.
+fn upper_answer(
+    alloc: Global,
+    table: &Table,
+    env: &[Bounds],
+    full: &mut Items<Bounds>,
+    bounds: &[Ty],
+    s: &Ty,
+) -> Result<Answer, WantOfMemory>
+    ensures answer { IfOk result (λ a. a ≡ all_hold table.now 64 (env.now ++ full.old) (upper_parts s.now bounds.now)) }
+    ensures full { OnOk result (full.new ≡ full.old) }
+{
+    let parts = asked_above(alloc, s, bounds)?;
+    all_hold(alloc, table, env, full, parts.slice())
+}
+
+// Whether the lower bound of a super wildcard is below these bounds.
+fn lower_answer(
+    alloc: Global,
+    table: &Table,
+    env: &[Bounds],
+    plain: &mut Items<Bounds>,
+    bounds: &[Ty],
+    arg: &Arg,
+) -> Result<Answer, WantOfMemory>
+    ensures answer { IfOk result (λ a. a ≡ all_hold table.now 64 (env.now ++ plain.old) (lower_parts (out-Arg arg.now) bounds.now)) }
+    ensures plain { OnOk result (plain.new ≡ plain.old) }
+{
+    let parts = lower_parts(alloc, arg, bounds)?;
+    all_hold(alloc, table, env, plain, parts.slice())
 }
 
 fn reference_faults(

@@ -1,6 +1,6 @@
-ghost use Rattle.std.specs.Prelude.{◌≡◌, ◌↔◌, ◌++◌, IfOk, OnOk, length};
+ghost use Rattle.std.specs.Prelude.{◌≡◌, ◌↔◌, ◌++◌, true, IfOk, OnOk, length};
 ghost use Rattle.jc_types.specs.declared.form.Arg.{out-Arg};
-ghost use Rattle.jc_judge.specs.Forming.{IsWellFormed, IsIllFormed, formed_answer, all_formed_answer, needs, needs_answer, class_needs, all_captured, all_bare, captured_parts, bare_parts};
+ghost use Rattle.jc_judge.specs.Forming.{IsWellFormed, IsIllFormed, formed_answer, all_formed_answer, needs, needs_answer, counted_needs, all_hold, all_captured, all_bare, captured_parts, bare_parts};
 
 use crate::answering::{all_hold, both};
 use crate::checking::{is_primitive_arg, lower_parts, push_bare};
@@ -64,7 +64,7 @@ fn all_formed(
 }
 
 // By a type's own arguments.
-#[tactic(auto, using(jc_types::proofs::Opened::opened), unfolding(jc_judge::specs::Forming::needs))]
+#[tactic(auto, using(jc_types::proofs::Opened::opened, crate::proofs::Formed::needs_of_class), unfolding(jc_judge::specs::Forming::needs))]
 fn own_answer(
     alloc: Global,
     table: &Table,
@@ -77,7 +77,8 @@ fn own_answer(
         Ty::Class { id, args } => {
             let vars = class_vars(table, *id);
             if args.len() == vars.len() {
-                return class_answer(alloc, table, env, vars, args.slice());
+                let answer = class_answer(alloc, table, env, vars, args.slice())?;
+                return Ok(answer);
             }
             Ok(Answer::Yes)
         }
@@ -94,17 +95,49 @@ fn class_answer(
     args: &[Arg],
 ) -> Result<Answer, WantOfMemory>
     requires { length args.now ≡ length vars.now }
-    ensures { IfOk result (λ a. a ≡ needs_answer table.now 64 (class_needs table.now env.now vars.now args.now)) }
+    ensures { IfOk result (λ a. a ≡ needs_answer table.now 64 (counted_needs table.now env.now vars.now args.now true)) }
 {
     let by = captured_args(alloc, env.len() as u64, args)?;
     let mut full = fresh_bounds(alloc, table, vars, by.slice(), args)?;
     let mut plain = Items::new(alloc);
     push_bare(alloc, full.slice(), &mut plain)?;
-    let uppers = all_captured(alloc, table, vars, by.slice(), args)?;
-    let lowers = all_bare(alloc, table, vars, by.slice(), args)?;
-    let upper = all_hold(alloc, table, env, &mut full, uppers.slice())?;
-    let lower = all_hold(alloc, table, env, &mut plain, lowers.slice())?;
+    let upper = captured_answer(alloc, table, env, &mut full, vars, by.slice(), args)?;
+    let lower = bare_answer(alloc, table, env, &mut plain, vars, by.slice(), args)?;
     Ok(both(upper, lower))
+}
+
+// Whether all hold that the arguments ask, where `by` stands for the parameters.
+fn captured_answer(
+    alloc: Global,
+    table: &Table,
+    env: &[Bounds],
+    full: &mut Items<Bounds>,
+    vars: &[VarId],
+    by: &[Ty],
+    args: &[Arg],
+) -> Result<Answer, WantOfMemory>
+    requires { length vars.now ≡ length by.now }
+    ensures { IfOk result (λ a. a ≡ all_hold table.now 64 (env.now ++ full.old) (all_captured table.now vars.now by.now vars.now by.now args.now)) }
+{
+    let parts = all_captured(alloc, table, vars, by, args)?;
+    all_hold(alloc, table, env, full, parts.slice())
+}
+
+// The same of the lower bounds of super wildcards.
+fn bare_answer(
+    alloc: Global,
+    table: &Table,
+    env: &[Bounds],
+    plain: &mut Items<Bounds>,
+    vars: &[VarId],
+    by: &[Ty],
+    args: &[Arg],
+) -> Result<Answer, WantOfMemory>
+    requires { length vars.now ≡ length by.now }
+    ensures { IfOk result (λ a. a ≡ all_hold table.now 64 (env.now ++ plain.old) (all_bare table.now vars.now by.now vars.now args.now)) }
+{
+    let parts = all_bare(alloc, table, vars, by, args)?;
+    all_hold(alloc, table, env, plain, parts.slice())
 }
 
 // What has to hold of the arguments, where `by` stands for the parameters.
