@@ -4,7 +4,9 @@ use crate::types::{read_argument, read_type};
 use crate::words::{put_bounds, put_erased, put_type};
 use crate::{Read, Unreadable};
 use jc_rules::{Items, Stop};
-use jc_sub::{Answer, CaptureFault, as_one, below, capture, classes_meet, contained, glb_parts, view};
+use jc_sub::{
+    Answer, CaptureFault, as_one, below, capture, classes_meet, contained, glb_parts, view,
+};
 use jc_types::{Arg, Env, Table, Ty, erasure};
 use jc_wellformed::{TypeFault, check_type, class_faults, well_formed};
 use std::alloc::Global;

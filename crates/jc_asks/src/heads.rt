@@ -4,8 +4,8 @@ use crate::types::{read_bounds, read_type};
 use crate::{Read, Unreadable};
 use jc_rules::{Items, Place, Stop, Text, WantOfMemory};
 use jc_types::{
-    Access, ClassDecl, ClassId, Kind, MethodId, Modifiers, Names, Owner, ScopeId, Table, Ty, TypePlaces,
-    VarId, VariableDecl, WrittenTypes,
+    Access, ClassDecl, ClassId, Kind, MethodId, Modifiers, Names, Owner, ScopeId, Table, Ty,
+    TypePlaces, VarId, VariableDecl, WrittenTypes,
 };
 use std::alloc::Global;
 
@@ -70,7 +70,13 @@ pub fn table_of(alloc: Global, scope: &Scope, lines: &[&str]) -> Read<Table> {
         uses: Items::new(alloc),
         index: Names::new(alloc),
     };
-    let object = class_decl(alloc, "Object", Kind::Class, Items::new(alloc), Items::new(alloc))?;
+    let object = class_decl(
+        alloc,
+        "Object",
+        Kind::Class,
+        Items::new(alloc),
+        Items::new(alloc),
+    )?;
     table.classes.push(object)?;
     for line in lines {
         if is_head(line) {
@@ -102,7 +108,9 @@ fn add_head(alloc: Global, scope: &Scope, table: &mut Table, line: &str) -> Read
             add_variable(alloc, scope, table, owner, word)?;
         }
     }
-    table.classes.push(class_decl(alloc, name, kind, vars, supers)?)?;
+    table
+        .classes
+        .push(class_decl(alloc, name, kind, vars, supers)?)?;
     Ok(())
 }
 

@@ -179,11 +179,13 @@ impl<'a> Reader<'a> {
             self.end_argument(alloc)?;
         }
         match self.open.pop() {
-            Some(Open::Arguments {
-                before,
-                class,
-                args,
-            }) => {
+            Some(
+                Open::Arguments {
+                    before,
+                    class,
+                    args,
+                },
+            ) => {
                 self.mark = before;
                 self.last = Some(Ty::Class { id: class, args });
                 Ok(())

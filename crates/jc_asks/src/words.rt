@@ -43,12 +43,7 @@ fn put_dimensions(out: &mut String, further: u64) -> Result<(), AllocError> {
 }
 
 #[cycle(words)]
-pub fn put_type(
-    alloc: Global,
-    out: &mut String,
-    table: &Table,
-    ty: &Ty,
-) -> Result<(), AllocError> {
+pub fn put_type(alloc: Global, out: &mut String, table: &Table, ty: &Ty) -> Result<(), AllocError> {
     match ty {
         Ty::Prim(word) => out.push_str(primitive_word(*word)),
         Ty::Class { id, args } => {

@@ -57,7 +57,16 @@ fn counted_faults(
     let mut full = fresh_bounds(alloc, table, vars, by.slice(), args)?;
     let mut plain = Items::new(alloc);
     push_bare(alloc, full.slice(), &mut plain)?;
-    args_faults(alloc, table, env, &mut full, &mut plain, vars, by.slice(), args)
+    args_faults(
+        alloc,
+        table,
+        env,
+        &mut full,
+        &mut plain,
+        vars,
+        by.slice(),
+        args,
+    )
 }
 
 // Of the arguments, where `by` stands for the parameters.

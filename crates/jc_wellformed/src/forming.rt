@@ -15,12 +15,7 @@ use std::alloc::Global;
 /// `Object`. Yes exactly where that has proof trees of height 64, No exactly where some of it has a refutation tree, and Deep
 /// where there is neither. A wrong number of arguments, a primitive one and classes that meet in a bound are not asked for.
 #[tactic(auto, using(crate::proofs::Formed::formed_clauses))]
-pub fn well_formed(
-    alloc: Global,
-    table: &Table,
-    env: &Env,
-    ty: &Ty,
-) -> Result<Answer, WantOfMemory>
+pub fn well_formed(alloc: Global, table: &Table, env: &Env, ty: &Ty) -> Result<Answer, WantOfMemory>
     ensures yes { IfOk result (λ a. (a ≡ Answer.Yes) ↔ IsWellFormed table.now 64 env.now.bounds ty.now) }
     ensures no { IfOk result (λ a. (a ≡ Answer.No) ↔ IsIllFormed table.now 64 env.now.bounds ty.now) }
     ensures answer { IfOk result (λ a. a ≡ formed_answer table.now 64 env.now.bounds ty.now) }
@@ -29,12 +24,7 @@ pub fn well_formed(
 }
 
 #[tactic(auto, unfolding(jc_judge::specs::Forming::formed_answer))]
-fn formed(
-    alloc: Global,
-    table: &Table,
-    env: &[Bounds],
-    ty: &Ty,
-) -> Result<Answer, WantOfMemory>
+fn formed(alloc: Global, table: &Table, env: &[Bounds], ty: &Ty) -> Result<Answer, WantOfMemory>
     ensures { IfOk result (λ a. a ≡ formed_answer table.now 64 env.now ty.now) }
 {
     let types = class_types(alloc, ty)?;
@@ -65,12 +55,7 @@ fn all_formed(
 
 // By a type's own arguments.
 #[tactic(auto, using(jc_types::proofs::Opened::opened, crate::proofs::Formed::needs_of_class), unfolding(jc_judge::specs::Forming::needs))]
-fn own_answer(
-    alloc: Global,
-    table: &Table,
-    env: &[Bounds],
-    ty: &Ty,
-) -> Result<Answer, WantOfMemory>
+fn own_answer(alloc: Global, table: &Table, env: &[Bounds], ty: &Ty) -> Result<Answer, WantOfMemory>
     ensures { IfOk result (λ a. a ≡ needs_answer table.now 64 (needs table.now env.now ty.now)) }
 {
     match ty {
