@@ -61,8 +61,12 @@ class_needs T env vars args =
     }
 
 -- a class type with another number of arguments than its class has parameters counts as raw, and a raw type asks nothing
+abbrev pub counted_needs : Table → List Bounds → List VarId → List Arg → Bool → Needs
+counted_needs T env vars args true = class_needs T env vars args
+counted_needs T env vars args false = no_needs
+
 abbrev pub needs_at : Table → List Bounds → Layer → Needs
-needs_at T env (Ty-F.Class id args) = if length args == length (vars_of T id) then class_needs T env (vars_of T id) args else no_needs
+needs_at T env (Ty-F.Class id args) = counted_needs T env (vars_of T id) args (length args == length (vars_of T id))
 needs_at T env _ = no_needs
 
 unfoldable pub needs : Table → List Bounds → Ty → Needs
