@@ -135,8 +135,3 @@ meeting T n t = meeting_by T n t (out-Ty t)
 abbrev pub IsCaptureStop : Option ℕ → Stop CaptureFault → Type 0
 IsCaptureStop place (Refused (ClassesMeet i)) = place ≡ Some i
 IsCaptureStop place WantOfMemory = Unit {0}
-
--- it stopped by a refusal
-abbrev pub Refuses : {R : Type 0} → Stop R → Type 0
-Refuses (Refused r) = Unit {0}
-Refuses WantOfMemory = ⊥

@@ -1,10 +1,10 @@
 //! A small table of classes, and types in a short notation, for the tests of the crates above.
 #![tactic(auto)]
 
-use jc_rules::{Boxed, Items, Place, Text, WantOfMemory};
+use jc_rules::{Items, Place, Text, WantOfMemory};
 use jc_types::{
     Access, Arg, ClassDecl, ClassId, Kind, Modifiers, Names, Owner, Primitive, ScopeId, Table, Ty,
-    VarId, VariableDecl, WrittenTypes,
+    VarId, VariableDecl, WrittenTypes, array_over,
 };
 use std::alloc::Global;
 
@@ -104,9 +104,7 @@ fn push_letter(
         }
         b'[' => {
             let of = popped(stack);
-            stack.push(Arg::Exact(Ty::Array {
-                of: Boxed::new(alloc, of)?,
-            }))
+            stack.push(Arg::Exact(array_over(alloc, of, 0)?))
         }
         b'0'..=b'6' => stack.push(Arg::Exact(simple(letter))),
         b'a'..=b'n' => stack.push(Arg::Exact(Ty::Variable(VarId((letter - b'a') as u64)))),
@@ -189,7 +187,9 @@ fn class(alloc: Global, letter: u8) -> Result<ClassDecl, WantOfMemory> {
         place: NOWHERE,
         name: Text::of(String::new(alloc)),
         binary: Text::of(String::new(alloc)),
+        package: Text::of(String::new(alloc)),
         outer: None,
+        members: Items::new(alloc),
         scope: ScopeId(0),
         modifiers: Modifiers {
             access: Access::Public,

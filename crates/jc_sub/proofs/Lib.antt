@@ -1,4 +1,5 @@
 mod Decided
 mod Joined
+mod Kept
 mod Reached
 mod Ups

@@ -1,39 +1,76 @@
--- Which classes are known to have no class k above them.
-use Rattle.std.specs.Prelude.{◌≡◌, ◌≢◌, ◌⊎◌, ℕ, ◌<◌, Bool, true, false, Option, Some, None, List, [], ◌∷◌, length, slice_index_or}
+-- Ways from a class up to another one, and the supertypes along them.
+use Rattle.std.specs.Prelude.{◌≡◌, ◌≢◌, ℕ, ◌==◌, Option, Some, None, List, [], ◌∷◌, length, take, slice_get, if◌then◌else◌}
 use Rattle.jc_types.specs.declared.form.Ty.{Ty}
+use Rattle.jc_types.specs.declared.form.Arg.{Arg}
 use Rattle.jc_types.specs.declared.ids.ClassId.{ClassId}
 use Rattle.jc_types.specs.declared.table.Table.{Table}
-use Rattle.jc_types.specs.Accessors.{supers_of}
+use Rattle.jc_types.specs.Substitution.{subst}
+use Rattle.jc_types.specs.Accessors.{vars_of, supers_of}
 use Rattle.jc_judge.specs.Kinds.{class_of}
 use Rattle.jc_judge.specs.Supers.{numbered}
-use Rattle.jc_judge.specs.Views.{view_within}
+use Rattle.jc_judge.specs.Views.{view_within, supers, exacts, erased}
+use Rattle.jc_sub.specs.declared.reaching.Turn.{Turn}
+use Rattle.jc_sub.specs.declared.reaching.Way.{Way}
+use Rattle.jc_sub.specs.declared.reaching.Way.TheVariants.{Missing, Found, Unknown}
+use Rattle.jc_sub.specs.declared.reaching.Sight.{Sight}
+use Rattle.jc_sub.specs.declared.reaching.Sight.TheVariants as sight
 
 -- a type has no view as class k, in however many steps
 abbrev pub HasNoView : Table → ClassId → Ty → Type 0
 HasNoView T k t = (n : ℕ) → view_within T n k t ≡ None
 
--- the class is marked
-abbrev pub IsSeen : List Bool → ℕ → Type 0
-IsSeen seen x = slice_index_or seen x false ≡ true
+-- no type of class x has one
+abbrev pub IsDead : Table → ClassId → ℕ → Type 0
+IsDead T k x = (t : Ty) → class_of t ≡ Some (numbered x) → HasNoView T k t
 
--- a class other than k that is marked, or that the table doesn't have
-abbrev pub IsSettled : ℕ → List Bool → ℕ → Type 0
-IsSettled k seen x = (x ≢ k) × (x < length seen → IsSeen seen x)
+abbrev pub ClassDead : Table → ClassId → Option ClassId → Type 0
+ClassDead T k None = ⊥
+ClassDead T k (Some id) = IsDead T k id.0
 
-abbrev pub SuperSettled : ℕ → List Bool → Option ClassId → Type 0
-SuperSettled k seen None = ⊥
-SuperSettled k seen (Some id) = IsSettled k seen id.0
+abbrev pub AllDead : Table → ClassId → List Ty → Type 0
+AllDead T k [] = Unit {0}
+AllDead T k (t ∷ ts) = ClassDead T k (class_of t) × AllDead T k ts
 
-abbrev pub AllSettled : ℕ → List Bool → List Ty → Type 0
-AllSettled k seen [] = Unit {0}
-AllSettled k seen (t ∷ ts) = SuperSettled k seen (class_of t) × AllSettled k seen ts
+-- supertype i of class x is of class y
+pub record IsUp (T : Table) (x i y : ℕ) : Type 0 where
+  pub up : Ty
+  pub is : slice_get (supers_of T (numbered x)) i ≡ Some up
+  pub class : class_of up ≡ Some (numbered y)
 
--- a class other than k whose supertypes are all settled
-abbrev pub IsClosed : Table → ℕ → List Bool → ℕ → Type 0
-IsClosed T k seen x = (x ≢ k) × AllSettled k seen (supers_of T (numbered x))
+-- it is the first one that may have a view as class k, which class x is not
+pub record Leads (T : Table) (k : ClassId) (x i y : ℕ) : Type 0 where
+  pub other : x ≢ k.0
+  pub dead : AllDead T k (take i (supers_of T (numbered x)))
+  pub goes : IsUp T x i y
 
--- what a visit of class x leaves that doesn't come to k
-pub record Visited (T : Table) (k : ℕ) (old new : List Bool) (x : ℕ) : Type 0 where
-  pub grows : (y : ℕ) → IsSeen old y → IsSeen new y
-  pub settled : IsSettled k new x
-  pub closed : (y : ℕ) → IsSeen new y → IsSeen old y ⊎ IsClosed T k new y
+-- turns that lead from class x to class y
+abbrev pub IsWay : Table → ClassId → ℕ → List Turn → ℕ → Type 0
+IsWay T k x [] y = x ≡ y
+IsWay T k x (f ∷ fs) y = (f.from.0 ≡ x) × (z : ℕ) × Leads T k x f.next z × IsWay T k z fs y
+
+abbrev pub WayIs : Table → ClassId → ℕ → Way → Type 0
+WayIs T k x Missing = IsDead T k x
+WayIs T k x (Found turns) = IsWay T k x turns k.0
+WayIs T k x Unknown = Unit {0}
+
+-- what is seen at supertype i of class x, where `marked` tells which classes were left without success
+abbrev pub SightIs : Table → ClassId → (ℕ → Type 0) → ℕ → ℕ → Sight → Type 0
+SightIs T k Marked x i sight.Goal = IsUp T x i k.0
+SightIs T k Marked x i sight.Left = (y : ℕ) × IsUp T x i y × Marked y
+SightIs T k Marked x i (sight.Open up) = IsUp T x i up.0 × (up.0 ≢ k.0)
+SightIs T k Marked x i sight.End = slice_get (supers_of T (numbered x)) i ≡ None
+SightIs T k Marked x i sight.Odd = Unit {0}
+
+-- a declared supertype as one of a type of the class, with the arguments that the type counts as having
+abbrev pub super_with : Table → ClassId → Option (List Arg) → Ty → Ty
+super_with T id None t = erased t
+super_with T id (Some args) t = if length (exacts args) == length (vars_of T id) then subst (vars_of T id) (exacts args) t else erased t
+
+abbrev pub and_then : Option Ty → (Ty → Option Ty) → Option Ty
+and_then None f = None
+and_then (Some t) f = f t
+
+-- the type to which turns lead
+abbrev pub follow : Table → List Turn → Ty → Option Ty
+follow T [] t = Some t
+follow T (f ∷ fs) t = and_then (slice_get (supers T t) f.next) (follow T fs)

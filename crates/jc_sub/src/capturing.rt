@@ -1,8 +1,8 @@
-ghost use Rattle.std.specs.Prelude.{◌≡◌, ◌+◌, ◌++◌, ◌∷◌, [], map, length, None, IfOk, IfErr, OnOk};
+ghost use Rattle.std.specs.Prelude.{◌≡◌, ◌+◌, ◌++◌, ◌∷◌, [], map, length, None, IfOk, IfErr, OnOk, OnErr};
 ghost use Rattle.jc_types.specs.declared.form.Arg.{out-Arg};
 ghost use Rattle.jc_types.specs.declared.form.Arg.TheVariants.{Exact};
 ghost use Rattle.jc_judge.specs.Meeting.{glb};
-ghost use Rattle.jc_judge.specs.Capturing.{capture, capture_one, capture_parts, captured_args, fresh_args, fresh_at, put_bounds, meets_at, first_meeting, meeting, meeting_one, meeting_parts, bounded, IsCaptureStop, Refuses};
+ghost use Rattle.jc_judge.specs.Capturing.{capture, capture_one, capture_parts, captured_args, fresh_args, fresh_at, put_bounds, meets_at, first_meeting, meeting, meeting_one, meeting_parts, bounded, captured_at, next_at, IsCaptureStop};
 
 use crate::meeting::{as_one, classes_meet, glb_parts};
 use jc_judge::CaptureFault;
@@ -15,7 +15,7 @@ use std::alloc::Global;
 
 /// The capture of a type (JLS 5.1.10). The fresh variables are added to `env`. Each part of an intersection is captured. It is
 /// refused where two unrelated classes meet in the bound of a wildcard `? extends U`, by the first such argument, counted from
-/// 0 in the type or in the part of it that has the argument.
+/// 0 in the type or in the part of it that has the argument. A capture that stops leaves `env` as it was.
 pub fn capture(
     alloc: Global,
     table: &Table,
@@ -26,7 +26,7 @@ pub fn capture(
     ensures env { OnOk result (env.new.bounds ≡ env.old.bounds ++ (capture table.now (length env.old.bounds) ty.now).fresh) }
     ensures fine { OnOk result (meeting table.now (length env.old.bounds) ty.now ≡ None) }
     ensures fault { IfErr result (IsCaptureStop (meeting table.now (length env.old.bounds) ty.now)) }
-    ensures unchanged { IfErr result (λ e. Refuses e → env.new ≡ env.old) }
+    ensures unchanged { OnErr result (env.new.bounds ≡ env.old.bounds) }
 {
     let start = env.bounds.len() as u64;
     if let Some(i) = meeting(alloc, table, start, ty)? {
@@ -80,16 +80,16 @@ fn capture_parts(
     ensures types { OnOk result (types.new ≡ types.old ++ (capture_parts table.now start parts.now).types) }
     ensures fresh { OnOk result (fresh.new ≡ fresh.old ++ (capture_parts table.now start parts.now).fresh) }
 {
-    match parts {
-        [] => Ok(()),
-        [part, parts @ ..] => {
-            let one = capture_one(alloc, table, start, part)?;
-            let next = moved_on(start, one.fresh.len())?;
-            types.push(one.ty)?;
-            fresh.append(one.fresh)?;
-            capture_parts(alloc, table, next, parts, types, fresh)
-        }
+    let mut next = start;
+    let mut rest = parts;
+    while let [part, more @ ..] = rest {
+        let one = capture_one(alloc, table, next, part)?;
+        next = moved_on(next, one.fresh.len())?;
+        types.push(one.ty)?;
+        fresh.append(one.fresh)?;
+        rest = more;
     }
+    Ok(())
 }
 
 /// The capture of a type that is no intersection, where `start` variables were captured before.
@@ -158,28 +158,44 @@ pub fn captured_args(alloc: Global, start: u64, args: &[Arg]) -> Result<Items<Ty
     Ok(out)
 }
 
-#[tactic(auto, using(jc_types::proofs::Opened::opened))]
 fn push_captured(
     alloc: Global,
-    next: u64,
+    start: u64,
     args: &[Arg],
     out: &mut Items<Ty>,
 ) -> Result<(), WantOfMemory>
-    ensures { OnOk result (out.new ≡ out.old ++ captured_args next args.now) }
+    ensures { OnOk result (out.new ≡ out.old ++ captured_args start args.now) }
 {
-    match args {
-        [] => Ok(()),
-        [arg, args @ ..] => match arg {
-            Arg::Exact(t) => {
-                let t = copy_type(alloc, t)?;
-                out.push(t)?;
-                push_captured(alloc, next, args, out)
-            }
-            _ => {
-                out.push(Ty::Captured(CaptureId(next)))?;
-                push_captured(alloc, moved_on(next, 1)?, args, out)
-            }
-        },
+    let mut next = start;
+    let mut rest = args;
+    while let [arg, more @ ..] = rest {
+        next = push_one_captured(alloc, next, arg, out)?;
+        rest = more;
+    }
+    Ok(())
+}
+
+// What stands for one argument, and the number of the next variable.
+#[tactic(auto, using(jc_types::proofs::Opened::opened))]
+fn push_one_captured(
+    alloc: Global,
+    next: u64,
+    arg: &Arg,
+    out: &mut Items<Ty>,
+) -> Result<u64, WantOfMemory>
+    ensures out { OnOk result (out.new ≡ out.old ++ captured_at next (out-Arg arg.now) ∷ []) }
+    ensures next { IfOk result (λ n. n ≡ next_at next (out-Arg arg.now)) }
+{
+    match arg {
+        Arg::Exact(t) => {
+            let t = copy_type(alloc, t)?;
+            out.push(t)?;
+            Ok(next)
+        }
+        _ => {
+            out.push(Ty::Captured(CaptureId(next)))?;
+            moved_on(next, 1)
+        }
     }
 }
 
@@ -246,16 +262,19 @@ fn push_fresh(
     requires { length vars.now ≡ length by.now }
     ensures { OnOk result (out.new ≡ out.old ++ fresh_args table.now vars.now by.now params.now args.now) }
 {
-    match params {
-        [] => Ok(()),
-        [param, params @ ..] => match args {
-            [] => Ok(()),
-            [arg, args @ ..] => {
+    let mut left = params;
+    let mut rest = args;
+    while let [param, others @ ..] = left {
+        match rest {
+            [] => return Ok(()),
+            [arg, more @ ..] => {
                 push_bounds(alloc, table, vars, by, *param, arg, out)?;
-                push_fresh(alloc, table, vars, by, params, args, out)
+                rest = more;
             }
-        },
+        }
+        left = others;
     }
+    Ok(())
 }
 
 #[tactic(auto, using(jc_types::proofs::Opened::opened))]
@@ -334,16 +353,17 @@ fn meeting_parts(
 ) -> Result<Option<u64>, WantOfMemory>
     ensures { IfOk result (λ r. r ≡ meeting_parts table.now start parts.now) }
 {
-    match parts {
-        [] => Ok(None),
-        [part, parts @ ..] => {
-            if let Some(i) = meeting_one(alloc, table, start, part)? {
-                return Ok(Some(i));
-            }
-            let one = capture_one(alloc, table, start, part)?;
-            meeting_parts(alloc, table, moved_on(start, one.fresh.len())?, parts)
+    let mut next = start;
+    let mut rest = parts;
+    while let [part, more @ ..] = rest {
+        if let Some(i) = meeting_one(alloc, table, next, part)? {
+            return Ok(Some(i));
         }
+        let one = capture_one(alloc, table, next, part)?;
+        next = moved_on(next, one.fresh.len())?;
+        rest = more;
     }
+    Ok(None)
 }
 
 #[tactic(auto, using(jc_types::proofs::Opened::opened), unfolding(jc_judge::specs::Capturing::meeting_one))]
@@ -360,7 +380,7 @@ fn meeting_one(
             let vars = class_vars(table, *id);
             if args.len() == vars.len() {
                 let by = captured_args(alloc, start, args.slice())?;
-                return first_meeting(alloc, table, vars, by.slice(), 0, vars, args.slice());
+                return first_meeting(alloc, table, vars, by.slice(), args.slice());
             }
             Ok(None)
         }
@@ -373,26 +393,29 @@ fn first_meeting(
     table: &Table,
     vars: &[VarId],
     by: &[Ty],
-    i: u64,
-    params: &[VarId],
     args: &[Arg],
 ) -> Result<Option<u64>, WantOfMemory>
     requires { length vars.now ≡ length by.now }
-    ensures { IfOk result (λ r. r ≡ first_meeting table.now vars.now by.now i params.now args.now) }
+    ensures { IfOk result (λ r. r ≡ first_meeting table.now vars.now by.now 0 vars.now args.now) }
 {
-    match params {
-        [] => Ok(None),
-        [param, params @ ..] => match args {
-            [] => Ok(None),
-            [arg, args @ ..] => {
+    let mut i: u64 = 0;
+    let mut left = vars;
+    let mut rest = args;
+    while let [param, others @ ..] = left {
+        match rest {
+            [] => return Ok(None),
+            [arg, more @ ..] => {
                 let bounds = put_bounds(alloc, table, vars, by, *param)?;
                 if argument_meets(alloc, table, bounds, arg)? {
                     return Ok(Some(i));
                 }
-                first_meeting(alloc, table, vars, by, moved_on(i, 1)?, params, args)
+                rest = more;
             }
-        },
+        }
+        i = moved_on(i, 1)?;
+        left = others;
     }
+    Ok(None)
 }
 
 /// Whether two unrelated classes meet in the bound of an argument `? extends U`, where its parameter has these bounds.

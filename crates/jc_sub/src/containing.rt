@@ -80,15 +80,18 @@ pub fn push_contained(
 ) -> Result<(), WantOfMemory>
     ensures { OnOk result (out.new ≡ out.old ++ all_contained xs.now ys.now) }
 {
-    match xs {
-        [] => Ok(()),
-        [x, xs @ ..] => match ys {
-            [] => Ok(()),
-            [y, ys @ ..] => {
+    let mut left = xs;
+    let mut right = ys;
+    while let [x, others @ ..] = left {
+        match right {
+            [] => return Ok(()),
+            [y, more @ ..] => {
                 let part = contained_part(alloc, x, y)?;
                 out.push(part)?;
-                push_contained(alloc, xs, ys, out)
+                right = more;
             }
-        },
+        }
+        left = others;
     }
+    Ok(())
 }

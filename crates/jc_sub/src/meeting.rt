@@ -1,4 +1,4 @@
-ghost use Rattle.std.specs.Prelude.{◌≡◌, ◌++◌, ◌∷◌, [], filter, not, length, IfOk, OnOk};
+ghost use Rattle.std.specs.Prelude.{◌≡◌, ◌++◌, ◌∷◌, [], filter, not, length, if◌then◌else◌, IfOk, OnOk};
 ghost use Rattle.jc_types.specs.declared.form.Ty.{out-Ty};
 ghost use Rattle.jc_types.specs.declared.form.Arg.{out-Arg};
 ghost use Rattle.jc_judge.specs.Kinds.{is_object, class_of};
@@ -47,14 +47,13 @@ pub fn glb_parts(alloc: Global, table: &Table, types: &[Ty]) -> Result<Items<Ty>
 fn push_flat(alloc: Global, types: &[Ty], out: &mut Items<Ty>) -> Result<(), WantOfMemory>
     ensures { OnOk result (out.new ≡ out.old ++ flattened types.now) }
 {
-    match types {
-        [] => Ok(()),
-        [t, types @ ..] => {
-            let parts = parts_of(alloc, t)?;
-            out.append(parts)?;
-            push_flat(alloc, types, out)
-        }
+    let mut rest = types;
+    while let [t, more @ ..] = rest {
+        let parts = parts_of(alloc, t)?;
+        out.append(parts)?;
+        rest = more;
     }
+    Ok(())
 }
 
 #[tactic(auto, using(jc_types::proofs::Opened::opened))]
@@ -75,25 +74,35 @@ fn parts_of(alloc: Global, t: &Ty) -> Result<Items<Ty>, WantOfMemory>
 fn is_listed(t: &Ty, types: &[Ty]) -> bool
     ensures { result ≡ is_listed t.now types.now }
 {
-    match types {
-        [] => false,
-        [u, types @ ..] => same_type(t, u) || is_listed(t, types),
+    let mut rest = types;
+    while let [u, more @ ..] = rest {
+        if same_type(t, u) {
+            return true;
+        }
+        rest = more;
     }
+    false
 }
 
 fn push_distinct(alloc: Global, types: &[Ty], out: &mut Items<Ty>) -> Result<(), WantOfMemory>
     ensures { OnOk result (out.new ≡ distinct out.old types.now) }
 {
-    match types {
-        [] => Ok(()),
-        [t, types @ ..] => {
-            if !is_listed(t, out.slice()) {
-                let t = copy_type(alloc, t)?;
-                out.push(t)?;
-            }
-            push_distinct(alloc, types, out)
-        }
+    let mut rest = types;
+    while let [t, more @ ..] = rest {
+        push_unlisted(alloc, t, out)?;
+        rest = more;
     }
+    Ok(())
+}
+
+fn push_unlisted(alloc: Global, t: &Ty, out: &mut Items<Ty>) -> Result<(), WantOfMemory>
+    ensures { OnOk result (out.new ≡ (if is_listed t.now out.old then out.old else out.old ++ t.now ∷ [])) }
+{
+    if is_listed(t, out.slice()) {
+        return Ok(());
+    }
+    let t = copy_type(alloc, t)?;
+    out.push(t)
 }
 
 fn without_object(alloc: Global, types: Items<Ty>) -> Result<Items<Ty>, WantOfMemory>
@@ -111,16 +120,22 @@ fn without_object(alloc: Global, types: Items<Ty>) -> Result<Items<Ty>, WantOfMe
 fn push_others(alloc: Global, bounds: &[Ty], out: &mut Items<Ty>) -> Result<(), WantOfMemory>
     ensures { OnOk result (out.new ≡ out.old ++ filter (λ b. not (is_object b)) bounds.now) }
 {
-    match bounds {
-        [] => Ok(()),
-        [b, bounds @ ..] => {
-            if !is_object(b) {
-                let b = copy_type(alloc, b)?;
-                out.push(b)?;
-            }
-            push_others(alloc, bounds, out)
-        }
+    let mut rest = bounds;
+    while let [b, more @ ..] = rest {
+        push_other(alloc, b, out)?;
+        rest = more;
     }
+    Ok(())
+}
+
+fn push_other(alloc: Global, b: &Ty, out: &mut Items<Ty>) -> Result<(), WantOfMemory>
+    ensures { OnOk result (out.new ≡ out.old ++ filter (λ b. not (is_object b)) (b.now ∷ [])) }
+{
+    if is_object(b) {
+        return Ok(());
+    }
+    let b = copy_type(alloc, b)?;
+    out.push(b)
 }
 
 fn push_uncovered(
@@ -132,30 +147,41 @@ fn push_uncovered(
 ) -> Result<(), WantOfMemory>
     ensures { OnOk result (out.new ≡ out.old ++ uncovered table.now all.now types.now) }
 {
-    match types {
-        [] => Ok(()),
-        [t, types @ ..] => {
-            if !is_covered(alloc, table, t, all)? {
-                let t = copy_type(alloc, t)?;
-                out.push(t)?;
-            }
-            push_uncovered(alloc, table, all, types, out)
-        }
+    let mut rest = types;
+    while let [t, more @ ..] = rest {
+        push_one_uncovered(alloc, table, all, t, out)?;
+        rest = more;
     }
+    Ok(())
+}
+
+fn push_one_uncovered(
+    alloc: Global,
+    table: &Table,
+    all: &[Ty],
+    t: &Ty,
+    out: &mut Items<Ty>,
+) -> Result<(), WantOfMemory>
+    ensures { OnOk result (out.new ≡ out.old ++ uncovered table.now all.now (t.now ∷ [])) }
+{
+    if is_covered(alloc, table, t, all)? {
+        return Ok(());
+    }
+    let t = copy_type(alloc, t)?;
+    out.push(t)
 }
 
 fn is_covered(alloc: Global, table: &Table, t: &Ty, others: &[Ty]) -> Result<bool, WantOfMemory>
     ensures { IfOk result (λ r. r ≡ is_covered table.now t.now others.now) }
 {
-    match others {
-        [] => Ok(false),
-        [o, others @ ..] => {
-            if covers(alloc, table, t, o)? {
-                return Ok(true);
-            }
-            is_covered(alloc, table, t, others)
+    let mut rest = others;
+    while let [o, more @ ..] = rest {
+        if covers(alloc, table, t, o)? {
+            return Ok(true);
         }
+        rest = more;
     }
+    Ok(false)
 }
 
 fn covers(alloc: Global, table: &Table, t: &Ty, o: &Ty) -> Result<bool, WantOfMemory>
@@ -197,10 +223,14 @@ fn is_exact(a: &Arg) -> bool
 fn are_exact(args: &[Arg]) -> bool
     ensures { result ≡ are_exact args.now }
 {
-    match args {
-        [] => true,
-        [a, args @ ..] => is_exact(a) && are_exact(args),
+    let mut rest = args;
+    while let [a, more @ ..] = rest {
+        if !is_exact(a) {
+            return false;
+        }
+        rest = more;
     }
+    true
 }
 
 #[tactic(auto, unfolding(jc_judge::specs::Meeting::clash))]
@@ -226,28 +256,26 @@ fn clash(alloc: Global, table: &Table, t: &Ty, u: &Ty) -> Result<bool, WantOfMem
 fn clashes(alloc: Global, table: &Table, t: &Ty, types: &[Ty]) -> Result<bool, WantOfMemory>
     ensures { IfOk result (λ r. r ≡ clashes table.now t.now types.now) }
 {
-    match types {
-        [] => Ok(false),
-        [u, types @ ..] => {
-            if clash(alloc, table, t, u)? {
-                return Ok(true);
-            }
-            clashes(alloc, table, t, types)
+    let mut rest = types;
+    while let [u, more @ ..] = rest {
+        if clash(alloc, table, t, u)? {
+            return Ok(true);
         }
+        rest = more;
     }
+    Ok(false)
 }
 
 /// Whether two classes, neither a subclass of the other, are among the types.
 pub fn classes_meet(alloc: Global, table: &Table, types: &[Ty]) -> Result<bool, WantOfMemory>
     ensures { IfOk result (λ r. r ≡ classes_meet table.now types.now) }
 {
-    match types {
-        [] => Ok(false),
-        [t, types @ ..] => {
-            if clashes(alloc, table, t, types)? {
-                return Ok(true);
-            }
-            classes_meet(alloc, table, types)
+    let mut rest = types;
+    while let [t, more @ ..] = rest {
+        if clashes(alloc, table, t, more)? {
+            return Ok(true);
         }
+        rest = more;
     }
+    Ok(false)
 }

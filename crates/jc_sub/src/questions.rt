@@ -4,16 +4,19 @@ ghost use Rattle.jc_types.specs.declared.form.Ty.{out-Ty};
 ghost use Rattle.jc_types.specs.Accessors.{lower_bound_of, uppers_of};
 ghost use Rattle.jc_judge.specs.declared.question.Part.TheVariants.{Ask};
 ghost use Rattle.jc_judge.specs.Kinds.{class_of};
-ghost use Rattle.jc_judge.specs.Asking.{question, to_meet, opened, lower_of, sources, shapes, to_array_at, classes, classes_from, by_view, by_arguments};
+ghost use Rattle.jc_sub.specs.Reaching.{WayIs};
+ghost use Rattle.jc_judge.specs.Asking.{question, to_meet, opened, lower_of, sources, shapes, to_elements, classes, classes_from, by_view, by_arguments};
 
 use crate::capturing::capture_one;
 use crate::containing::{ask, push_contained};
 use crate::kinds::{class_of, is_null, is_object, is_primitive, primitives_below};
-use crate::views::view;
+use crate::reaching::{Way, way_to};
+use crate::views::view_by;
 use jc_judge::{Part, Question};
 use jc_rules::{Items, WantOfMemory};
 use jc_types::{
-    Arg, Bounds, CaptureId, Table, Ty, arguments, captured_lower, captured_uppers, declared_bounds,
+    Arg, Bounds, CaptureId, ClassId, Table, Ty, arguments, captured_lower, captured_uppers,
+    declared_bounds, element,
 };
 use std::alloc::Global;
 
@@ -157,7 +160,7 @@ fn uppers_among<'a>(env: &'a [Bounds], fresh: &'a [Bounds], c: CaptureId) -> &'a
 }
 
 // Arrays of references, and else class and raw types.
-#[tactic(auto, using(jc_types::proofs::Opened::opened), unfolding(jc_judge::specs::Asking::shapes))]
+#[tactic(auto, unfolding(jc_judge::specs::Asking::shapes))]
 fn shapes(
     alloc: Global,
     table: &Table,
@@ -168,30 +171,28 @@ fn shapes(
 ) -> Result<Question, WantOfMemory>
     ensures { IfOk result (λ q. q ≡ shapes table.now (env.now ++ fresh.now) s.now t.now) }
 {
-    match s {
-        Ty::Array { of } => to_array(alloc, of.get(), t),
-        _ => classes(alloc, table, env, fresh, s, t),
+    match element(alloc, s)? {
+        Some(below) => to_elements(alloc, below, element(alloc, t)?),
+        None => classes(alloc, table, env, fresh, s, t),
     }
 }
 
-#[tactic(auto, using(jc_types::proofs::Opened::opened))]
-fn to_array(alloc: Global, element: &Ty, t: &Ty) -> Result<Question, WantOfMemory>
-    ensures { IfOk result (λ q. q ≡ to_array_at element.now (out-Ty t.now)) }
+fn to_elements(alloc: Global, below: Ty, above: Option<Ty>) -> Result<Question, WantOfMemory>
+    ensures { IfOk result (λ q. q ≡ to_elements below above) }
 {
-    match t {
-        Ty::Array { of } => {
-            if is_primitive(element) || is_primitive(of.get()) {
+    match above {
+        Some(above) => {
+            if is_primitive(&below) || is_primitive(&above) {
                 return Ok(Question::Fails);
             }
             let mut parts = Items::new(alloc);
-            let part = ask(alloc, element, of.get())?;
-            parts.push(part)?;
+            parts.push(Part::Ask { below, above })?;
             Ok(Question::Every {
                 fresh: Items::new(alloc),
                 parts,
             })
         }
-        _ => Ok(Question::Fails),
+        None => Ok(Question::Fails),
     }
 }
 
@@ -210,8 +211,7 @@ fn classes(
     classes_from(alloc, table, env.len() + fresh.len(), s, t)
 }
 
-// The source is captured, where `start` variables were captured before, and viewed as the target's class.
-#[tactic(auto, using(jc_types::proofs::Opened::opened))]
+// The source is viewed as the target's class, where `start` variables were captured before.
 fn classes_from(
     alloc: Global,
     table: &Table,
@@ -221,23 +221,75 @@ fn classes_from(
 ) -> Result<Question, WantOfMemory>
     ensures { IfOk result (λ q. q ≡ classes_from table.now start s.now t.now (class_of s.now) (class_of t.now)) }
 {
-    if class_of(s).is_none() {
-        return Ok(Question::Fails);
-    }
-    match class_of(t) {
+    match class_of(s) {
         None => Ok(Question::Fails),
-        Some(k) => {
-            let captured = capture_one(alloc, table, start as u64, s)?;
-            match view(alloc, table, k, &captured.ty)? {
-                None => Ok(Question::Fails),
-                Some(v) => by_arguments(
-                    alloc,
-                    captured.fresh,
-                    arguments(table, &v),
-                    arguments(table, t),
-                ),
-            }
-        }
+        Some(from) => match class_of(t) {
+            None => Ok(Question::Fails),
+            Some(to) => classes_between(alloc, table, start, Between { from, to }, s, t),
+        },
+    }
+}
+
+/// The class of a source, and that of a target.
+#[derive(Clone, Copy)]
+struct Between {
+    from: ClassId,
+    to: ClassId,
+}
+
+// Nothing is captured before a way to the target's class is known.
+fn classes_between(
+    alloc: Global,
+    table: &Table,
+    start: usize,
+    between: Between,
+    s: &Ty,
+    t: &Ty,
+) -> Result<Question, WantOfMemory>
+    requires source { class_of s.now ≡ Some between.from }
+    requires target { class_of t.now ≡ Some between.to }
+    ensures { IfOk result (λ q. q ≡ classes_from table.now start s.now t.now (class_of s.now) (class_of t.now)) }
+{
+    let way = way_to(alloc, table, between.to, between.from)?;
+    match way {
+        Way::Missing => Ok(Question::Fails),
+        Way::Found(turns) => by_way(alloc, table, start, Way::Found(turns), between, s, t),
+        Way::Unknown => by_way(alloc, table, start, Way::Unknown, between, s, t),
+    }
+}
+
+// The source is captured, and viewed by the way to the target's class.
+fn by_way(
+    alloc: Global,
+    table: &Table,
+    start: usize,
+    way: Way,
+    between: Between,
+    s: &Ty,
+    t: &Ty,
+) -> Result<Question, WantOfMemory>
+    requires way { WayIs table.now between.to between.from.0 way }
+    requires source { class_of s.now ≡ Some between.from }
+    requires target { class_of t.now ≡ Some between.to }
+    ensures { IfOk result (λ q. q ≡ classes_from table.now start s.now t.now (class_of s.now) (class_of t.now)) }
+{
+    let captured = capture_one(alloc, table, start as u64, s)?;
+    let seen = view_by(alloc, table, way, between.to, between.from, &captured.ty)?;
+    by_view(alloc, table, captured.fresh, t, seen)
+}
+
+fn by_view(
+    alloc: Global,
+    table: &Table,
+    fresh: Items<Bounds>,
+    t: &Ty,
+    seen: Option<Ty>,
+) -> Result<Question, WantOfMemory>
+    ensures { IfOk result (λ q. q ≡ by_view table.now fresh t.now seen) }
+{
+    match seen {
+        None => Ok(Question::Fails),
+        Some(v) => by_arguments(alloc, fresh, arguments(table, &v), arguments(table, t)),
     }
 }
 

@@ -1,5 +1,5 @@
 use jc_types::*;
-use jc_rules::{Boxed, Items, Place, Refusal, Rule, Text, WantOfMemory};
+use jc_rules::{Items, Place, Refusal, Rule, Text, WantOfMemory};
 use std::alloc::Global;
 use std::test::Fail;
 
@@ -42,7 +42,9 @@ fn class(alloc: Global, name: &str, vars: Items<VarId>) -> Result<ClassDecl, Wan
         place: NOWHERE,
         name: Text::of(String::from_str(alloc, name)?),
         binary: Text::of(String::from_str(alloc, name)?),
+        package: Text::of(String::new(alloc)),
         outer: None,
+        members: Items::new(alloc),
         scope: ScopeId(0),
         modifiers: Modifiers {
             access: Access::Public,
@@ -80,9 +82,7 @@ fn small_table(alloc: Global) -> Result<Table, WantOfMemory> {
     classes.push(class(alloc, "List", vars)?)?;
     classes.push(class(alloc, "Number", Items::new(alloc))?)?;
     let mut variables = Items::new(alloc);
-    let numbers = Ty::Array {
-        of: Boxed::new(alloc, plain_class(alloc, 2))?,
-    };
+    let numbers = array_over(alloc, plain_class(alloc, 2), 0)?;
     variables.push(variable(alloc, numbers)?)?;
     variables.push(variable(alloc, Ty::Variable(VarId(0)))?)?;
     let mut index = Names::new(alloc);
@@ -118,9 +118,7 @@ fn erasure_goes_to_the_leftmost_bound(rt: HostRuntime) -> Result<(), Fail> {
     let env = Env {
         bounds: Items::new(alloc),
     };
-    let array = Ty::Array {
-        of: Boxed::new(alloc, Ty::Variable(VarId(1)))?,
-    };
+    let array = array_over(alloc, Ty::Variable(VarId(1)), 0)?;
     let erased = erasure(&table, &env, &array);
     assert!(rt; erased.base == Base::Class(ClassId(2)) && erased.dims == 2);
     let list = list_of(alloc, Arg::Any)?;

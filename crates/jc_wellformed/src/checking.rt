@@ -1,16 +1,15 @@
 ghost use Rattle.std.specs.Prelude.{◌≡◌, ◌+◌, ◌++◌, None, IfOk, IfErr, OnOk, length};
 ghost use Rattle.jc_types.specs.declared.form.Arg.{out-Arg};
 ghost use Rattle.jc_judge.specs.Capturing.{captured_args, put_bounds};
-ghost use Rattle.jc_judge.specs.WellFormed.{lower_parts, is_primitive_arg, bare, arg_fault, ArgChecked, ArgsChecked, ClassChecked, OwnChecked, AllChecked, IsChecked, IsCheckStop};
+ghost use Rattle.jc_judge.specs.WellFormed.{lower_parts, is_primitive_arg, bare, arg_fault, ReferenceChecked, ArgChecked, ArgsChecked, ClassChecked, OwnChecked, AllChecked, IsChecked, IsCheckStop};
 
-use crate::inside::push_inside;
 use jc_judge::{Answer, Part, TypeFault};
 use jc_rules::{Items, Stop, WantOfMemory};
 use jc_sub::{
     MAX_HEIGHT, argument_meets, asked_above, captured_args, every, fresh_bounds, is_primitive,
     put_bounds,
 };
-use jc_types::{Arg, Bounds, ClassId, Env, Table, Ty, VarId, class_vars};
+use jc_types::{Arg, Bounds, ClassId, Env, Table, Ty, VarId, class_types, class_vars};
 use std::alloc::Global;
 
 /// Whether a type is well formed (JLS 4.5). The type itself is asked first, and then the class types inside it in the order in
@@ -35,8 +34,7 @@ fn first_fault(
 ) -> Result<Option<TypeFault>, WantOfMemory>
     ensures { IfOk result (λ found. IsChecked table.now env.now ty.now found) }
 {
-    let mut types = Items::new(alloc);
-    push_inside(alloc, ty, &mut types)?;
+    let types = class_types(alloc, ty)?;
     check_all(alloc, table, env, types.slice())
 }
 
@@ -48,16 +46,15 @@ fn check_all(
 ) -> Result<Option<TypeFault>, WantOfMemory>
     ensures { IfOk result (λ found. AllChecked table.now env.now types.now found) }
 {
-    match types {
-        [] => Ok(None),
-        [t, types @ ..] => {
-            let fault = check_own(alloc, table, env, t)?;
-            if fault.is_some() {
-                return Ok(fault);
-            }
-            check_all(alloc, table, env, types)
+    let mut rest = types;
+    while let [t, more @ ..] = rest {
+        let fault = check_own(alloc, table, env, t)?;
+        if fault.is_some() {
+            return Ok(fault);
         }
+        rest = more;
     }
+    Ok(None)
 }
 
 // A type's own fault.
@@ -117,21 +114,20 @@ fn check_class(
 fn push_bare(alloc: Global, fresh: &[Bounds], out: &mut Items<Bounds>) -> Result<(), WantOfMemory>
     ensures { OnOk result (out.new ≡ out.old ++ bare fresh.now) }
 {
-    match fresh {
-        [] => Ok(()),
-        [_, fresh @ ..] => {
-            let mut uppers = Items::new(alloc);
-            uppers.push(Ty::Class {
-                id: ClassId(0),
-                args: Items::new(alloc),
-            })?;
-            out.push(Bounds {
-                uppers,
-                lower: None,
-            })?;
-            push_bare(alloc, fresh, out)
-        }
+    let mut rest = fresh;
+    while let [_, more @ ..] = rest {
+        let mut uppers = Items::new(alloc);
+        uppers.push(Ty::Class {
+            id: ClassId(0),
+            args: Items::new(alloc),
+        })?;
+        out.push(Bounds {
+            uppers,
+            lower: None,
+        })?;
+        rest = more;
     }
+    Ok(())
 }
 
 // The fault of the first argument that has one, from argument `i` on.
@@ -199,12 +195,34 @@ fn check_arg(
     ensures full { OnOk result (full.new ≡ full.old) }
     ensures plain { OnOk result (plain.new ≡ plain.old) }
 {
+    if is_primitive_arg(arg) {
+        return Ok(Some(TypeFault::PrimitiveArgument { i }));
+    }
+    check_reference(alloc, table, env, full, plain, bounds, i, s, arg)
+}
+
+// The fault of argument `i`, which is no primitive type.
+fn check_reference(
+    alloc: Global,
+    table: &Table,
+    env: &[Bounds],
+    full: &mut Items<Bounds>,
+    plain: &mut Items<Bounds>,
+    bounds: Items<Ty>,
+    i: u64,
+    s: &Ty,
+    arg: &Arg,
+) -> Result<Option<TypeFault>, WantOfMemory>
+    ensures checked { IfOk result (λ f. ReferenceChecked table.now (env.now ++ full.old) (env.now ++ plain.old) bounds i s.now arg.now f) }
+    ensures full { OnOk result (full.new ≡ full.old) }
+    ensures plain { OnOk result (plain.new ≡ plain.old) }
+{
     let uppers = asked_above(alloc, s, bounds.slice())?;
     let lowers = lower_parts(alloc, arg, bounds.slice())?;
     let upper = every(alloc, table, env, full, MAX_HEIGHT, uppers.slice())?;
     let lower = every(alloc, table, env, plain, MAX_HEIGHT, lowers.slice())?;
     let meets = argument_meets(alloc, table, bounds, arg)?;
-    Ok(arg_fault(i, upper, lower, is_primitive_arg(arg), meets))
+    Ok(arg_fault(i, upper, lower, meets))
 }
 
 #[tactic(auto, using(jc_types::proofs::Opened::opened))]
@@ -229,23 +247,14 @@ fn is_primitive_arg(arg: &Arg) -> bool
     }
 }
 
-fn arg_fault(
-    i: u64,
-    upper: Answer,
-    lower: Answer,
-    primitive: bool,
-    meets: bool,
-) -> Option<TypeFault>
-    ensures { result ≡ arg_fault i upper lower primitive meets }
+fn arg_fault(i: u64, upper: Answer, lower: Answer, meets: bool) -> Option<TypeFault>
+    ensures { result ≡ arg_fault i upper lower meets }
 {
     if upper == Answer::No {
         return Some(TypeFault::Bound { i });
     }
     if lower == Answer::No {
         return Some(TypeFault::SuperBound { i });
-    }
-    if primitive {
-        return Some(TypeFault::PrimitiveArgument { i });
     }
     if meets {
         return Some(TypeFault::ClassesMeet { i });

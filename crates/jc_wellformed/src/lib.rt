@@ -3,7 +3,6 @@
 #![tactic(auto)]
 
 mod checking;
-mod inside;
 
 pub use checking::check_type;
 pub use jc_judge::TypeFault;

@@ -8,7 +8,7 @@ use Rattle.jc_sub.proofs.answering.+below.Goals as goal
 pub answer-returns-in_ok-answer-in-Every-clause-answer :
     goal.answer-returns-in_ok-answer-in-Every-clause-answer
 answer-returns-in_ok-answer-in-Every-clause-answer t c =
-    at_every _ _ _ _ _ _ _ _ _ _ c.in-Every.is c.in_ok-append-in-Every.ensures c.slice.ensures c.in_ok-answer-in-Every.ensures.answer
+    at_every _ _ _ _ _ _ _ _ _ _ c.in-Every.is c.in_ok-append-in-Every.ensures.ok c.slice.ensures c.in_ok-answer-in-Every.ensures.answer
 
 pub below_at-returns-then-height-eq0-clause-answer :
     goal.below_at-returns-then-height-eq0-clause-answer

@@ -1,5 +1,0 @@
-use Rattle.std.proofs.Common.{length}
-use Rattle.jc_sub.proofs.meeting.+is_covered.Given as goal
-
-abbrev pub decreases-is_covered : goal.decreases-is_covered
-decreases-is_covered l = length l.others.now
