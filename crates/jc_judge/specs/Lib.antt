@@ -1,5 +1,7 @@
 pub mod Asking
 pub mod Capturing
+pub mod Deciding
+pub mod Forming
 pub mod Kinds
 pub mod Meeting
 pub mod Supers

@@ -111,7 +111,11 @@ fn check_class(
 }
 
 // As many fresh variables with no bound but Object.
-fn push_bare(alloc: Global, fresh: &[Bounds], out: &mut Items<Bounds>) -> Result<(), WantOfMemory>
+pub fn push_bare(
+    alloc: Global,
+    fresh: &[Bounds],
+    out: &mut Items<Bounds>,
+) -> Result<(), WantOfMemory>
     ensures { OnOk result (out.new ≡ out.old ++ bare fresh.now) }
 {
     let mut rest = fresh;
@@ -170,7 +174,7 @@ fn check_args(
 }
 
 // The number of the next argument. No memory holds as many as would overflow.
-fn after(i: u64) -> Result<u64, WantOfMemory>
+pub fn after(i: u64) -> Result<u64, WantOfMemory>
     ensures { IfOk result (λ n. n ≡ i + 1) }
 {
     match i.checked_add(1) {
@@ -226,7 +230,7 @@ fn check_reference(
 }
 
 #[tactic(auto, using(jc_types::proofs::Opened::opened))]
-fn lower_parts(alloc: Global, arg: &Arg, bounds: &[Ty]) -> Result<Items<Part>, WantOfMemory>
+pub fn lower_parts(alloc: Global, arg: &Arg, bounds: &[Ty]) -> Result<Items<Part>, WantOfMemory>
     ensures { IfOk result (λ r. r ≡ lower_parts (out-Arg arg.now) bounds.now) }
 {
     match arg {
@@ -236,7 +240,7 @@ fn lower_parts(alloc: Global, arg: &Arg, bounds: &[Ty]) -> Result<Items<Part>, W
 }
 
 #[tactic(auto, using(jc_types::proofs::Opened::opened))]
-fn is_primitive_arg(arg: &Arg) -> bool
+pub fn is_primitive_arg(arg: &Arg) -> bool
     ensures { result ≡ is_primitive_arg (out-Arg arg.now) }
 {
     match arg {

@@ -2,7 +2,12 @@
 //! within its declared bounds after capture, and so is the lower bound of each super wildcard.
 #![tactic(auto)]
 
+mod answering;
 mod checking;
+mod faults;
+mod forming;
 
 pub use checking::check_type;
-pub use jc_judge::TypeFault;
+pub use faults::class_faults;
+pub use forming::well_formed;
+pub use jc_judge::{Answer, TypeFault};

@@ -1,0 +1,183 @@
+use crate::heads::{class_of_name, scope_of, table_of};
+use crate::names::Scope;
+use crate::types::{read_argument, read_type};
+use crate::words::{put_bounds, put_erased, put_type};
+use crate::{Read, Unreadable};
+use jc_rules::{Items, Stop};
+use jc_sub::{
+    Answer, CaptureFault, as_one, below, capture, classes_meet, contained, glb_parts, view,
+};
+use jc_types::{Arg, Env, Table, Ty, erasure};
+use jc_wellformed::{TypeFault, check_type, class_faults, well_formed};
+use std::alloc::Global;
+
+/// A table, its names, and the variables that its captures made.
+#[derive(Drop)]
+pub struct Asker {
+    scope: Scope,
+    table: Table,
+    env: Env,
+}
+
+fn answer_word(answer: Answer) -> &'static str {
+    match answer {
+        Answer::Yes => "Yes",
+        Answer::No => "No",
+        Answer::Deep => "Deep",
+    }
+}
+
+impl Asker {
+    /// The table that the lines declare.
+    pub fn of(alloc: Global, lines: &[&str]) -> Read<Asker> {
+        let scope = scope_of(alloc, lines)?;
+        let table = table_of(alloc, &scope, lines)?;
+        Ok(Asker {
+            scope,
+            table,
+            env: Env {
+                bounds: Items::new(alloc),
+            },
+        })
+    }
+
+    /// The answer to a line.
+    pub fn answer(&mut self, alloc: Global, line: &str) -> Read<String> {
+        let mut words = line.split_whitespace();
+        let word = words.next().unwrap_or("");
+        let first = words.next().unwrap_or("");
+        let second = words.next().unwrap_or("");
+        match word {
+            "below" => self.below(alloc, first, second),
+            "contained" => self.contained(alloc, first, second),
+            "capture" => self.capture(alloc, first),
+            "glb" => self.glb(alloc, line),
+            "erasure" => self.erasure(alloc, first),
+            "wellformed" => self.well_formed(alloc, first),
+            "formed" => self.formed(alloc, first),
+            "faults" => self.faults(alloc, first),
+            "view" => self.view(alloc, first, second),
+            _ => Err(Stop::Refused(Unreadable)),
+        }
+    }
+
+    fn type_of(&self, alloc: Global, word: &str) -> Read<Ty> {
+        read_type(alloc, &self.scope, word)
+    }
+
+    fn argument_of(&self, alloc: Global, word: &str) -> Read<Arg> {
+        read_argument(alloc, &self.scope, word)
+    }
+
+    fn below(&self, alloc: Global, first: &str, second: &str) -> Read<String> {
+        let s = self.type_of(alloc, first)?;
+        let t = self.type_of(alloc, second)?;
+        let answer = below(alloc, &self.table, &self.env, &s, &t)?;
+        Ok(String::from_str(alloc, answer_word(answer))?)
+    }
+
+    fn contained(&self, alloc: Global, first: &str, second: &str) -> Read<String> {
+        let a = self.argument_of(alloc, first)?;
+        let b = self.argument_of(alloc, second)?;
+        let answer = contained(alloc, &self.table, &self.env, &a, &b)?;
+        Ok(String::from_str(alloc, answer_word(answer))?)
+    }
+
+    /// A type in words.
+    fn words_of(&self, alloc: Global, ty: &Ty) -> Read<String> {
+        let mut out = String::new(alloc);
+        put_type(alloc, &mut out, &self.table, ty)?;
+        Ok(out)
+    }
+
+    fn capture(&mut self, alloc: Global, first: &str) -> Read<String> {
+        let ty = self.type_of(alloc, first)?;
+        let before = self.env.bounds.len();
+        match capture(alloc, &self.table, &mut self.env, &ty) {
+            Ok(captured) => {
+                let mut out = self.words_of(alloc, &captured)?;
+                let bounds = self.env.bounds.slice();
+                let fresh = bounds.get(before..).unwrap_or(bounds);
+                put_bounds(alloc, &mut out, &self.table, before as u64, fresh)?;
+                Ok(out)
+            }
+            Err(Stop::Refused(CaptureFault::ClassesMeet { i })) => {
+                Ok(format!(in alloc; "ClassesMeet {i}")?)
+            }
+            Err(Stop::WantOfMemory) => Err(Stop::WantOfMemory),
+        }
+    }
+
+    fn glb(&self, alloc: Global, line: &str) -> Read<String> {
+        let mut types = Items::new(alloc);
+        for (i, word) in line.split_whitespace().enumerate() {
+            if i > 0 {
+                types.push(self.type_of(alloc, word)?)?;
+            }
+        }
+        let parts = glb_parts(alloc, &self.table, types.slice())?;
+        if classes_meet(alloc, &self.table, parts.slice())? {
+            return Ok(String::from_str(alloc, "ClassesMeet")?);
+        }
+        let bound = as_one(alloc, parts);
+        self.words_of(alloc, &bound)
+    }
+
+    fn erasure(&self, alloc: Global, first: &str) -> Read<String> {
+        let ty = self.type_of(alloc, first)?;
+        let mut out = String::new(alloc);
+        let erased = erasure(&self.table, &self.env, &ty);
+        put_erased(alloc, &mut out, &self.table, erased)?;
+        Ok(out)
+    }
+
+    fn well_formed(&self, alloc: Global, first: &str) -> Read<String> {
+        let ty = self.type_of(alloc, first)?;
+        match check_type(alloc, &self.table, &self.env, &ty) {
+            Ok(()) => Ok(String::from_str(alloc, "Yes")?),
+            Err(Stop::Refused(fault)) => fault_words(alloc, fault),
+            Err(Stop::WantOfMemory) => Err(Stop::WantOfMemory),
+        }
+    }
+
+    fn formed(&self, alloc: Global, first: &str) -> Read<String> {
+        let ty = self.type_of(alloc, first)?;
+        let answer = well_formed(alloc, &self.table, &self.env, &ty)?;
+        Ok(String::from_str(alloc, answer_word(answer))?)
+    }
+
+    fn faults(&self, alloc: Global, first: &str) -> Read<String> {
+        let ty = self.type_of(alloc, first)?;
+        let faults = class_faults(alloc, &self.table, &self.env, &ty)?;
+        let mut out = String::new(alloc);
+        for (n, fault) in faults.slice().iter().enumerate() {
+            if n > 0 {
+                out.push_str(", ")?;
+            }
+            let words = fault_words(alloc, *fault)?;
+            out.push_str(words.as_str())?;
+        }
+        Ok(out)
+    }
+
+    fn view(&self, alloc: Global, first: &str, second: &str) -> Read<String> {
+        let ty = self.type_of(alloc, first)?;
+        let class = class_of_name(&self.scope, second)?;
+        match view(alloc, &self.table, class, &ty)? {
+            Some(found) => self.words_of(alloc, &found),
+            None => Ok(String::from_str(alloc, "none")?),
+        }
+    }
+}
+
+/// The number of the rule that a fault breaks, and the number of the argument if it is one's.
+fn fault_words(alloc: Global, fault: TypeFault) -> Read<String> {
+    Ok(match fault {
+        TypeFault::Count => format!(in alloc; "401")?,
+        TypeFault::Bound { i } => format!(in alloc; "402 {i}")?,
+        TypeFault::SuperBound { i } => format!(in alloc; "403 {i}")?,
+        TypeFault::PrimitiveArgument { i } => format!(in alloc; "404 {i}")?,
+        TypeFault::ClassesMeet { i } => format!(in alloc; "405 {i}")?,
+        TypeFault::Deep => format!(in alloc; "406")?,
+    })
+}

@@ -1,0 +1,196 @@
+//! Tables from their head lines, which are read twice: for the names, and then for what the heads say of them.
+use crate::names::{Named, Scope};
+use crate::types::{read_bounds, read_type};
+use crate::{Read, Unreadable};
+use jc_rules::{Items, Place, Stop, Text, WantOfMemory};
+use jc_types::{
+    Access, ClassDecl, ClassId, Kind, MethodId, Modifiers, Names, Owner, ScopeId, Table, Ty,
+    TypePlaces, VarId, VariableDecl, WrittenTypes,
+};
+use std::alloc::Global;
+
+const NOWHERE: Place = Place { file: 0, at: 0 };
+
+/// Whether a line is a head, and no question.
+pub fn is_head(line: &str) -> bool {
+    match line.split_whitespace().next() {
+        Some(word) => word == "class" || word == "interface" || word == "variable",
+        None => false,
+    }
+}
+
+/// The name of a parameter, and its bound if it has one.
+fn parts_of_parameter(word: &str) -> (&str, Option<&str>) {
+    match word.split_once(':') {
+        Some((name, bound)) => (name, Some(bound)),
+        None => (word, None),
+    }
+}
+
+/// The names that the lines declare.
+pub fn scope_of(alloc: Global, lines: &[&str]) -> Read<Scope> {
+    let mut scope = Scope::new(alloc)?;
+    for line in lines {
+        if is_head(line) {
+            add_names(alloc, &mut scope, line)?;
+        }
+    }
+    Ok(scope)
+}
+
+fn add_names(alloc: Global, scope: &mut Scope, line: &str) -> Result<(), WantOfMemory> {
+    let mut class = None;
+    let mut generic = false;
+    let is_variable = line.starts_with("variable ");
+    for (i, word) in line.split_whitespace().enumerate() {
+        if word == ":" {
+            break;
+        }
+        if i == 1 && !is_variable {
+            class = Some(word);
+        } else if i > 0 {
+            generic = true;
+            scope.add_variable(alloc, parts_of_parameter(word).0)?;
+        }
+    }
+    match class {
+        Some(name) => scope.add_class(alloc, name, generic),
+        None => Ok(()),
+    }
+}
+
+/// The table that the lines declare.
+pub fn table_of(alloc: Global, scope: &Scope, lines: &[&str]) -> Read<Table> {
+    let mut table = Table {
+        classes: Items::new(alloc),
+        methods: Items::new(alloc),
+        fields: Items::new(alloc),
+        variables: Items::new(alloc),
+        scopes: Items::new(alloc),
+        uses: Items::new(alloc),
+        index: Names::new(alloc),
+    };
+    let object = class_decl(
+        alloc,
+        "Object",
+        Kind::Class,
+        Items::new(alloc),
+        Items::new(alloc),
+    )?;
+    table.classes.push(object)?;
+    for line in lines {
+        if is_head(line) {
+            add_head(alloc, scope, &mut table, line)?;
+        }
+    }
+    Ok(table)
+}
+
+fn add_head(alloc: Global, scope: &Scope, table: &mut Table, line: &str) -> Read<()> {
+    let mut words = line.split_whitespace();
+    let kind = match words.next() {
+        Some("variable") => return add_variables(alloc, scope, table, line),
+        Some("interface") => Kind::Interface,
+        _ => Kind::Class,
+    };
+    let name = words.next().unwrap_or("");
+    let owner = Owner::Class(ClassId(table.classes.len() as u64));
+    let mut vars = Items::new(alloc);
+    let mut supers = Items::new(alloc);
+    let mut is_behind = false;
+    for word in words {
+        if word == ":" {
+            is_behind = true;
+        } else if is_behind {
+            supers.push(read_type(alloc, scope, word)?)?;
+        } else {
+            vars.push(VarId(table.variables.len() as u64))?;
+            add_variable(alloc, scope, table, owner, word)?;
+        }
+    }
+    table
+        .classes
+        .push(class_decl(alloc, name, kind, vars, supers)?)?;
+    Ok(())
+}
+
+/// Type variables of a method.
+fn add_variables(alloc: Global, scope: &Scope, table: &mut Table, line: &str) -> Read<()> {
+    for (i, word) in line.split_whitespace().enumerate() {
+        if i > 0 {
+            add_variable(alloc, scope, table, Owner::Method(MethodId(0)), word)?;
+        }
+    }
+    Ok(())
+}
+
+fn add_variable(
+    alloc: Global,
+    scope: &Scope,
+    table: &mut Table,
+    owner: Owner,
+    word: &str,
+) -> Read<()> {
+    let (name, bound) = parts_of_parameter(word);
+    let bounds = read_bounds(alloc, scope, bound.unwrap_or("Object"))?;
+    table.variables.push(VariableDecl {
+        place: NOWHERE,
+        name: Text::of(String::from_str(alloc, name)?),
+        owner,
+        bounds: implied(alloc, bounds)?,
+    })?;
+    Ok(())
+}
+
+/// Types that nothing writes.
+fn implied(alloc: Global, types: Items<Ty>) -> Result<WrittenTypes, WantOfMemory> {
+    let mut places = Items::new(alloc);
+    for _ in 0..types.len() {
+        places.push(TypePlaces {
+            first: NOWHERE,
+            classes: Items::new(alloc),
+        })?;
+    }
+    Ok(WrittenTypes { types, places })
+}
+
+fn class_decl(
+    alloc: Global,
+    name: &str,
+    kind: Kind,
+    vars: Items<VarId>,
+    supers: Items<Ty>,
+) -> Result<ClassDecl, WantOfMemory> {
+    Ok(ClassDecl {
+        place: NOWHERE,
+        name: Text::of(String::from_str(alloc, name)?),
+        binary: Text::of(String::from_str(alloc, name)?),
+        package: Text::of(String::new(alloc)),
+        outer: None,
+        members: Items::new(alloc),
+        scope: ScopeId(0),
+        modifiers: Modifiers {
+            access: Access::Public,
+            is_abstract: false,
+            is_static: false,
+            is_final: false,
+            is_native: false,
+            is_transient: false,
+            is_volatile: false,
+            says_override: false,
+        },
+        kind,
+        vars,
+        supers: implied(alloc, supers)?,
+        methods: Items::new(alloc),
+        fields: Items::new(alloc),
+    })
+}
+
+/// The class of a name.
+pub fn class_of_name(scope: &Scope, name: &str) -> Read<ClassId> {
+    match scope.find(name) {
+        Some(Named::Class { number, .. }) => Ok(ClassId(number)),
+        _ => Err(Stop::Refused(Unreadable)),
+    }
+}

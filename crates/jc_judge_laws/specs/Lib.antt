@@ -1,0 +1,2 @@
+pub mod Leftmost
+pub mod Hierarchy
