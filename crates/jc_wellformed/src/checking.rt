@@ -103,9 +103,6 @@ fn check_class(
         &mut plain,
         vars,
         by.slice(),
-        0,
-        vars,
-        by.slice(),
         args,
     )
 }
@@ -134,7 +131,7 @@ pub fn push_bare(
     Ok(())
 }
 
-// The fault of the first argument that has one, from argument `i` on.
+// The fault of the first argument that has one, where `by` stands for the parameters.
 fn check_args(
     alloc: Global,
     table: &Table,
@@ -143,34 +140,33 @@ fn check_args(
     plain: &mut Items<Bounds>,
     vars: &[VarId],
     by: &[Ty],
-    i: u64,
-    params: &[VarId],
-    types: &[Ty],
     args: &[Arg],
 ) -> Result<Option<TypeFault>, WantOfMemory>
     requires { length vars.now ≡ length by.now }
-    ensures { IfOk result (λ found. ArgsChecked table.now (env.now ++ full.old) (env.now ++ plain.old) vars.now by.now i params.now types.now args.now found) }
+    ensures { IfOk result (λ found. ArgsChecked table.now (env.now ++ full.old) (env.now ++ plain.old) vars.now by.now 0 vars.now by.now args.now found) }
 {
-    match params {
-        [] => Ok(None),
-        [param, params @ ..] => match types {
-            [] => Ok(None),
-            [s, types @ ..] => match args {
-                [] => Ok(None),
-                [arg, args @ ..] => {
-                    let bounds = put_bounds(alloc, table, vars, by, *param)?;
-                    let fault = check_arg(alloc, table, env, full, plain, bounds, i, s, arg)?;
-                    if fault.is_some() {
-                        return Ok(fault);
-                    }
-                    let next = after(i)?;
-                    check_args(
-                        alloc, table, env, full, plain, vars, by, next, params, types, args,
-                    )
-                }
-            },
-        },
+    let mut i: u64 = 0;
+    let mut left = vars;
+    let mut types = by;
+    let mut rest = args;
+    while let [param, later_params @ ..] = left {
+        let [s, later_types @ ..] = types else {
+            return Ok(None);
+        };
+        let [arg, later @ ..] = rest else {
+            return Ok(None);
+        };
+        let bounds = put_bounds(alloc, table, vars, by, *param)?;
+        let fault = check_arg(alloc, table, env, full, plain, bounds, i, s, arg)?;
+        if fault.is_some() {
+            return Ok(fault);
+        }
+        i = after(i)?;
+        left = later_params;
+        types = later_types;
+        rest = later;
     }
+    Ok(None)
 }
 
 // The number of the next argument. No memory holds as many as would overflow.
