@@ -442,7 +442,7 @@ def reason(sample, kind, one, other, answer, report):
 
 
 DIMENSIONS = 100000
-# TYPES_PARAMETERS=100000 shows what can't be had yet: `check_type` runs out of stack, and a view substitutes in quadratic time
+# TYPES_PARAMETERS=100000 shows what can't be had yet: a view substitutes in quadratic time
 PARAMETERS = int(os.environ.get("TYPES_PARAMETERS", 2000))
 GENEROUS_SECONDS = 120
 
