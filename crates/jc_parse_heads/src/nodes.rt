@@ -327,33 +327,6 @@ pub fn throw_of<'a>(
     join(first, more, |a, b| Stmt::Throw { at: a, value: b })
 }
 
-/// A keyword and a test.
-pub fn tested_of<'a>(
-    first: Found<'a, u32>,
-    more: Result<Found<'a, Expr>, Halt>,
-) -> Result<Found<'a, Tested>, Halt>
-    ensures { Joined {C = Tested} (λ (a : ℕ) (b : Expr). record { at = a; test = b }) first.entry more.entry result }
-{
-    join(first, more, |a, b| Tested { at: a, test: b })
-}
-
-/// A label of a switch.
-pub fn case_of<'a>(
-    first: Found<'a, u32>,
-    more: Result<Found<'a, Expr>, Halt>,
-) -> Result<Found<'a, Opening>, Halt>
-    ensures { Joined {C = Opening} (λ (a : ℕ) (b : Expr). record { at = a; head = clause_head_of.Case b }) first.entry more.entry result }
-{
-    join(
-        first,
-        more,
-        |a, b| Opening {
-            at: a,
-            head: ClauseHead::Case(b),
-        },
-    )
-}
-
 /// A `for` up to its body.
 pub fn for_opening_of<'a>(
     first: Found<'a, u32>,
