@@ -1,0 +1,2 @@
+class Y { }
+interface X { }

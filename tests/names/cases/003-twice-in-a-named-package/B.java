@@ -1,0 +1,4 @@
+package p.q;
+class Y { }
+
+class X<T> { }

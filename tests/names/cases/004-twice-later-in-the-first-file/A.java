@@ -1,0 +1,3 @@
+class X { }
+class Y { }
+class X { }

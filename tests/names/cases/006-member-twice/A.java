@@ -1,0 +1,4 @@
+class A {
+    static class M { }
+    interface M { }
+}

@@ -1,0 +1,4 @@
+interface A {
+    class M<T> { }
+    class M<T, U> { }
+}

@@ -1,0 +1,8 @@
+class A {
+    static class B {
+        interface C {
+            class D { }
+            class D { }
+        }
+    }
+}

@@ -1,0 +1,3 @@
+class A {
+    static class A { }
+}

@@ -1,0 +1,5 @@
+class A {
+    interface B {
+        interface A { }
+    }
+}

@@ -1,0 +1,9 @@
+class A {
+    int M;
+    static class M { }
+    M M(M M) {
+        return M;
+    }
+    void A() { }
+    int A;
+}

@@ -1,0 +1,7 @@
+class A<A> {
+    A field;
+    A same(A a) {
+        A local = a;
+        return local;
+    }
+}

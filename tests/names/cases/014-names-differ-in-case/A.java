@@ -1,0 +1,6 @@
+class A {
+    static class m { }
+    static class M { }
+    m one;
+    M two;
+}

@@ -1,0 +1,4 @@
+package p;
+
+import java.util.List;
+interface List { }

@@ -1,0 +1,8 @@
+package p;
+
+import p.A.M;
+
+class A {
+    static class M { }
+}
+class M { }

@@ -1,0 +1,11 @@
+import java.util.List;
+
+class A {
+    List first;
+    static class List {
+        int length;
+    }
+    int length() {
+        return first.length;
+    }
+}

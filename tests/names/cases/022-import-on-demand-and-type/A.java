@@ -1,0 +1,12 @@
+import java.util.*;
+
+class List {
+    int length;
+}
+class A {
+    List list;
+    int length() {
+        return list.length;
+    }
+    Set<List> set;
+}

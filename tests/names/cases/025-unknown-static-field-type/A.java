@@ -1,0 +1,4 @@
+class A {
+    A known;
+    static Nope[] field;
+}

@@ -1,0 +1,1 @@
+class A implements Comparable<A>, Nope { public int compareTo(A a) { return 0; } }

@@ -1,0 +1,2 @@
+class A implements
+    Comparable<Nope> { public int compareTo(Nope a) { return 0; } }

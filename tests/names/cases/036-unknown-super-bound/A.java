@@ -1,0 +1,5 @@
+import java.util.Comparator;
+
+class A {
+    void sort(Comparator<? super Nope[]> order) { }
+}

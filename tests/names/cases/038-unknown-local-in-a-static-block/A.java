@@ -1,0 +1,6 @@
+class A {
+    static {
+        int known = 1;
+        final Nope unknown = null;
+    }
+}

@@ -1,0 +1,7 @@
+class A {
+    {
+        while (true) {
+            Nope[] unknown;
+        }
+    }
+}

@@ -1,0 +1,6 @@
+class A {
+    A() {
+        super();
+        Nope unknown = null;
+    }
+}

@@ -1,0 +1,5 @@
+class A {
+    Object method(Object value) {
+        return (Nope) value;
+    }
+}

@@ -1,0 +1,5 @@
+class A {
+    boolean method(Object value) {
+        return value != null && !(value instanceof Nope);
+    }
+}

@@ -1,0 +1,6 @@
+class A {
+    Object field =
+        new java.util.ArrayList<
+            Nope
+        >();
+}

@@ -1,0 +1,3 @@
+class A {
+    Object field = new Nope[] { null };
+}

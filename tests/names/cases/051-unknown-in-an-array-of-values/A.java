@@ -1,0 +1,6 @@
+class A {
+    Object[] field = {
+        null,
+        (Nope) null
+    };
+}

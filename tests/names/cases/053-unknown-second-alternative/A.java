@@ -1,0 +1,7 @@
+class A {
+    void method() {
+        try {
+        } catch (NullPointerException
+            | Nope caught) { }
+    }
+}

@@ -1,0 +1,8 @@
+class A {
+    void method() {
+        try {
+        } finally {
+            Nope local;
+        }
+    }
+}

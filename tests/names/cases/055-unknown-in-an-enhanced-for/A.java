@@ -1,0 +1,5 @@
+class A {
+    void method(Iterable<String> all) {
+        for (Nope one : all) { }
+    }
+}

@@ -1,0 +1,5 @@
+class A {
+    void method() {
+        for (Nope one = null; one != null; ) { }
+    }
+}

@@ -1,0 +1,5 @@
+class A {
+    int method(int[] all, Object value) {
+        return all[all[(Nope) value] + 1];
+    }
+}

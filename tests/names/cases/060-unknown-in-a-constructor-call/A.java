@@ -1,0 +1,6 @@
+class A {
+    A(Object value) { }
+    A() {
+        this((Nope) null);
+    }
+}

@@ -1,0 +1,5 @@
+class A {
+    A known;
+    Nope first; Nope second;
+    Nope third;
+}

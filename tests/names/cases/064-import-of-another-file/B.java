@@ -1,0 +1,4 @@
+
+class B {
+    List<A> list;
+}

@@ -1,0 +1,4 @@
+import java.util.*;
+class B {
+    Set<A> set;
+}

@@ -1,0 +1,4 @@
+class A extends C {
+    B.M first;
+    M second;
+}

@@ -1,0 +1,3 @@
+class B {
+    static class M { }
+}

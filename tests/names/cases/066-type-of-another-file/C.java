@@ -1,0 +1,3 @@
+class C {
+    static class M extends B.M { }
+}

@@ -1,0 +1,5 @@
+class A extends B<C> {
+    C field;
+}
+class B<T> { }
+class C { }

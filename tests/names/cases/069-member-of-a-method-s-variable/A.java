@@ -1,0 +1,6 @@
+class A {
+    <T extends B> void method(T.M it) { }
+}
+class B {
+    static class M { }
+}

@@ -1,0 +1,7 @@
+class A<T extends B> {
+    B.M field;
+    T other;
+}
+class B {
+    static class M { }
+}

@@ -1,0 +1,4 @@
+class A<T> {
+    A<String>.M field;
+    static class M { }
+}

@@ -1,0 +1,5 @@
+class A<T> {
+    java.util.
+        Map<T, T>
+        .Entry<T, T> field;
+}

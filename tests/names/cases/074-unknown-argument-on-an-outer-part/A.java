@@ -1,0 +1,4 @@
+class A<T> {
+    java.util.
+        Map<Nope, T>.Entry<T, T> field;
+}

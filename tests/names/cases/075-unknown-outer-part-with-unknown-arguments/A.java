@@ -1,0 +1,3 @@
+class A {
+    Nope<Never>.Entry<Neither> field;
+}

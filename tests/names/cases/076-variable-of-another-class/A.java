@@ -1,0 +1,4 @@
+class A<T> { T field; }
+class B {
+    T field;
+}

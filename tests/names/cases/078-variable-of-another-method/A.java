@@ -1,0 +1,4 @@
+class A {
+    <T> void first(T it) { }
+    void second(T it) { }
+}

@@ -1,0 +1,6 @@
+class A {
+    static class M { }
+}
+class B {
+    M field;
+}

@@ -1,0 +1,6 @@
+class A {
+    M field;
+}
+class B extends A {
+    static class M { }
+}

@@ -1,0 +1,6 @@
+class A {
+    static class B {
+        static class M { }
+    }
+    M field;
+}

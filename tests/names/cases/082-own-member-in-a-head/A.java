@@ -1,0 +1,3 @@
+class A extends M {
+    static class M { }
+}

@@ -1,0 +1,4 @@
+class A extends C implements I { }
+class C {
+    interface I { }
+}

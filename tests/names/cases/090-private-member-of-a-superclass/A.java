@@ -1,0 +1,6 @@
+class A {
+    private static class M { }
+}
+class B extends A {
+    M field;
+}

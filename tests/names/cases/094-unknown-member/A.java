@@ -1,0 +1,4 @@
+class A {
+    static class M { }
+    A.N field;
+}

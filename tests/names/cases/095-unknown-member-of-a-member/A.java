@@ -1,0 +1,4 @@
+class A {
+    static class M { static class N { } }
+    A.M.A field;
+}

@@ -1,0 +1,3 @@
+class A {
+    some.where.A field;
+}

@@ -1,0 +1,5 @@
+package some.where.else1;
+
+class B {
+    static class M { }
+}

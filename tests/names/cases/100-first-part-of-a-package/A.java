@@ -1,0 +1,5 @@
+package some.where;
+
+class A {
+    some.A field;
+}

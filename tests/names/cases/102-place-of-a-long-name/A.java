@@ -1,0 +1,6 @@
+class A {
+    A known;
+    java
+        .util
+        .Lists field;
+}

@@ -1,0 +1,4 @@
+class A {
+    static class some { }
+    some.where.A field;
+}

@@ -1,0 +1,7 @@
+class A {
+    static class java {
+        static class lang { }
+    }
+    java.lang first;
+    java.lang.Object second;
+}

@@ -1,0 +1,6 @@
+class A {
+    static class java { }
+}
+class B extends A {
+    java.lang.Object second;
+}

@@ -1,0 +1,3 @@
+class A<java> {
+    java.util.List<String> field;
+}

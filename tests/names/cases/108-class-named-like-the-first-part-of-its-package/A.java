@@ -1,0 +1,5 @@
+package a.b;
+
+class A {
+    a.b.A field;
+}

@@ -1,0 +1,5 @@
+import java.util.List;
+
+class A {
+    List.Entry<String, A> unknown;
+}

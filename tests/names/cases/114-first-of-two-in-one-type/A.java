@@ -1,0 +1,7 @@
+import java.util.Map;
+
+class A {
+    Map<
+        Nope,
+        Never> field;
+}

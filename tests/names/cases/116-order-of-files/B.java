@@ -1,0 +1,3 @@
+class B {
+    Nope field;
+}

@@ -1,0 +1,4 @@
+class A<T>
+    extends Nope<Never> {
+    Neither field;
+}

@@ -1,0 +1,6 @@
+class A {
+    void method() {
+        Nope local;
+    }
+}
+class B extends Never { }

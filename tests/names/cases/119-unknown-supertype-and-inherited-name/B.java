@@ -1,0 +1,3 @@
+class B extends Nope {
+    Never field;
+}

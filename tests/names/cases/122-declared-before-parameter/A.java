@@ -1,0 +1,7 @@
+class A<M> {
+    static class M {
+        int number;
+    }
+    M field;
+    int number = field.number;
+}

@@ -1,0 +1,9 @@
+class A<M extends Number> extends B {
+    M field;
+    int number() {
+        return field.intValue();
+    }
+}
+class B {
+    static class M { }
+}

@@ -1,0 +1,9 @@
+package p;
+
+import java.util.*;
+
+class A {
+    List field;
+    int number = field.own;
+    Set<String> other;
+}

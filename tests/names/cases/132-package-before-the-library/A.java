@@ -1,0 +1,9 @@
+package p;
+
+class A {
+    Integer field;
+    int number = field.own;
+}
+class Integer {
+    int own;
+}

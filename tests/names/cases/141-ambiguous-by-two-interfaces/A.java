@@ -1,0 +1,9 @@
+interface I {
+    class M { }
+}
+interface J {
+    class M { }
+}
+class A implements I, J {
+    M field;
+}

@@ -1,0 +1,9 @@
+interface I {
+    class M { }
+}
+class B {
+    static class M { }
+}
+class A extends B implements I {
+    M[] field;
+}

@@ -1,0 +1,10 @@
+interface I {
+    class M { }
+}
+interface J {
+    class M { }
+}
+class B implements I, J { }
+class A extends B {
+    M field;
+}

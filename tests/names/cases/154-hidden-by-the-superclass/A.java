@@ -1,0 +1,10 @@
+class C {
+    static class M { }
+}
+class B extends C {
+    static class M { int hiding; }
+}
+class A extends B {
+    M field;
+    int number = field.hiding;
+}

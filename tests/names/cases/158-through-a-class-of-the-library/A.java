@@ -1,0 +1,5 @@
+import java.util.HashMap;
+
+class A {
+    HashMap.Entry<String, String> field;
+}

@@ -1,0 +1,10 @@
+interface I {
+    class M { }
+}
+interface J {
+    class M { }
+}
+class A implements I, J {
+    M field;
+    Nope other;
+}

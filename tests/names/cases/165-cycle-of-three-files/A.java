@@ -1,0 +1,2 @@
+class X { }
+class A extends B { }

@@ -1,0 +1,3 @@
+class A implements A.I {
+    interface I { }
+}

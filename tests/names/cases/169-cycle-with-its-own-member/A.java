@@ -1,0 +1,3 @@
+class A extends A.B {
+    static class B { }
+}

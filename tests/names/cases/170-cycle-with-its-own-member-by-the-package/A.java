@@ -1,0 +1,5 @@
+package p;
+
+class A extends p.A.B {
+    static class B { }
+}

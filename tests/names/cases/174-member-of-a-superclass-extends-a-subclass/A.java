@@ -1,0 +1,4 @@
+class A extends B { }
+class B {
+    static class C extends A { }
+}

@@ -1,0 +1,4 @@
+class A extends B.C { }
+class B extends A {
+    static class C { }
+}

@@ -1,0 +1,6 @@
+class A {
+    static class M extends B.M { }
+}
+class B {
+    static class M extends A.M { }
+}

@@ -1,0 +1,3 @@
+class X extends Object { }
+class A extends B { }
+class C extends D { }

@@ -1,0 +1,2 @@
+class D extends C { }
+class B extends A { }

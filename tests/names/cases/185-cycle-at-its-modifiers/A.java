@@ -1,0 +1,3 @@
+class X { }
+abstract
+class A extends A { }

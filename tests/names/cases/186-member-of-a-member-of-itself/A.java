@@ -1,0 +1,5 @@
+class A implements A.B.C {
+    static class B {
+        interface C { }
+    }
+}

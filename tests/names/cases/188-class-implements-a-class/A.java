@@ -1,0 +1,3 @@
+interface I { }
+class B { }
+class A implements I, B { }

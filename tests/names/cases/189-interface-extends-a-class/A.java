@@ -1,0 +1,2 @@
+class B { }
+interface I extends Comparable<I>, B { }

@@ -1,0 +1,2 @@
+final class B { }
+class A extends B { }

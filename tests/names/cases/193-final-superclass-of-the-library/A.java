@@ -1,0 +1,2 @@
+class X extends Exception { }
+class A extends String { }

@@ -1,0 +1,5 @@
+class B {
+    static final class M { }
+    M field;
+}
+class A extends B.M { }

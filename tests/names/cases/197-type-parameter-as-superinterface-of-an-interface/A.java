@@ -1,0 +1,1 @@
+interface A<T extends Comparable<T>> extends T { }

@@ -1,0 +1,3 @@
+interface I { }
+interface J { }
+class A implements I, J, I { }

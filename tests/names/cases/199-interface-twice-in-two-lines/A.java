@@ -1,0 +1,5 @@
+interface I { }
+class A implements
+    I,
+    Comparable<A>,
+    I { public int compareTo(A a) { return 0; } }

@@ -1,0 +1,6 @@
+interface I { interface J { } }
+class A
+    extends
+    I
+    .
+    J { }

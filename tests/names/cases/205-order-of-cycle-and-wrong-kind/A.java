@@ -1,0 +1,3 @@
+interface I extends J { }
+class A extends I { }
+interface J extends I { }

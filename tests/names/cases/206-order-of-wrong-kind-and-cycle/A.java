@@ -1,0 +1,3 @@
+interface I { }
+class A extends I { }
+class B extends B { }

@@ -1,0 +1,4 @@
+interface I { }
+class A
+    extends I
+    implements Nope { }

@@ -1,0 +1,2 @@
+import java.util;
+class A { }

@@ -1,0 +1,2 @@
+import some.where.*;
+class A { }

@@ -1,0 +1,2 @@
+import java.util.Lists.*;
+class A { }

@@ -1,0 +1,5 @@
+import java.util.Map.*;
+
+class A {
+    Entry<String, A> field;
+}

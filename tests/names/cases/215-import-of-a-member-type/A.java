@@ -1,0 +1,5 @@
+import java.util.Map.Entry;
+
+class A {
+    Entry<String, A> field;
+}

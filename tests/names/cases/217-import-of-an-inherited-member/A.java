@@ -1,0 +1,8 @@
+package p;
+
+import p.A.M;
+
+class A extends B { }
+class B {
+    static class M { }
+}

@@ -1,0 +1,2 @@
+import java.util.HashMap.Entry;
+class A { }

@@ -1,0 +1,10 @@
+package p;
+
+import p.A.M.*;
+
+class A extends B { }
+class B {
+    static class M {
+        static class N { }
+    }
+}

@@ -1,0 +1,2 @@
+import B;
+class A { }

@@ -1,0 +1,2 @@
+import B.M;
+class A { M field; }

@@ -1,0 +1,6 @@
+package p;
+
+import B.M;
+
+class A { }
+class B { static class M { } }

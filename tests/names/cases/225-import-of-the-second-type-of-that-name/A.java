@@ -1,0 +1,6 @@
+package p;
+
+import p.q.A;
+
+class A { }
+class q { }

@@ -1,0 +1,2 @@
+import java.util.LinkedList;
+class A { LinkedList list; }

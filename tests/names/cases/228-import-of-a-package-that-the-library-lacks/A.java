@@ -1,0 +1,2 @@
+import java.math.*;
+class A { }

@@ -1,0 +1,2 @@
+import java.util.Lists; import java.util.List;
+interface List { }

@@ -1,0 +1,6 @@
+package p;
+
+import java.util.List;
+import p.A.List;
+
+class A { }

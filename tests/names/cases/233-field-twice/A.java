@@ -1,0 +1,4 @@
+class A {
+    int number;
+    String number;
+}

@@ -1,0 +1,5 @@
+class A {
+    int first,
+        second,
+        first;
+}

@@ -1,0 +1,3 @@
+interface A {
+    int[] ALL = { }, ALL[] = { };
+}

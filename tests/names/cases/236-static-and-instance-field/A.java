@@ -1,0 +1,5 @@
+class A {
+    static int number;
+    void number() { }
+    private final int number = 0;
+}

@@ -1,0 +1,4 @@
+class A {
+    void method(int number) { }
+    int method(int other) { return other; }
+}

@@ -1,0 +1,6 @@
+class A {
+    int number;
+    int
+        number;
+    Nope other;
+}

@@ -1,0 +1,5 @@
+/* another one */
+
+package q;
+
+class B { }

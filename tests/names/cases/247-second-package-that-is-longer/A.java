@@ -1,0 +1,2 @@
+package p.q;
+class A { }

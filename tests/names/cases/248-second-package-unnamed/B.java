@@ -1,0 +1,3 @@
+
+// no package here
+class B { }

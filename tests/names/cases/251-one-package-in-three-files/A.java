@@ -1,0 +1,2 @@
+package javas.java.util;
+class A { }

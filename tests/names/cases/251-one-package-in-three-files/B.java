@@ -1,0 +1,2 @@
+/* of the same package */ package javas . java . util;
+class B extends A { }

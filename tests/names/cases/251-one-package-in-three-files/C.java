@@ -1,0 +1,2 @@
+package javas.java.util;
+class C extends javas.java.util.B { }

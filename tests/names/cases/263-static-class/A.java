@@ -1,0 +1,1 @@
+static class A { }

@@ -1,0 +1,3 @@
+class A {
+    transient static class B { }
+}

@@ -1,0 +1,2 @@
+class B { }
+abstract final class A { }

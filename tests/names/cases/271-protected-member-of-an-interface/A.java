@@ -1,0 +1,4 @@
+interface I {
+    class A { }
+    protected interface J { }
+}

@@ -1,0 +1,3 @@
+class A {
+    private protected static class B { }
+}

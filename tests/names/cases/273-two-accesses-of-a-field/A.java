@@ -1,0 +1,3 @@
+class A {
+    public private int number;
+}

@@ -1,0 +1,3 @@
+class A {
+    protected public void method() { }
+}

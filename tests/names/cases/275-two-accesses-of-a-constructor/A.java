@@ -1,0 +1,3 @@
+class A {
+    public protected A() { }
+}

@@ -1,0 +1,4 @@
+class A {
+    volatile int first;
+    final volatile int number = 1;
+}

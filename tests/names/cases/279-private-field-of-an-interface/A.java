@@ -1,0 +1,3 @@
+interface I {
+    private int NUMBER = 1;
+}

@@ -1,0 +1,4 @@
+interface I {
+    int FIRST = 1;
+    volatile int NUMBER = 1;
+}

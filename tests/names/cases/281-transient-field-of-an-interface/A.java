@@ -1,0 +1,3 @@
+interface I {
+    transient int NUMBER = 1;
+}

@@ -1,0 +1,3 @@
+interface I {
+    protected static int NUMBER = 1;
+}

@@ -1,0 +1,2 @@
+class B { }
+final final class A { }

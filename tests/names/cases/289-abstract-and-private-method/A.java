@@ -1,0 +1,3 @@
+abstract class A {
+    private abstract void method();
+}

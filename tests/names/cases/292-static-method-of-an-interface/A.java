@@ -1,0 +1,3 @@
+interface I {
+    static void method();
+}

@@ -1,0 +1,4 @@
+interface I {
+    void first();
+    private void method();
+}

@@ -1,0 +1,3 @@
+interface I {
+    protected abstract void method();
+}

@@ -1,0 +1,4 @@
+class A {
+    A(int number) { }
+    final A() { }
+}

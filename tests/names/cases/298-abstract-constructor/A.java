@@ -1,0 +1,3 @@
+abstract class A {
+    protected abstract A() { }
+}

@@ -1,0 +1,5 @@
+class A {
+    void method() {
+        static int number = 1;
+    }
+}

@@ -1,0 +1,5 @@
+class A {
+    void method() {
+        private final int number = 1;
+    }
+}

@@ -1,0 +1,5 @@
+class A {
+    void method() {
+        final final int number = 1;
+    }
+}

@@ -1,0 +1,3 @@
+class A {
+    void method(int first, static int second) { }
+}

@@ -1,0 +1,3 @@
+class A {
+    A(public int first) { }
+}

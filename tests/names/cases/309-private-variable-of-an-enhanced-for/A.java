@@ -1,0 +1,5 @@
+class A {
+    void method(int[] all) {
+        for (private int one : all) { }
+    }
+}

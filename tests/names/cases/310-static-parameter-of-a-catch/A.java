@@ -1,0 +1,6 @@
+class A {
+    void method() {
+        try {
+        } catch (static RuntimeException caught) { }
+    }
+}

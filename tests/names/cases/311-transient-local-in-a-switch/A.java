@@ -1,0 +1,7 @@
+class A {
+    void method(int number) {
+        switch (number) {
+            default: transient int other = 1;
+        }
+    }
+}

@@ -1,0 +1,1 @@
+@Deprecated @Deprecated class A { }

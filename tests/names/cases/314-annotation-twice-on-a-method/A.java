@@ -1,0 +1,3 @@
+class A {
+    @Deprecated public @SuppressWarnings("all") @Deprecated void method() { }
+}

@@ -1,0 +1,3 @@
+class A {
+    @SuppressWarnings("one") @SuppressWarnings("two") int number;
+}

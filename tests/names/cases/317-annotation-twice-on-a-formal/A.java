@@ -1,0 +1,3 @@
+class A {
+    void method(int first, @Deprecated @Deprecated int number) { }
+}

@@ -1,0 +1,1 @@
+@Override class A { }

@@ -1,0 +1,5 @@
+class A {
+    void method() {
+        @Override int number;
+    }
+}

@@ -1,0 +1,1 @@
+@SafeVarargs class A { }

@@ -1,0 +1,3 @@
+class A {
+    @SafeVarargs static final int NUMBER = 1;
+}

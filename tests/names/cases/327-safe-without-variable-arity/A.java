@@ -1,0 +1,3 @@
+class A {
+    @SafeVarargs static <T> void method(T[] all) { }
+}

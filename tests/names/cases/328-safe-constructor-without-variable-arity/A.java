@@ -1,0 +1,3 @@
+class A {
+    @SafeVarargs A(int number) { }
+}

@@ -1,0 +1,3 @@
+class A<T> {
+    @SafeVarargs void method(T... all) { }
+}

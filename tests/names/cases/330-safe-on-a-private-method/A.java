@@ -1,0 +1,3 @@
+class A<T> {
+    @SafeVarargs private void method(T... all) { }
+}

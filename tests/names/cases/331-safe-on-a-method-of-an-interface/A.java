@@ -1,0 +1,3 @@
+interface A<T> {
+    @SafeVarargs void method(T... all);
+}

@@ -1,0 +1,4 @@
+@SuppressWarnings
+class A {
+    @Deprecated(since = 1) int number;
+}

@@ -1,0 +1,7 @@
+class A {
+    void first() { }
+
+    @Deprecated
+    volatile
+    void method() { }
+}

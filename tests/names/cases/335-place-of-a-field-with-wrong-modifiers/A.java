@@ -1,0 +1,5 @@
+abstract class A {
+    abstract
+        int
+        number;
+}

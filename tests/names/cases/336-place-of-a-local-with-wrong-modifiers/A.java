@@ -1,0 +1,7 @@
+class A {
+    void method() {
+        private
+            int
+            number;
+    }
+}

@@ -1,0 +1,3 @@
+class A {
+    volatile Nope method() { return null; }
+}

@@ -1,0 +1,4 @@
+class A {
+    Nope field;
+    volatile void method() { }
+}

@@ -1,0 +1,2 @@
+class A { }
+abstract final class A { }

@@ -1,0 +1,6 @@
+class B {
+    private static class M { }
+}
+class A {
+    B.M field;
+}

@@ -1,0 +1,6 @@
+class B {
+    private static class M {
+        static class N { }
+    }
+}
+class A extends B.M.N { }

@@ -1,0 +1,4 @@
+class A extends B.M { }
+class B {
+    private static class M { }
+}

@@ -1,0 +1,6 @@
+class A {
+    Object field = (B.M) null;
+}
+class B {
+    private static class M { }
+}

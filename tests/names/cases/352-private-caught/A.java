@@ -1,0 +1,9 @@
+class A {
+    void method() {
+        try {
+        } catch (B.M caught) { }
+    }
+}
+class B {
+    private static class M extends RuntimeException { }
+}

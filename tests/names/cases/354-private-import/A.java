@@ -1,0 +1,7 @@
+package p;
+
+import p.A.M;
+
+class A {
+    private static class M { }
+}

@@ -1,0 +1,9 @@
+package p;
+
+import p.A.M.*;
+
+class A {
+    private static class M {
+        static class N { }
+    }
+}

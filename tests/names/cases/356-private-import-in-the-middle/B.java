@@ -1,0 +1,7 @@
+package p;
+
+class B {
+    private static class M {
+        static class N { }
+    }
+}

@@ -1,0 +1,10 @@
+package p;
+
+import p.B.*;
+
+class A {
+    M field;
+}
+class B {
+    private static class M { }
+}

@@ -1,0 +1,3 @@
+class A {
+    java.util.ArrayList.Node<String> field;
+}

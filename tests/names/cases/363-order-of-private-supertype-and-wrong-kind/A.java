@@ -1,0 +1,4 @@
+class B {
+    private interface I { }
+}
+class A extends B.I { }

@@ -1,0 +1,3 @@
+class A<T> {
+    static void method(T it) { }
+}

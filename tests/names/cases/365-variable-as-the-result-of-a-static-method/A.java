@@ -1,0 +1,4 @@
+class A<T> {
+    T known;
+    static T method() { return null; }
+}

@@ -1,0 +1,5 @@
+class A<T> {
+    static void method() {
+        T local;
+    }
+}

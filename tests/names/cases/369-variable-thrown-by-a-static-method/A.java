@@ -1,0 +1,3 @@
+class A<T extends Exception> {
+    static void method() throws T { }
+}

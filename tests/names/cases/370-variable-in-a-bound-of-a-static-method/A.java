@@ -1,0 +1,3 @@
+class A<T> {
+    static <U extends Comparable<T>> void method(U it) { }
+}

@@ -1,0 +1,6 @@
+class A<T> {
+    { T first; }
+    static {
+        T second;
+    }
+}

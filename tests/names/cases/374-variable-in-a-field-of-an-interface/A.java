@@ -1,0 +1,3 @@
+interface A<T> {
+    T FIELD = null;
+}

@@ -1,0 +1,3 @@
+interface A<T> {
+    Object FIELD = (T) null;
+}

@@ -1,0 +1,5 @@
+class A<T> {
+    static class B {
+        T field;
+    }
+}

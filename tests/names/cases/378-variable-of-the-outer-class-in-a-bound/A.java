@@ -1,0 +1,3 @@
+class A<T> {
+    static class B<U extends T> { }
+}

@@ -1,0 +1,5 @@
+class A<T> {
+    interface I {
+        void method(T it);
+    }
+}

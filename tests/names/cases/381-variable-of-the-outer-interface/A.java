@@ -1,0 +1,6 @@
+interface A<T> {
+    class B {
+        T method() { return null; }
+    }
+    T method();
+}

@@ -1,0 +1,5 @@
+class T { }
+class A<T> {
+    T first;
+    static T second;
+}

@@ -1,0 +1,4 @@
+class A<T> {
+    <T> void first(T it) { }
+    static <U> void second(T it) { }
+}

@@ -1,0 +1,3 @@
+class A<T> {
+    static java.util.Map<T, Nope> field;
+}

@@ -1,0 +1,3 @@
+class A<T> {
+    static volatile T method() { return null; }
+}

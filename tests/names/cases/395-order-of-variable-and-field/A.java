@@ -1,0 +1,4 @@
+class A<T> {
+    int field;
+    static T field;
+}

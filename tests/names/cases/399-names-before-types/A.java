@@ -1,0 +1,3 @@
+class A<T extends Comparable<T>> {
+    B known;
+}

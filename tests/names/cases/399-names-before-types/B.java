@@ -1,0 +1,4 @@
+class B {
+    Nope field;
+}
+class C { C() { } }

@@ -1,0 +1,2 @@
+import java.util.Nope;
+class B extends B { }
