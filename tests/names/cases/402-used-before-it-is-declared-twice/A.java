@@ -1,0 +1,3 @@
+class B { A field; }
+class A { }
+class A { }

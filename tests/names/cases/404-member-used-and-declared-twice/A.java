@@ -1,0 +1,5 @@
+class A {
+    M field;
+    interface M { }
+    interface M { }
+}

@@ -1,0 +1,3 @@
+import java.util.List;
+class A { List field; }
+class List { }

@@ -1,0 +1,5 @@
+class A {
+    <U extends T,
+        T,
+        T> void method() { }
+}

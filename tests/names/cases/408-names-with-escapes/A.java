@@ -1,0 +1,2 @@
+class \u0041b { }
+class A\u0062 { \u0041b same; }

@@ -1,0 +1,7 @@
+class Größe {
+    Größe größe;
+    π<Größe> other;
+}
+class π<τ> {
+    τ field;
+}

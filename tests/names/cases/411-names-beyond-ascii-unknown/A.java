@@ -1,0 +1,4 @@
+class Größe {
+    Größe known;
+    Grösse unknown;
+}

@@ -1,0 +1,3 @@
+class A<T> {
+    T<String> field;
+}

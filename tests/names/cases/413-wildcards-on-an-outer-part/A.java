@@ -1,0 +1,4 @@
+class A<T> {
+    static class M { }
+    A<?>.M field;
+}

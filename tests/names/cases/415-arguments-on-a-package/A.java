@@ -1,0 +1,3 @@
+class A {
+    java<String>.util.List field;
+}

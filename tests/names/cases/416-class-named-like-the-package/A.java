@@ -1,0 +1,6 @@
+package p;
+
+class p { }
+class A {
+    p.A field;
+}

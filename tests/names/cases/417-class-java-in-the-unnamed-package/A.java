@@ -1,0 +1,6 @@
+class java { }
+class A {
+    List first;
+    java.util.List<String> second;
+}
+class List { }

@@ -1,0 +1,6 @@
+import java.util.List;
+
+class A<List> {
+    List known;
+    List.Nope unknown;
+}

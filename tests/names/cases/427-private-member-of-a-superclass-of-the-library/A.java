@@ -1,0 +1,5 @@
+import java.util.ArrayList;
+
+class A<E> extends ArrayList<E> {
+    Node<E> field;
+}

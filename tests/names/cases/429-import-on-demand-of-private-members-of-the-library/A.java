@@ -1,0 +1,5 @@
+import java.util.ArrayList.*;
+
+class A {
+    Node<String> field;
+}

@@ -1,0 +1,9 @@
+package some.where;
+
+import java.*;
+import some.*;
+import some.where.*;
+
+class A {
+    A field;
+}

@@ -1,0 +1,6 @@
+package some.where;
+
+import some.where.*;
+import some.where.there.*;
+
+class A { }

@@ -1,0 +1,6 @@
+package p;
+
+import B;
+
+class A { }
+class B { }

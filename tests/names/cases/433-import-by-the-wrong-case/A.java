@@ -1,0 +1,5 @@
+package p;
+
+import P.A;
+
+class A { }

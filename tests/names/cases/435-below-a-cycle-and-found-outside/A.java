@@ -1,0 +1,4 @@
+class A extends B {
+    M field;
+}
+class M { }

@@ -1,0 +1,5 @@
+class B extends C implements
+    Nope { }
+class C {
+    static class M { }
+}

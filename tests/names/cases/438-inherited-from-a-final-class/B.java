@@ -1,0 +1,5 @@
+class B
+    extends C { }
+final class C {
+    static class M { }
+}

@@ -1,0 +1,4 @@
+interface I
+    extends A { }
+class A
+    extends I { }

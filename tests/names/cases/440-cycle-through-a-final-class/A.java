@@ -1,0 +1,4 @@
+final class A
+    extends B { }
+class B
+    extends A { }

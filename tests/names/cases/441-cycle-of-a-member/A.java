@@ -1,0 +1,4 @@
+class A {
+    static class C { }
+    static class B extends B { }
+}

@@ -1,0 +1,7 @@
+package p;
+
+import p.A.*;
+
+class A extends M {
+    static class M { }
+}

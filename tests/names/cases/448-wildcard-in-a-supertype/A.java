@@ -1,0 +1,1 @@
+abstract class A implements Comparable<?> { }

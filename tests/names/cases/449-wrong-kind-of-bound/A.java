@@ -1,0 +1,2 @@
+interface I { }
+class A<T extends I & Object> { }

@@ -1,0 +1,3 @@
+class A {
+    A<A> field;
+}

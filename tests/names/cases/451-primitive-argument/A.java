@@ -1,0 +1,3 @@
+class A {
+    java.util.List<int> field;
+}

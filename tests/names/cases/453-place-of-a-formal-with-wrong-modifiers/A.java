@@ -1,0 +1,7 @@
+class A {
+    void method(
+        int first,
+        static
+        int
+        second) { }
+}

@@ -1,0 +1,8 @@
+class A {
+    void method(
+        int first,
+        final
+        static
+        int
+        second) { }
+}

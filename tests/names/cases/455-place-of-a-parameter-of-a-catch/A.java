@@ -1,0 +1,9 @@
+class A {
+    void method() {
+        try {
+        } catch (
+            static
+            RuntimeException
+            caught) { }
+    }
+}

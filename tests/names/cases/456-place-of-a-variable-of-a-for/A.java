@@ -1,0 +1,8 @@
+class A {
+    void method(int[] all) {
+        for (
+            private
+            int
+            one : all) { }
+    }
+}

@@ -1,0 +1,6 @@
+class Override { }
+class A {
+    @Override public String toString() {
+        return "A";
+    }
+}

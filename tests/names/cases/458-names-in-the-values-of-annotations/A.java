@@ -1,0 +1,2 @@
+@SuppressWarnings((Nope) "unchecked")
+class A { }

@@ -1,0 +1,4 @@
+abstract class A {
+    abstract int first,
+        first;
+}

@@ -1,0 +1,4 @@
+class A extends A {
+    interface M { }
+    interface M { }
+}

@@ -1,0 +1,5 @@
+class A {
+    interface M { }
+    interface M { }
+}
+class B extends B { }

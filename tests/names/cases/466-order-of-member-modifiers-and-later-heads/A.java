@@ -1,0 +1,4 @@
+class A {
+    private protected int number;
+}
+class B extends Nope { }
