@@ -1,0 +1,5 @@
+class B { }
+class A<T,
+    U extends A.P> {
+    private static class P { }
+}

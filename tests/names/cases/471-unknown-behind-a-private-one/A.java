@@ -1,0 +1,6 @@
+class B {
+    private static class P { }
+}
+class A {
+    B.P.Nope field;
+}

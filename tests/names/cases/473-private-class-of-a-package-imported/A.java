@@ -1,0 +1,5 @@
+package p;
+
+import p.B;
+
+class A { B field; }

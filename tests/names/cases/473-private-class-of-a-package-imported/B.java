@@ -1,0 +1,3 @@
+package p;
+
+private class B { }

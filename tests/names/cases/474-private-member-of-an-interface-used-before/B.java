@@ -1,0 +1,3 @@
+interface B {
+    private class M { }
+}

@@ -1,0 +1,4 @@
+class B {
+    private static class M { }
+    static class M { }
+}

@@ -1,0 +1,4 @@
+class B {
+    static class M { }
+    private static class M { }
+}

@@ -1,0 +1,1 @@
+class A { B<String, String> field; }

@@ -1,0 +1,1 @@
+class B<T, T> { T field; }

@@ -1,0 +1,3 @@
+class A {
+    volatile void method() { } Nope field;
+}

@@ -1,0 +1,3 @@
+class A<T> {
+    static T first; Nope second;
+}

@@ -1,0 +1,4 @@
+class B { private static class M { } }
+class A {
+    B.M first; Nope second;
+}

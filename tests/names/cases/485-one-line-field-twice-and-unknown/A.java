@@ -1,0 +1,3 @@
+class A {
+    int first, first; Nope second;
+}

@@ -1,0 +1,1 @@
+import java.util.Nope; class A { } class A { }

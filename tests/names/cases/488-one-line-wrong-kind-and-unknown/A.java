@@ -1,0 +1,2 @@
+interface I { }
+class A extends I { Nope field; }

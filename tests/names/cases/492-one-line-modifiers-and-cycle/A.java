@@ -1,0 +1,1 @@
+private class A { } class B extends B { }

@@ -1,0 +1,4 @@
+class A {
+    A known;
+    transient A() { } volatile void method() { } abstract int number;
+}
