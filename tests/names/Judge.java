@@ -3,6 +3,7 @@ import java.io.File;
 import java.io.IOException;
 import java.io.InputStreamReader;
 import java.io.PrintStream;
+import java.io.StringWriter;
 import java.nio.charset.StandardCharsets;
 import java.nio.file.Files;
 import java.nio.file.Path;
@@ -21,7 +22,7 @@ import javax.tools.ToolProvider;
  * Tells what javac says of many jobs, in one process: Judge ROOM OPTION ...
  *
  * <p>Each line of the input is a job: a folder and the files in it, with tabs between. For each job there is a line "job N", and below it a line for
- * each error: the file, the line and javac's own name of the error, with tabs between.
+ * each error: the file, the line, javac's own name of the error and its text, with tabs between. Where javac itself fails, the file is a dash.
  */
 public class Judge {
     public static void main(String[] args) throws IOException {
@@ -49,8 +50,12 @@ public class Judge {
 
     static void judge(JavaCompiler javac, List<String> options, List<File> files, PrintStream out) throws IOException {
         DiagnosticCollector<JavaFileObject> said = new DiagnosticCollector<>();
+        boolean taken;
         try (StandardJavaFileManager manager = javac.getStandardFileManager(said, Locale.ENGLISH, StandardCharsets.UTF_8)) {
-            javac.getTask(null, manager, said, options, null, manager.getJavaFileObjectsFromFiles(files)).call();
+            taken = javac.getTask(new StringWriter(), manager, said, options, null, manager.getJavaFileObjectsFromFiles(files)).call();
+        }
+        if (!taken && said.getDiagnostics().stream().noneMatch(one -> one.getKind() == Diagnostic.Kind.ERROR)) {
+            out.println("-\t0\tno.answer\tjavac itself failed");
         }
         for (Diagnostic<? extends JavaFileObject> one : said.getDiagnostics()) {
             if (one.getKind() == Diagnostic.Kind.ERROR) {
