@@ -1,5 +1,10 @@
+mod Calm
 mod Decoded
+mod Literals
 mod Numerals
+mod Quoted
+mod Slices
 mod Steps
 mod Tables
 mod Telling
+mod WholeNumbers

@@ -1,6 +1,6 @@
 -- What a text begins with: some symbols, spelled as they are.
 use Rattle.std.proofs.Common.{◌≡◌, ℕ, ◌+◌, ◌<◌, Bool, true, false, cond, List, [], ◌∷◌, map, take, drop, Option, Some, None, refl, sym, ap, ◌∙◌, add-one, arith}
-use Rattle.std.specs.Prelude.{◌==◌, ◌&&◌, ◌||◌, nat_lt}
+use Rattle.std.specs.Prelude.{◌==◌, ◌&&◌, ◌||◌, nat_le, nat_lt}
 use Rattle.std.proofs.lemmas.Bool.Decides.{nat_tests}
 use Rattle.std.specs.Str.{bytes_eq, encode_utf8_all}
 use Rattle.std.specs.List.{list_all}
@@ -20,14 +20,16 @@ use Rattle.jc_lexer.specs.declared.number.Numeral.TheVariants as numeral_of
 use Rattle.jc_lexer.specs.declared.signs.Spelling.{Spelling}
 use Rattle.jc_lexer.specs.declared.symbol.Class.TheVariants.{Space, Line}
 use Rattle.jc_lexer.specs.declared.symbol.Symbol.{Symbol}
+use Rattle.jc_lexer.specs.declared.symbol.TheConstants.{END}
 use Rattle.jc_lexer.specs.declared.token.Key.{Key}
 use Rattle.jc_lexer.specs.Lexemes.{first, lexeme, comment, comment_of, closing, word, part_length, numeric, flawed, character, character_of, string_step, string_of, sign, sign_of, torn}
 use Rattle.jc_lexer.specs.Literals.{char_body, string_body}
 use Rattle.jc_lexer.specs.Numbers.{HasSymbols, number}
 use Rattle.jc_lexer.specs.Signs.{begins, sign_in, sign_at}
-use Rattle.jc_lexer.specs.Symbols.{code_at, from_at, is_break, is_high, is_space, run_length}
+use Rattle.jc_lexer.specs.Symbols.{code_at, from_at, is_break, is_decimal, is_high, is_space, is_word_start, run_length}
 use Rattle.jc_lexer.specs.Words.{spelling, key_in, word_or_key, word_kind}
 use Rattle.jc_lexer_laws.specs.TokensAreTold.{letters, IsSpelled}
+use Rattle.jc_lexer_laws.proofs.Literals.{Begins, character_whole, number_whole, string_whole}
 use Rattle.jc_lexer_laws.proofs.Numerals.{number_has}
 use Rattle.jc_lexer_laws.proofs.Tables.{keys, signs}
 
@@ -85,24 +87,25 @@ longer : (b : Bool) (len : ℕ) → 0 < len → 0 < cond b (len + 1) len
 longer true len h = omega arith
 longer false len h = h
 
-numeric_is : (text : List Symbol) (n : Numeral) → HasSymbols n → Of text (numeric text n)
-numeric_is text (numeral_of.Whole value decimal len) h = record { is = (longer ((code_at text len == 76) || (code_at text len == 108)) len h, tt) }
-numeric_is text numeral_of.Malformed h = fault text _
-numeric_is text numeral_of.Real h = fault text _
-numeric_is text numeral_of.Cut h = fault text _
+numeric_is : (text : List Symbol) (n : Numeral) → HasSymbols n → Begins (code_at text 0) → is_decimal (code_at text 0) ≡ true → number text ≡ n → Of text (numeric text n)
+numeric_is text (numeral_of.Whole value decimal len) h b d e = record { is = (longer ((code_at text len == 76) || (code_at text len == 108)) len h, number_whole text value len decimal h b d e) }
+numeric_is text numeral_of.Malformed h b d e = fault text _
+numeric_is text numeral_of.Real h b d e = fault text _
+numeric_is text numeral_of.Cut h b d e = fault text _
 
 flawed_is : (text : List Symbol) (f : Flaw) → Of text (flawed f text)
 flawed_is text flaw_of.Wrong = fault text _
 flawed_is text flaw_of.Open = fault text _
 flawed_is text flaw_of.Torn = fault text _
 
-string_is : (text : List Symbol) (b : StringBody) → Of text (string_of text b)
-string_is text (Closed units len) = record { is = (omega arith, tt) }
-string_is text (Broken flaw) = flawed_is text flaw
+string_is : (s : Symbol) (text : List Symbol) (body : StringBody) → Begins s.code → is_decimal s.code ≡ false → (s.code == 34) ≡ true → string_body text ≡ body → Of (s ∷ text) (string_of (s ∷ text) body)
+string_is s text (Closed units len) b d q e = record { is = (omega arith, string_whole s text units len b d q e) }
+string_is s text (Broken flaw) b d q e = flawed_is (s ∷ text) flaw
 
-character_is : (text : List Symbol) (b : CharBody) → Of text (character_of text b)
-character_is text (Shut unit len) = record { is = (omega arith, tt) }
-character_is text (Amiss flaw) = flawed_is text flaw
+character_is : (s : Symbol) (text : List Symbol) (body : CharBody) → Begins s.code → is_decimal s.code ≡ false → (s.code == 34) ≡ false → (s.code == 39) ≡ true → char_body text ≡ body →
+    Of (s ∷ text) (character_of (s ∷ text) body)
+character_is s text (Shut unit len) b d q r e = record { is = (omega arith, character_whole s text unit len b d q r e) }
+character_is s text (Amiss flaw) b d q r e = flawed_is (s ∷ text) flaw
 
 abbrev HasLength : Option Spelling → Type 0
 HasLength None = Unit {0}
@@ -144,15 +147,30 @@ signs_are text = sign_is text (sign_in signs text) (sign_has signs text (lengths
 
 -- what a text begins with
 
-lexeme_is : (s : Symbol) (text : List Symbol) → Of (s ∷ text) (lexeme (s ∷ text))
-unfolding lexeme character string_step
-lexeme_is s text =
-    let whole = s ∷ text in
-    either whole _ _ _ (word_is s text)
-    (either whole _ _ _ (numeric_is whole (number whole) (number_has s text))
-    (either whole _ _ _ (string_is whole (string_body (drop 1 whole)))
-    (either whole _ _ _ (character_is whole (char_body (drop 1 whole)))
-    (either whole _ _ _ (fault whole _) (signs_are whole)))))
+-- a test with what it tells
+split : (text : List Symbol) (b : Bool) (x y : Step) → (b ≡ true → Of text x) → (b ≡ false → Of text y) → Of text (cond b x y)
+split text true x y p q = p refl
+split text false x y p q = q refl
+
+no_slash : (c d : ℕ) → (c == d) ≡ true → (d == 47) ≡ false → (c == 47) ≡ false
+no_slash c d e f = let same : c ≡ d = grind (arith, nat_tests) in ap (λ (k : ℕ). k == 47) same ∙ f
+
+digit_is_no_slash : (c : ℕ) → is_decimal c ≡ true → (c == 47) ≡ false
+digit_is_no_slash c e = let p = both (nat_le 48 c) (nat_le c 57) e in let l : nat_le 48 c ≡ true = p.0 in grind (arith, nat_tests)
+
+module _ (s : Symbol) (text : List Symbol) (end : (s.code == END) ≡ false) (whole : is_break s.code ≡ false) (black : is_space s.code ≡ false) where
+  begins_at : (s.code == 47) ≡ false → is_word_start s.code ≡ false → Begins s.code
+  begins_at slash word = record { no_end = end; no_break = whole; no_space = black; no_slash = slash; no_word = word }
+
+  lexeme_is : Of (s ∷ text) (lexeme (s ∷ text))
+  unfolding lexeme character string_step
+  lexeme_is =
+      let all = s ∷ text in
+      split all (is_word_start s.code) _ _ (λ w. word_is s text) (λ w.
+      split all (is_decimal s.code) _ _ (λ d. numeric_is all (number all) (number_has s text) (begins_at (digit_is_no_slash s.code d) w) d refl) (λ d.
+      split all (s.code == 34) _ _ (λ q. string_is s text (string_body text) (begins_at (no_slash s.code 34 q refl) w) d q refl) (λ q.
+      split all (s.code == 39) _ _ (λ r. character_is s text (char_body text) (begins_at (no_slash s.code 39 r refl) w) d q r refl) (λ r.
+      either all _ _ _ (fault all _) (signs_are all)))))
 
 comment_is : (whole text : List Symbol) (o : Option ℕ) → Of whole (comment_of text o)
 comment_is whole text (Some len) = gap whole _
@@ -161,8 +179,10 @@ comment_is whole text None = either whole _ _ _ (fault whole _) (fault whole _)
 pub first_is : (s : Symbol) (text : List Symbol) → Of (s ∷ text) (first (s ∷ text))
 unfolding first comment
 first_is s text =
-    let whole = s ∷ text in
-    let c = code_at whole 0 in
-    let d = code_at whole 1 in
-    either whole _ _ _ (ending whole) (either whole _ _ _ (fault whole _) (either whole (is_space c) _ _ (gap whole (run_length Space (drop 1 whole) + 1))
-    (either whole ((c == 47) && (d == 47)) _ _ (gap whole (run_length Line (drop 2 whole) + 2)) (either whole ((c == 47) && (d == 42)) _ _ (comment_is whole whole (closing 0 (drop 2 whole))) (lexeme_is s text)))))
+    let all = s ∷ text in
+    let c = code_at all 0 in
+    let d = code_at all 1 in
+    split all (c == END) _ _ (λ e. ending all) (λ end. split all (is_break c) _ _ (λ e. fault all _) (λ whole.
+    split all (is_space c) _ _ (λ e. gap all (run_length Space (drop 1 all) + 1)) (λ black.
+    either all ((c == 47) && (d == 47)) _ _ (gap all (run_length Line (drop 2 all) + 2))
+    (either all ((c == 47) && (d == 42)) _ _ (comment_is all all (closing 0 (drop 2 all))) (lexeme_is s text end whole black)))))

@@ -1,5 +1,5 @@
 -- What the tokens of a source say of it (JLS 3.2).
-use Rattle.std.specs.Prelude.{◌≡◌, ℕ, ◌<◌, ◌≤◌, List, [], ◌∷◌, map, take, drop, Ok}
+use Rattle.std.specs.Prelude.{◌≡◌, ℕ, ◌<◌, ◌≤◌, List, [], ◌∷◌, length, map, take, drop, Ok}
 use Rattle.std.specs.Str.{encode_utf8_all}
 use Rattle.jc_lexer.specs.declared.lexeme.Step.TheVariants.{Lexeme}
 use Rattle.jc_lexer.specs.declared.symbol.Symbol.{Symbol}
@@ -16,13 +16,17 @@ use Rattle.jc_lexer.specs.Words.{spelling}
 abbrev pub letters : List Symbol → List ℕ
 letters text = encode_utf8_all (map (λ (s : Symbol). s.code) text)
 
--- an identifier (JLS 3.8) and a keyword (JLS 3.9) are spelled as their symbols are
+-- JLS 3.10: read alone, the symbols are the literal, which ends with the last of them
+abbrev pub IsWhole : TokenKind → List Symbol → Type 0
+IsWhole kind symbols = first symbols ≡ Lexeme kind (length symbols)
+
+-- an identifier (JLS 3.8) and a keyword (JLS 3.9) are spelled as their symbols are, and a literal is what its symbols alone are
 abbrev pub IsSpelled : TokenKind → List Symbol → Type 0
 IsSpelled (kind_of.Word text) symbols = text ≡ letters symbols
 IsSpelled (kind_of.Key key) symbols = spelling key ≡ letters symbols
-IsSpelled (kind_of.Number value long decimal) symbols = Unit {0}
-IsSpelled (kind_of.CharLit unit) symbols = Unit {0}
-IsSpelled (kind_of.StringLit units) symbols = Unit {0}
+IsSpelled (kind_of.Number value long decimal) symbols = IsWhole (kind_of.Number value long decimal) symbols
+IsSpelled (kind_of.CharLit unit) symbols = IsWhole (kind_of.CharLit unit) symbols
+IsSpelled (kind_of.StringLit units) symbols = IsWhole (kind_of.StringLit units) symbols
 IsSpelled (kind_of.Sign sign) symbols = Unit {0}
 
 -- a text begins with the token, which is so many of its symbols

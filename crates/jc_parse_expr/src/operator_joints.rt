@@ -1,6 +1,6 @@
 //! What is built of a first value that was read and of what was read behind it.
 ghost use Rattle.jc_parse_expr.specs.Nodes.{binary_node, cast_node, chain_node, prefix_node};
-ghost use Rattle.jc_parse_expr.specs.After.{After, Alone, Both, Chosen, Joined, LeftAlone, assign_right, pair_of};
+ghost use Rattle.jc_parse_expr.specs.After.{After, AllThree, Alone, Both, Built, Chosen, Joined, LeftAlone, assign_right, pair_of};
 ghost use Rattle.std.specs.Prelude.{◌≡◌, Ok, IfOk};
 
 use crate::measured::Measured;
@@ -32,17 +32,26 @@ pub fn with_value<'a>(
     ensures { After assign_right target.entry more.entry result }
 {
     match more {
-        Ok(more) => {
-            let (op, value) = more.value;
-            let left = target.left.min(more.left);
-            Ok(Found {
-                value: assign_node(alloc, target.value, op, value)?,
-                rest: more.rest,
-                left,
-            })
-        }
+        Ok(more) => assigning(alloc, target, more),
         Err(Halt::Stopped(left)) => Ok(alone(target, left)),
         Err(Halt::WantOfMemory) => Err(Halt::WantOfMemory),
+    }
+}
+
+/// An assignment.
+fn assigning<'a>(
+    alloc: Global,
+    target: Found<'a, Measured<Expr>>,
+    more: Found<'a, (AssignOp, Measured<Expr>)>,
+) -> Result<Found<'a, Measured<Expr>>, Halt>
+    ensures { Built assign_right target.entry more.entry result }
+{
+    let left = target.left.min(more.left);
+    let rest = more.rest;
+    let (op, value) = more.value;
+    match assign_node(alloc, target.value, op, value) {
+        Ok(value) => Ok(Found { value, rest, left }),
+        Err(WantOfMemory) => Err(Halt::WantOfMemory),
     }
 }
 
@@ -74,15 +83,25 @@ pub fn with_branches<'a>(
     ensures { Chosen test.entry then.entry otherwise.entry result }
 {
     match otherwise {
-        Ok(otherwise) => {
-            let left = test.left.min(then.left.min(otherwise.left));
-            Ok(Found {
-                value: conditional_node(alloc, test.value, then.value, otherwise.value)?,
-                rest: otherwise.rest,
-                left,
-            })
-        }
+        Ok(otherwise) => choosing(alloc, test, then, otherwise),
         Err(halt) => left_alone(test, reach_of(then), halt),
+    }
+}
+
+/// A conditional.
+fn choosing<'a>(
+    alloc: Global,
+    test: Found<'a, Measured<Expr>>,
+    then: Found<'a, Measured<Expr>>,
+    otherwise: Found<'a, Measured<Expr>>,
+) -> Result<Found<'a, Measured<Expr>>, Halt>
+    ensures { AllThree test.entry then.entry otherwise.entry result }
+{
+    let left = test.left.min(then.left.min(otherwise.left));
+    let rest = otherwise.rest;
+    match conditional_node(alloc, test.value, then.value, otherwise.value) {
+        Ok(value) => Ok(Found { value, rest, left }),
+        Err(WantOfMemory) => Err(Halt::WantOfMemory),
     }
 }
 
@@ -116,11 +135,11 @@ pub fn with_operands<'a>(
     ensures { IfOk result (λ r. Both chain_node first.entry more.entry r) }
 {
     let left = first.left.min(more.left);
-    Ok(Found {
-        value: chain_node(alloc, first.value, more.value)?,
-        rest: more.rest,
-        left,
-    })
+    let rest = more.rest;
+    match chain_node(alloc, first.value, more.value) {
+        Ok(value) => Ok(Found { value, rest, left }),
+        Err(fault) => Err(fault),
+    }
 }
 
 /// An operator with its operand.
@@ -151,16 +170,26 @@ pub fn with_prefixes<'a>(
     ensures { Joined (prefix_node first) ops.entry more.entry result }
 {
     match more {
-        Ok(more) => {
-            let left = ops.left.min(more.left);
-            Ok(Found {
-                value: prefix_node(alloc, first, ops.value, more.value)?,
-                rest: more.rest,
-                left,
-            })
-        }
+        Ok(more) => prefixing(alloc, first, ops, more),
         Err(Halt::Stopped(left)) => Err(Halt::Stopped(ops.left.min(left))),
         Err(Halt::WantOfMemory) => Err(Halt::WantOfMemory),
+    }
+}
+
+/// An operand behind prefix operators.
+fn prefixing<'a>(
+    alloc: Global,
+    first: PrefixOp,
+    ops: Found<'a, Items<PrefixOp>>,
+    more: Found<'a, Measured<Expr>>,
+) -> Result<Found<'a, Measured<Expr>>, Halt>
+    ensures { Built (prefix_node first) ops.entry more.entry result }
+{
+    let left = ops.left.min(more.left);
+    let rest = more.rest;
+    match prefix_node(alloc, first, ops.value, more.value) {
+        Ok(value) => Ok(Found { value, rest, left }),
+        Err(WantOfMemory) => Err(Halt::WantOfMemory),
     }
 }
 
@@ -174,15 +203,25 @@ pub fn with_type<'a>(
     ensures { Joined (cast_node at) ty.entry more.entry result }
 {
     match more {
-        Ok(more) => {
-            let left = ty.left.min(more.left);
-            Ok(Found {
-                value: cast_node(alloc, at, ty.value, more.value)?,
-                rest: more.rest,
-                left,
-            })
-        }
+        Ok(more) => casting(alloc, at, ty, more),
         Err(Halt::Stopped(left)) => Err(Halt::Stopped(ty.left.min(left))),
         Err(Halt::WantOfMemory) => Err(Halt::WantOfMemory),
+    }
+}
+
+/// An operand behind the type that it is cast to.
+fn casting<'a>(
+    alloc: Global,
+    at: u32,
+    ty: Found<'a, TypeTree>,
+    more: Found<'a, Measured<Expr>>,
+) -> Result<Found<'a, Measured<Expr>>, Halt>
+    ensures { Built (cast_node at) ty.entry more.entry result }
+{
+    let left = ty.left.min(more.left);
+    let rest = more.rest;
+    match cast_node(alloc, at, ty.value, more.value) {
+        Ok(value) => Ok(Found { value, rest, left }),
+        Err(WantOfMemory) => Err(Halt::WantOfMemory),
     }
 }

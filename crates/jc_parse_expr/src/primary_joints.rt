@@ -70,7 +70,6 @@ pub fn noting_start(left: usize, start: Found<'_, Measured<Expr>>) -> Found<'_, 
 }
 
 /// An array with its lengths.
-#[tactic(auto, using(crate::proofs::JointCode::sized_reads))]
 pub fn sized_with<'a>(
     alloc: Global,
     element: BaseTree,
@@ -80,19 +79,36 @@ pub fn sized_with<'a>(
     requires { IfOk more (λ m. length m.rest.now < 2 ^ 32) }
     ensures { (h : ℕ) (ts : List Token) → Reads expr_height first.entry (as_new before_it (in_turn (expr_in h) (of_kind (sign_code sign_of.RightBracket))) ts) → IfOk more.entry (λ m. Reads exprs_height m (any_number (length_run (expr_in h)) first.entry.rest.now)) → Measures creation_height result (as_new (sized_made element) (sized_run (expr_in h)) ts) }
 {
-    let more = more?;
+    match more {
+        Ok(more) => sized_of(alloc, element, first, more),
+        Err(WantOfMemory) => Err(Halt::WantOfMemory),
+    }
+}
+
+/// An array of all its parts.
+#[tactic(auto, using(crate::proofs::JointCode::sized_reads))]
+fn sized_of<'a>(
+    alloc: Global,
+    element: BaseTree,
+    first: Found<'_, Measured<Expr>>,
+    more: Found<'a, Measured<Items<Expr>>>,
+) -> Result<Found<'a, Measured<Creation>>, Halt>
+    requires { length more.rest.now < 2 ^ 32 }
+    ensures { (h : ℕ) (ts : List Token) → Reads expr_height first.entry (as_new before_it (in_turn (expr_in h) (of_kind (sign_code sign_of.RightBracket))) ts) → Reads exprs_height more.entry (any_number (length_run (expr_in h)) first.entry.rest.now) → Measures creation_height result (as_new (sized_made element) (sized_run (expr_in h)) ts) }
+{
     let dims = dims(more.rest);
     let left = first.left.min(more.left.min(dims.left));
-    let value = sized_node(alloc, element, first.value, more.value, dims.value)?;
-    Ok(Found {
-        value,
-        rest: dims.rest,
-        left,
-    })
+    match sized_node(alloc, element, first.value, more.value, dims.value) {
+        Ok(value) => Ok(Found {
+            value,
+            rest: dims.rest,
+            left,
+        }),
+        Err(WantOfMemory) => Err(Halt::WantOfMemory),
+    }
 }
 
 /// An object with its actual arguments and its body.
-#[tactic(auto, using(crate::proofs::JointCode::object_reads))]
 pub fn object_with<'a>(
     class: ClassTree,
     diamond: bool,
@@ -101,14 +117,29 @@ pub fn object_with<'a>(
 ) -> Result<Found<'a, Measured<Creation>>, Halt>
     ensures { (h : ℕ) (ts : List Token) → Reads exprs_height actuals.entry (actuals_run (expr_in h) ts) → IfOk body.entry (λ b. Reads skips_height b (body_run h actuals.entry.rest.now)) → Measures creation_height result (as_new (object_made class diamond) (object_run h (expr_in h)) ts) }
 {
-    let body = body?;
+    match body {
+        Ok(body) => Ok(object_of(class, diamond, actuals, body)),
+        Err(WantOfMemory) => Err(Halt::WantOfMemory),
+    }
+}
+
+/// An object of all its parts.
+#[tactic(auto, using(crate::proofs::JointCode::object_reads))]
+fn object_of<'a>(
+    class: ClassTree,
+    diamond: bool,
+    actuals: Found<'_, Measured<Items<Expr>>>,
+    body: Found<'a, Measured<Items<Skip>>>,
+) -> Found<'a, Measured<Creation>>
+    ensures { (h : ℕ) (ts : List Token) → Reads exprs_height actuals.entry (actuals_run (expr_in h) ts) → Reads skips_height body.entry (body_run h actuals.entry.rest.now) → Reads creation_height result (as_new (object_made class diamond) (object_run h (expr_in h)) ts) }
+{
     let left = actuals.left.min(body.left);
     let rest = body.rest;
-    Ok(Found {
+    Found {
         value: object_node(class, diamond, actuals.value, body.value),
         rest,
         left,
-    })
+    }
 }
 
 /// A call with type arguments.
@@ -205,9 +236,8 @@ pub fn selected_with<'a>(
 {
     let left = value.left.min(part.left);
     let rest = part.rest;
-    Ok(Found {
-        value: selected_node(alloc, value.value, part.value)?,
-        rest,
-        left,
-    })
+    match selected_node(alloc, value.value, part.value) {
+        Ok(value) => Ok(Found { value, rest, left }),
+        Err(fault) => Err(fault),
+    }
 }

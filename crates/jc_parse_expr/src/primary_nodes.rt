@@ -246,15 +246,18 @@ pub fn sized_node(
     ensures height { IsMeasured expr_height first → IsMeasured exprs_height more → IfOk result (λ r. IsMeasured creation_height r) }
 {
     let height = base_height(&element).max(first.height).max(more.height);
-    Ok(Measured {
-        tree: Creation::Sized {
-            element,
-            first: Boxed::new(alloc, first.tree)?,
-            more: more.tree,
-            dims,
-        },
-        height,
-    })
+    match Boxed::new(alloc, first.tree) {
+        Ok(first) => Ok(Measured {
+            tree: Creation::Sized {
+                element,
+                first,
+                more: more.tree,
+                dims,
+            },
+            height,
+        }),
+        Err(fault) => Err(fault),
+    }
 }
 
 /// An object of a class.
@@ -344,31 +347,42 @@ pub fn member_part(member: Measured<MemberTree>) -> Measured<SelectorTree>
 }
 
 /// An element of a value.
-fn index_tree(alloc: Global, value: Expr, index: Expr) -> Result<Expr, WantOfMemory>
-    ensures { IfOk result (λ r. r ≡ expr_of.Index value index) }
+fn index_tree(alloc: Global, of: Boxed<Expr>, index: Expr) -> Result<Expr, WantOfMemory>
+    ensures { IfOk result (λ r. r ≡ expr_of.Index of index) }
 {
-    let of = Boxed::new(alloc, value)?;
-    let index = Boxed::new(alloc, index)?;
-    Ok(Expr::Index { of, index })
+    match Boxed::new(alloc, index) {
+        Ok(index) => Ok(Expr::Index { of, index }),
+        Err(fault) => Err(fault),
+    }
 }
 
 /// A member of a value.
-fn member_tree(alloc: Global, value: Expr, member: MemberTree) -> Result<Expr, WantOfMemory>
-    ensures { IfOk result (λ r. r ≡ of_member value member) }
+fn member_tree(of: Boxed<Expr>, member: MemberTree) -> Expr
+    ensures { result ≡ of_member of member }
 {
-    let of = Boxed::new(alloc, value)?;
     match member {
-        MemberTree::Field(name) => Ok(Expr::Field { of, name }),
+        MemberTree::Field(name) => Expr::Field { of, name },
         MemberTree::Call {
             type_args,
             name,
             actuals,
-        } => Ok(Expr::Call {
+        } => Expr::Call {
             of,
             type_args,
             name,
             actuals,
-        }),
+        },
+    }
+}
+
+/// What a selector selects of a value in its box.
+fn selected_of(alloc: Global, of: Boxed<Expr>, selector: SelectorTree) -> Result<Expr, WantOfMemory>
+    ensures { IfOk result (λ r. r ≡ of_selector of selector) }
+{
+    match selector {
+        SelectorTree::Index(index) => index_tree(alloc, of, index),
+        SelectorTree::New(creation) => Ok(Expr::InnerNew { of, creation }),
+        SelectorTree::Member(member) => Ok(member_tree(of, member)),
     }
 }
 
@@ -376,13 +390,9 @@ fn member_tree(alloc: Global, value: Expr, member: MemberTree) -> Result<Expr, W
 fn selected_tree(alloc: Global, value: Expr, selector: SelectorTree) -> Result<Expr, WantOfMemory>
     ensures { IfOk result (λ r. r ≡ of_selector value selector) }
 {
-    match selector {
-        SelectorTree::Index(index) => index_tree(alloc, value, index),
-        SelectorTree::New(creation) => Ok(Expr::InnerNew {
-            of: Boxed::new(alloc, value)?,
-            creation,
-        }),
-        SelectorTree::Member(member) => member_tree(alloc, value, member),
+    match Boxed::new(alloc, value) {
+        Ok(of) => selected_of(alloc, of, selector),
+        Err(fault) => Err(fault),
     }
 }
 
@@ -397,8 +407,8 @@ pub fn selected_node(
     ensures { IfOk result (λ r. (r.tree ≡ of_selector value.tree selector.tree) × IsMeasured expr_height r) }
 {
     let height = value.height.max(selector.height).saturating_add(1);
-    Ok(Measured {
-        tree: selected_tree(alloc, value.tree, selector.tree)?,
-        height,
-    })
+    match selected_tree(alloc, value.tree, selector.tree) {
+        Ok(tree) => Ok(Measured { tree, height }),
+        Err(fault) => Err(fault),
+    }
 }
