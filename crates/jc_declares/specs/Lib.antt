@@ -1,0 +1,11 @@
+pub mod Words
+pub mod Sites
+pub mod Heads
+pub mod Modifiers
+pub mod Looking
+pub mod Knowing
+pub mod Writing
+pub mod Readings
+pub mod Breaks
+pub mod Constants
+pub mod Making

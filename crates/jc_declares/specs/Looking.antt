@@ -1,0 +1,199 @@
+-- What a name of a type means where it stands (JLS 6.3, 6.4.1, 6.5.5): the candidates, layer by layer. The first layer with a candidate
+-- decides. None is the answer where a class is asked of which it isn't known yet what it inherits.
+use Rattle.std.specs.Prelude.{ℕ, ◌==◌, Bool, true, false, cond, not, ◌&&◌, ◌||◌, List, [], ◌∷◌, ◌++◌, map, codes, length, take, Option, Some, None, slice_get, if◌then◌else◌}
+use Rattle.std.specs.Str.{bytes_eq}
+use Rattle.jc_tree.specs.declared.name.Ident.{Ident}
+use Rattle.jc_tree.specs.declared.statement.Import.{Import}
+use Rattle.jc_types.specs.declared.declarations.Access.{Access}
+use Rattle.jc_types.specs.declared.declarations.Access.TheVariants as access
+use Rattle.jc_types.specs.Names.{named}
+use Rattle.jc_declares.specs.Sites.{Sites, UnitSite, ClassSite}
+use Rattle.jc_declares.specs.Heads.{Named, text_of, with_points, unit_package, imports_of, unit_of, package_of, round_of, top_of_class, declared_of, types_of_unit, types_of_package, class_variables}
+use Rattle.jc_declares.specs.Modifiers.{access_of_class}
+
+pub data Meaning : Type 0 where
+  AClass : ℕ → Meaning
+  AVariable : ℕ → Meaning
+
+abbrev pub Look : Type 0
+Look = Option (List Meaning)
+
+-- of each class the member types that it inherits, by their names, or nothing where that isn't known
+abbrev pub Knowledge : Type 0
+Knowledge = ℕ → Option Named
+
+-- ---- access (JLS 6.6)
+
+abbrev pub is_open : Access → Bool → Bool → Bool
+is_open access.Public same_package same_top = true
+is_open access.Protected same_package same_top = same_package
+is_open access.Package same_package same_top = same_package
+is_open access.Private same_package same_top = same_top
+
+-- who asks: the package, and the type of the unit inside of which the name stands, if it stands inside of one
+pub record Asker : Type 0 where
+  pub «package» : List ℕ
+  pub top : Option ℕ
+
+abbrev pub is_number : Option ℕ → ℕ → Bool
+is_number None n = false
+is_number (Some m) n = m == n
+
+-- a class may be named there: private ones inside of the same type of a unit alone, others that aren't public in the same package
+abbrev pub is_accessible : Sites → Asker → ℕ → Bool
+is_accessible S a c = is_open (access_of_class S c) (bytes_eq (package_of S c) a.«package») (is_number a.top (top_of_class S c))
+
+-- ---- canonical names (JLS 6.7)
+
+pub data Found : Type 0 where
+  InPackage : List ℕ → Found
+  AtClass : ℕ → Found
+  Nowhere : Found
+
+abbrev pub type_or_package : Option ℕ → List ℕ → List ℕ → Found
+type_or_package (Some c) p n = AtClass c
+type_or_package None p n = InPackage (p ++ codes "." ++ n)
+
+abbrev pub class_or_nowhere : Option ℕ → Found
+class_or_nowhere (Some c) = AtClass c
+class_or_nowhere None = Nowhere
+
+-- a further part of a canonical name: a type of the package or else a longer package, or a member type that the class declares
+abbrev pub next_part : Sites → Found → List ℕ → Found
+next_part S (InPackage p) n = type_or_package (named n (types_of_package S p)) p n
+next_part S (AtClass c) n = class_or_nowhere (named n (declared_of S c))
+next_part S Nowhere n = Nowhere
+
+abbrev pub next_parts : Sites → Found → List (List ℕ) → Found
+next_parts S f [] = f
+next_parts S f (n ∷ ns) = next_parts S (next_part S f n) ns
+
+-- what an import names: its first part is a package, since no type of the unnamed one can be imported (JLS 7.5)
+abbrev pub imported : Sites → Import → Found
+imported S i = next_parts S (InPackage i.first.text) (map text_of i.more)
+
+-- ---- units
+
+abbrev pub last_name : List ℕ → List Ident → List ℕ
+last_name n [] = n
+last_name n (m ∷ ms) = last_name m.text ms
+
+abbrev pub single_of : Import → Found → Named
+single_of i (AtClass c) = cond i.on_demand [] ((last_name i.first.text i.more, c) ∷ [])
+single_of i (InPackage p) = []
+single_of i Nowhere = []
+
+-- the types that single imports import, by their simple names (JLS 7.5.1)
+abbrev pub singles : Sites → List Import → Named
+singles S [] = []
+singles S (i ∷ is) = single_of i (imported S i) ++ singles S is
+
+-- the classes of a name in a list of names, of which one who asks may name them
+abbrev pub open_class : Sites → Asker → Option ℕ → List ℕ
+open_class S a None = []
+open_class S a (Some c) = cond (is_accessible S a c) (c ∷ []) []
+
+-- the type of this name that an import on demand imports (JLS 7.5.2), if it can be named there
+abbrev pub demanded_by : Sites → Asker → List ℕ → Import → Found → List ℕ
+demanded_by S a n i (InPackage p) = cond i.on_demand (open_class S a (named n (types_of_package S p))) []
+demanded_by S a n i (AtClass c) = cond i.on_demand (open_class S a (named n (declared_of S c))) []
+demanded_by S a n i Nowhere = []
+
+abbrev pub demanded : Sites → Asker → List ℕ → List Import → List ℕ
+demanded S a n [] = []
+demanded S a n (i ∷ is) = demanded_by S a n i (imported S i) ++ demanded S a n is
+
+abbrev pub has : ℕ → List ℕ → Bool
+has c [] = false
+has c (d ∷ ds) = (c == d) || has c ds
+
+-- each class once, where it is found first
+abbrev pub once : List ℕ → List ℕ → List ℕ
+once found [] = found
+once found (c ∷ cs) = once (cond (has c found) found (found ++ c ∷ [])) cs
+
+abbrev pub classes : List ℕ → List Meaning
+classes cs = map (λ c. AClass c) cs
+
+abbrev pub one_class : Option ℕ → List Meaning
+one_class None = []
+one_class (Some c) = AClass c ∷ []
+
+abbrev pub one_variable : Option ℕ → List Meaning
+one_variable None = []
+one_variable (Some v) = AVariable v ∷ []
+
+-- the first layer with a candidate decides
+abbrev pub or_next : List Meaning → Look → Look
+or_next [] rest = rest
+or_next (m ∷ ms) rest = Some (m ∷ ms)
+
+-- a simple name in a unit outside of its types: its single imports and own types, then the types of its package, then what it imports on demand,
+-- among which is java.lang (JLS 6.4.1, 7.3)
+abbrev pub in_unit : Sites → ℕ → List ℕ → Look
+in_unit S u n =
+    let asker : Asker = record { «package» = unit_package S u; top = None } in
+    or_next (one_class (named n (singles S (imports_of S u) ++ types_of_unit S u)))
+      (or_next (one_class (named n (types_of_package S (unit_package S u))))
+        (Some (classes (once [] (demanded S asker n (imports_of S u) ++ open_class S asker (named n (types_of_package S (codes "java.lang"))))))))
+
+-- ---- bodies and heads of types
+
+abbrev pub all_named : List ℕ → Named → List ℕ
+all_named n [] = []
+all_named n (e ∷ es) = cond (bytes_eq n e.0) (e.1 ∷ []) [] ++ all_named n es
+
+-- the inherited member types of that name, or else what lies further out (JLS 8.5)
+abbrev pub inherits : List ℕ → Option Named → Look → Look
+inherits n None rest = None
+inherits n (Some es) rest = or_next (classes (all_named n es)) rest
+
+-- in the body of a class, round which lies the rest
+abbrev pub in_class : Sites → Knowledge → List ℕ → ℕ → Look → Look
+in_class S K n c rest = or_next (one_class (named n (declared_of S c))) (or_next (one_variable (named n (class_variables S c))) (inherits n (K c) rest))
+
+abbrev pub in_classes : Sites → Knowledge → List ℕ → ℕ → List ℕ → Look
+in_classes S K n u [] = in_unit S u n
+in_classes S K n u (c ∷ cs) = in_class S K n c (in_classes S K n u cs)
+
+-- a simple name in the body of class c
+abbrev pub in_body : Sites → Knowledge → ℕ → List ℕ → Look
+in_body S K c n = in_classes S K n (unit_of S c) (c ∷ round_of S c)
+
+-- and in its head: its parameters' bounds and its supertypes see its parameters, and not its members (JLS 6.3)
+abbrev pub in_head : Sites → Knowledge → ℕ → List ℕ → Look
+in_head S K c n = or_next (one_variable (named n (class_variables S c))) (in_classes S K n (unit_of S c) (round_of S c))
+
+-- ---- names of several parts (JLS 6.5.2, 6.5.5.2)
+
+-- a member type of a class, declared or inherited
+abbrev pub member : Sites → Knowledge → ℕ → List ℕ → Look
+member S K c n = or_next (one_class (named n (declared_of S c))) (inherits n (K c) (Some []))
+
+-- further parts behind what the parts before them mean: a type variable has no member types, and what is ambiguous stays so
+abbrev pub with_parts : Sites → Knowledge → List (List ℕ) → Look → Look
+with_parts S K ps None = None
+with_parts S K [] (Some ms) = Some ms
+with_parts S K (p ∷ ps) (Some []) = Some []
+with_parts S K (p ∷ ps) (Some (AClass c ∷ [])) = with_parts S K ps (member S K c p)
+with_parts S K (p ∷ ps) (Some (AVariable v ∷ [])) = Some []
+with_parts S K (p ∷ ps) (Some (m ∷ n ∷ ms)) = Some (m ∷ n ∷ ms)
+
+abbrev pub or_longer : (Look → Look) → Look → Option ℕ → Look
+or_longer behind longer (Some c) = behind (Some (AClass c ∷ []))
+or_longer behind longer None = longer
+
+-- further parts behind a package
+abbrev pub in_packages : Sites → Knowledge → List ℕ → List (List ℕ) → Look
+in_packages S K p [] = Some []
+in_packages S K p (n ∷ ns) = or_longer (with_parts S K ns) (in_packages S K (p ++ codes "." ++ n) ns) (named n (types_of_package S p))
+
+-- where nothing of the first part's name is in scope, it is a package
+abbrev pub or_package : Sites → Knowledge → List ℕ → List (List ℕ) → Look → Look
+or_package S K n ps None = None
+or_package S K n ps (Some []) = in_packages S K n ps
+or_package S K n ps (Some (m ∷ ms)) = with_parts S K ps (Some (m ∷ ms))
+
+-- the parts of a name, the first of which is looked up by `find`
+abbrev pub look_up : Sites → Knowledge → (List ℕ → Look) → List ℕ → List (List ℕ) → Look
+look_up S K find n ps = or_package S K n ps (find n)
