@@ -1,22 +1,19 @@
 -- Expressions that have only the forms of a constant expression (JLS 15.28). Whether one is constant is told where its names are looked up.
-use Rattle.std.specs.Prelude.{ℕ, ℤ, pos, ◌+◌, ◌%◌, ◌^◌, Bool, true, false, cond, ◌&&◌, List, [], ◌∷◌, ◌++◌, codes, Option, Some, None}
+use Rattle.std.specs.Prelude.{ℕ, pos, ◌%◌, ◌^◌, true, false, cond, List, [], ◌∷◌, ◌++◌, codes, Option, Some, None}
 use Rattle.std.specs.Int.{w32, w64, cast_signed}
 use Rattle.std.specs.Str.{bytes_eq}
-use Rattle.jc_rules.specs.declared.rule.Place.{Place}
-use Rattle.jc_tree.specs.declared.name.Ident.{Ident}
-use Rattle.jc_tree.specs.declared.expression.ArrayInit.{ArrayInit, ArrayInit-F, fold-ArrayInit}
+use Rattle.jc_tree.specs.declared.expression.ArrayInit.{ArrayInit, ArrayInit-F}
 use Rattle.jc_tree.specs.declared.expression.BinaryOp.{BinaryOp}
 use Rattle.jc_tree.specs.declared.expression.BinaryOp.TheVariants as binary
-use Rattle.jc_tree.specs.declared.expression.Creation.{Creation, Creation-F, fold-Creation}
+use Rattle.jc_tree.specs.declared.expression.Creation.{Creation, Creation-F}
 use Rattle.jc_tree.specs.declared.expression.Expr.{Expr, Expr-F, fold-Expr}
 use Rattle.jc_tree.specs.declared.expression.Init.{Init, Init-F, out-Init}
 use Rattle.jc_tree.specs.declared.expression.Literal.{Literal}
 use Rattle.jc_tree.specs.declared.expression.Literal.TheVariants as literal
-use Rattle.jc_tree.specs.declared.expression.Operand.{Operand, Operand-F, fold-Operand}
+use Rattle.jc_tree.specs.declared.expression.Operand.{Operand, Operand-F}
 use Rattle.jc_tree.specs.declared.expression.PrefixOp.{PrefixOp}
 use Rattle.jc_tree.specs.declared.expression.PrefixSign.{PrefixSign}
 use Rattle.jc_tree.specs.declared.expression.PrefixSign.TheVariants as sign
-use Rattle.jc_tree.specs.declared.types.TypeTree.{TypeTree}
 use Rattle.jc_types.specs.declared.constant.Constant.{Constant}
 use Rattle.jc_types.specs.declared.constant.Constant.TheVariants.{Whole, Text}
 use Rattle.jc_types.specs.declared.constant.ConstantExpr.{ConstantExpr}
@@ -29,7 +26,7 @@ use Rattle.jc_types.specs.declared.constant.Op.TheVariants as op
 use Rattle.jc_types.specs.declared.form.Arg.{Arg}
 use Rattle.jc_types.specs.declared.form.Primitive.TheVariants as primitive
 use Rattle.jc_types.specs.declared.form.Ty.{Ty, Ty-F, out-Ty}
-use Rattle.jc_declares.specs.Sites.{Sites}
+use Rattle.jc_declares.specs.declared.heads.Heads.{Heads}
 use Rattle.jc_declares.specs.Heads.{binary_of}
 use Rattle.jc_declares.specs.Looking.{Knowledge}
 use Rattle.jc_declares.specs.Writing.{Reading, wrote_type}
@@ -99,13 +96,13 @@ prefix_operators [] = Some []
 prefix_operators (p ∷ ps) = and_then (prefix_operator p.sign) (λ o. and_then (prefix_operators ps) (λ os. Some (o ∷ os)))
 
 -- casts to primitive types and to String alone
-abbrev pub cast_at : Sites → Ty-F Arg Ty → Option ConstantType
-cast_at S (Ty-F.Prim p) = Some (to.Prim p)
-cast_at S (Ty-F.Class id args) = cond (bytes_eq (binary_of S id.0) (codes "java.lang.String")) (Some to.Text) None
-cast_at S _ = None
+abbrev pub cast_at : Heads → Ty-F Arg Ty → Option ConstantType
+cast_at H (Ty-F.Prim p) = Some (to.Prim p)
+cast_at H (Ty-F.Class id args) = cond (bytes_eq (binary_of H id.0) (codes "java.lang.String")) (Some to.Text) None
+cast_at H _ = None
 
-abbrev pub cast_to : Sites → Ty → Option ConstantType
-cast_to S t = cast_at S (out-Ty t)
+abbrev pub cast_to : Heads → Ty → Option ConstantType
+cast_to H t = cast_at H (out-Ty t)
 
 pub record Right : Type 0 where
   pub part : Option ConstantPart
@@ -137,16 +134,16 @@ conditional test a b = and_then test (λ t. and_then a (λ x. and_then b (λ y. 
 abbrev pub cast_formed : Option ConstantType → Option ConstantExpr → Option ConstantExpr
 cast_formed target operand = and_then target (λ t. and_then operand (λ e. Some (expr.Cast t e)))
 
-abbrev pub expr_formed : Sites → Knowledge → ℕ → Reading → Expr-F Formed Formed Formed Right Formed → Formed
-expr_formed S K file r (Expr-F.Conditional test then_it else_it) = formed (conditional test.constant then_it.constant else_it.constant)
-expr_formed S K file r (Expr-F.Chain first rest) = formed (chained first.constant (all_parts rest))
-expr_formed S K file r (Expr-F.Prefix first more operand) = formed (prefixed (prefix_operators (first ∷ more)) operand.constant)
-expr_formed S K file r (Expr-F.Cast at ty operand) = formed (cast_formed (cast_to S (wrote_type S K r ty).ty) operand.constant)
-expr_formed S K file r (Expr-F.Field of_it name) = longer_name file of_it name.text
-expr_formed S K file r (Expr-F.Literal at value) = formed (as_expr (literal_constant value))
-expr_formed S K file r (Expr-F.Paren at inner) = formed inner.constant
-expr_formed S K file r (Expr-F.Name name) = of_name file name.at (name.text ∷ [])
-expr_formed S K file r _ = unformed
+abbrev pub expr_formed : Heads → Knowledge → ℕ → Reading → Expr-F Formed Formed Formed Right Formed → Formed
+expr_formed H K file r (Expr-F.Conditional test then_it else_it) = formed (conditional test.constant then_it.constant else_it.constant)
+expr_formed H K file r (Expr-F.Chain first rest) = formed (chained first.constant (all_parts rest))
+expr_formed H K file r (Expr-F.Prefix first more operand) = formed (prefixed (prefix_operators (first ∷ more)) operand.constant)
+expr_formed H K file r (Expr-F.Cast at ty operand) = formed (cast_formed (cast_to H (wrote_type H K r ty).ty) operand.constant)
+expr_formed H K file r (Expr-F.Field of_it name) = longer_name file of_it name.text
+expr_formed H K file r (Expr-F.Literal at value) = formed (as_expr (literal_constant value))
+expr_formed H K file r (Expr-F.Paren at inner) = formed inner.constant
+expr_formed H K file r (Expr-F.Name name) = of_name file name.at (name.text ∷ [])
+expr_formed H K file r _ = unformed
 
 abbrev pub operand_formed : Operand-F Formed Formed Formed Right Formed → Right
 operand_formed (Operand-F.Binary o right) =
@@ -162,15 +159,15 @@ none_of_init node = unformed
 abbrev pub none_of_array : ArrayInit-F Formed Formed Formed Right Formed → Formed
 none_of_array node = unformed
 
-unfoldable pub formed_expr : Sites → Knowledge → ℕ → Reading → Expr → Formed
-formed_expr S K file r node =
-    fold-Expr Formed Formed Formed Right Formed none_of_creation (expr_formed S K file r) none_of_init operand_formed none_of_array node
+unfoldable pub formed_expr : Heads → Knowledge → ℕ → Reading → Expr → Formed
+formed_expr H K file r node =
+    fold-Expr Formed Formed Formed Right Formed none_of_creation (expr_formed H K file r) none_of_init operand_formed none_of_array node
 
-abbrev pub constant_at : Sites → Knowledge → ℕ → Reading → Init-F Creation Expr Init Operand ArrayInit → Option ConstantExpr
-constant_at S K file r (Init-F.Value e) = (formed_expr S K file r e).constant
-constant_at S K file r (Init-F.Nested a) = None
+abbrev pub constant_at : Heads → Knowledge → ℕ → Reading → Init-F Creation Expr Init Operand ArrayInit → Option ConstantExpr
+constant_at H K file r (Init-F.Value e) = (formed_expr H K file r e).constant
+constant_at H K file r (Init-F.Nested a) = None
 
 -- the constant form of an initialiser, if it has one
-abbrev pub constant_of : Sites → Knowledge → ℕ → Reading → Option Init → Option ConstantExpr
-constant_of S K file r None = None
-constant_of S K file r (Some i) = constant_at S K file r (out-Init i)
+abbrev pub constant_of : Heads → Knowledge → ℕ → Reading → Option Init → Option ConstantExpr
+constant_of H K file r None = None
+constant_of H K file r (Some i) = constant_at H K file r (out-Init i)

@@ -4,6 +4,7 @@ pub mod Heads
 pub mod Modifiers
 pub mod Looking
 pub mod Knowing
+pub mod HeadBreaks
 pub mod Writing
 pub mod Readings
 pub mod Breaks

@@ -1,15 +1,13 @@
 -- What a name of a type means where it stands (JLS 6.3, 6.4.1, 6.5.5): the candidates, layer by layer. The first layer with a candidate
 -- decides. None is the answer where a class is asked of which it isn't known yet what it inherits.
-use Rattle.std.specs.Prelude.{ℕ, ◌==◌, Bool, true, false, cond, not, ◌&&◌, ◌||◌, List, [], ◌∷◌, ◌++◌, map, codes, length, take, Option, Some, None, slice_get, if◌then◌else◌}
+use Rattle.std.specs.Prelude.{ℕ, ◌==◌, Bool, true, false, cond, ◌||◌, List, [], ◌∷◌, ◌++◌, map, codes, Option, Some, None}
 use Rattle.std.specs.Str.{bytes_eq}
-use Rattle.jc_tree.specs.declared.name.Ident.{Ident}
-use Rattle.jc_tree.specs.declared.statement.Import.{Import}
 use Rattle.jc_types.specs.declared.declarations.Access.{Access}
 use Rattle.jc_types.specs.declared.declarations.Access.TheVariants as access
 use Rattle.jc_types.specs.Names.{named}
-use Rattle.jc_declares.specs.Sites.{Sites, UnitSite, ClassSite}
-use Rattle.jc_declares.specs.Heads.{Named, text_of, with_points, unit_package, imports_of, unit_of, package_of, round_of, top_of_class, declared_of, types_of_unit, types_of_package, class_variables}
-use Rattle.jc_declares.specs.Modifiers.{access_of_class}
+use Rattle.jc_declares.specs.declared.heads.Heads.{Heads}
+use Rattle.jc_declares.specs.declared.heads.ImportHead.{ImportHead}
+use Rattle.jc_declares.specs.Heads.{Named, access_of, unit_package, imports_of, unit_of, package_of, round_of, top_of_class, declared_of, types_of_unit, types_of_package, class_variables}
 
 pub data Meaning : Type 0 where
   AClass : ℕ → Meaning
@@ -40,8 +38,8 @@ is_number None n = false
 is_number (Some m) n = m == n
 
 -- a class may be named there: private ones inside of the same type of a unit alone, others that aren't public in the same package
-abbrev pub is_accessible : Sites → Asker → ℕ → Bool
-is_accessible S a c = is_open (access_of_class S c) (bytes_eq (package_of S c) a.«package») (is_number a.top (top_of_class S c))
+abbrev pub is_accessible : Heads → Asker → ℕ → Bool
+is_accessible H a c = is_open (access_of H c) (bytes_eq (package_of H c) a.«package») (is_number a.top (top_of_class H c))
 
 -- ---- canonical names (JLS 6.7)
 
@@ -59,49 +57,49 @@ class_or_nowhere (Some c) = AtClass c
 class_or_nowhere None = Nowhere
 
 -- a further part of a canonical name: a type of the package or else a longer package, or a member type that the class declares
-abbrev pub next_part : Sites → Found → List ℕ → Found
-next_part S (InPackage p) n = type_or_package (named n (types_of_package S p)) p n
-next_part S (AtClass c) n = class_or_nowhere (named n (declared_of S c))
-next_part S Nowhere n = Nowhere
+abbrev pub next_part : Heads → Found → List ℕ → Found
+next_part H (InPackage p) n = type_or_package (named n (types_of_package H p)) p n
+next_part H (AtClass c) n = class_or_nowhere (named n (declared_of H c))
+next_part H Nowhere n = Nowhere
 
-abbrev pub next_parts : Sites → Found → List (List ℕ) → Found
-next_parts S f [] = f
-next_parts S f (n ∷ ns) = next_parts S (next_part S f n) ns
+abbrev pub next_parts : Heads → Found → List (List ℕ) → Found
+next_parts H f [] = f
+next_parts H f (n ∷ ns) = next_parts H (next_part H f n) ns
 
 -- what an import names: its first part is a package, since no type of the unnamed one can be imported (JLS 7.5)
-abbrev pub imported : Sites → Import → Found
-imported S i = next_parts S (InPackage i.first.text) (map text_of i.more)
+abbrev pub imported : Heads → ImportHead → Found
+imported H i = next_parts H (InPackage i.path.first) i.path.more
 
 -- ---- units
 
-abbrev pub last_name : List ℕ → List Ident → List ℕ
-last_name n [] = n
-last_name n (m ∷ ms) = last_name m.text ms
+abbrev pub last_part : List ℕ → List (List ℕ) → List ℕ
+last_part n [] = n
+last_part n (m ∷ ms) = last_part m ms
 
-abbrev pub single_of : Import → Found → Named
-single_of i (AtClass c) = cond i.on_demand [] ((last_name i.first.text i.more, c) ∷ [])
+abbrev pub single_of : ImportHead → Found → Named
+single_of i (AtClass c) = cond i.on_demand [] ((last_part i.path.first i.path.more, c) ∷ [])
 single_of i (InPackage p) = []
 single_of i Nowhere = []
 
 -- the types that single imports import, by their simple names (JLS 7.5.1)
-abbrev pub singles : Sites → List Import → Named
-singles S [] = []
-singles S (i ∷ is) = single_of i (imported S i) ++ singles S is
+abbrev pub singles : Heads → List ImportHead → Named
+singles H [] = []
+singles H (i ∷ is) = single_of i (imported H i) ++ singles H is
 
 -- the classes of a name in a list of names, of which one who asks may name them
-abbrev pub open_class : Sites → Asker → Option ℕ → List ℕ
-open_class S a None = []
-open_class S a (Some c) = cond (is_accessible S a c) (c ∷ []) []
+abbrev pub open_class : Heads → Asker → Option ℕ → List ℕ
+open_class H a None = []
+open_class H a (Some c) = cond (is_accessible H a c) (c ∷ []) []
 
 -- the type of this name that an import on demand imports (JLS 7.5.2), if it can be named there
-abbrev pub demanded_by : Sites → Asker → List ℕ → Import → Found → List ℕ
-demanded_by S a n i (InPackage p) = cond i.on_demand (open_class S a (named n (types_of_package S p))) []
-demanded_by S a n i (AtClass c) = cond i.on_demand (open_class S a (named n (declared_of S c))) []
-demanded_by S a n i Nowhere = []
+abbrev pub demanded_by : Heads → Asker → List ℕ → ImportHead → Found → List ℕ
+demanded_by H a n i (InPackage p) = cond i.on_demand (open_class H a (named n (types_of_package H p))) []
+demanded_by H a n i (AtClass c) = cond i.on_demand (open_class H a (named n (declared_of H c))) []
+demanded_by H a n i Nowhere = []
 
-abbrev pub demanded : Sites → Asker → List ℕ → List Import → List ℕ
-demanded S a n [] = []
-demanded S a n (i ∷ is) = demanded_by S a n i (imported S i) ++ demanded S a n is
+abbrev pub demanded : Heads → Asker → List ℕ → List ImportHead → List ℕ
+demanded H a n [] = []
+demanded H a n (i ∷ is) = demanded_by H a n i (imported H i) ++ demanded H a n is
 
 abbrev pub has : ℕ → List ℕ → Bool
 has c [] = false
@@ -130,12 +128,12 @@ or_next (m ∷ ms) rest = Some (m ∷ ms)
 
 -- a simple name in a unit outside of its types: its single imports and own types, then the types of its package, then what it imports on demand,
 -- among which is java.lang (JLS 6.4.1, 7.3)
-abbrev pub in_unit : Sites → ℕ → List ℕ → Look
-in_unit S u n =
-    let asker : Asker = record { «package» = unit_package S u; top = None } in
-    or_next (one_class (named n (singles S (imports_of S u) ++ types_of_unit S u)))
-      (or_next (one_class (named n (types_of_package S (unit_package S u))))
-        (Some (classes (once [] (demanded S asker n (imports_of S u) ++ open_class S asker (named n (types_of_package S (codes "java.lang"))))))))
+abbrev pub in_unit : Heads → ℕ → List ℕ → Look
+in_unit H u n =
+    let asker : Asker = record { «package» = unit_package H u; top = None } in
+    or_next (one_class (named n (singles H (imports_of H u) ++ types_of_unit H u)))
+    (or_next (one_class (named n (types_of_package H (unit_package H u))))
+    (Some (classes (once [] (demanded H asker n (imports_of H u) ++ open_class H asker (named n (types_of_package H (codes "java.lang"))))))))
 
 -- ---- bodies and heads of types
 
@@ -149,51 +147,51 @@ inherits n None rest = None
 inherits n (Some es) rest = or_next (classes (all_named n es)) rest
 
 -- in the body of a class, round which lies the rest
-abbrev pub in_class : Sites → Knowledge → List ℕ → ℕ → Look → Look
-in_class S K n c rest = or_next (one_class (named n (declared_of S c))) (or_next (one_variable (named n (class_variables S c))) (inherits n (K c) rest))
+abbrev pub in_class : Heads → Knowledge → List ℕ → ℕ → Look → Look
+in_class H K n c rest = or_next (one_class (named n (declared_of H c))) (or_next (one_variable (named n (class_variables H c))) (inherits n (K c) rest))
 
-abbrev pub in_classes : Sites → Knowledge → List ℕ → ℕ → List ℕ → Look
-in_classes S K n u [] = in_unit S u n
-in_classes S K n u (c ∷ cs) = in_class S K n c (in_classes S K n u cs)
+abbrev pub in_classes : Heads → Knowledge → List ℕ → ℕ → List ℕ → Look
+in_classes H K n u [] = in_unit H u n
+in_classes H K n u (c ∷ cs) = in_class H K n c (in_classes H K n u cs)
 
 -- a simple name in the body of class c
-abbrev pub in_body : Sites → Knowledge → ℕ → List ℕ → Look
-in_body S K c n = in_classes S K n (unit_of S c) (c ∷ round_of S c)
+abbrev pub in_body : Heads → Knowledge → ℕ → List ℕ → Look
+in_body H K c n = in_classes H K n (unit_of H c) (c ∷ round_of H c)
 
 -- and in its head: its parameters' bounds and its supertypes see its parameters, and not its members (JLS 6.3)
-abbrev pub in_head : Sites → Knowledge → ℕ → List ℕ → Look
-in_head S K c n = or_next (one_variable (named n (class_variables S c))) (in_classes S K n (unit_of S c) (round_of S c))
+abbrev pub in_head : Heads → Knowledge → ℕ → List ℕ → Look
+in_head H K c n = or_next (one_variable (named n (class_variables H c))) (in_classes H K n (unit_of H c) (round_of H c))
 
 -- ---- names of several parts (JLS 6.5.2, 6.5.5.2)
 
 -- a member type of a class, declared or inherited
-abbrev pub member : Sites → Knowledge → ℕ → List ℕ → Look
-member S K c n = or_next (one_class (named n (declared_of S c))) (inherits n (K c) (Some []))
+abbrev pub member : Heads → Knowledge → ℕ → List ℕ → Look
+member H K c n = or_next (one_class (named n (declared_of H c))) (inherits n (K c) (Some []))
 
 -- further parts behind what the parts before them mean: a type variable has no member types, and what is ambiguous stays so
-abbrev pub with_parts : Sites → Knowledge → List (List ℕ) → Look → Look
-with_parts S K ps None = None
-with_parts S K [] (Some ms) = Some ms
-with_parts S K (p ∷ ps) (Some []) = Some []
-with_parts S K (p ∷ ps) (Some (AClass c ∷ [])) = with_parts S K ps (member S K c p)
-with_parts S K (p ∷ ps) (Some (AVariable v ∷ [])) = Some []
-with_parts S K (p ∷ ps) (Some (m ∷ n ∷ ms)) = Some (m ∷ n ∷ ms)
+abbrev pub with_parts : Heads → Knowledge → List (List ℕ) → Look → Look
+with_parts H K ps None = None
+with_parts H K [] (Some ms) = Some ms
+with_parts H K (p ∷ ps) (Some []) = Some []
+with_parts H K (p ∷ ps) (Some (AClass c ∷ [])) = with_parts H K ps (member H K c p)
+with_parts H K (p ∷ ps) (Some (AVariable v ∷ [])) = Some []
+with_parts H K (p ∷ ps) (Some (m ∷ n ∷ ms)) = Some (m ∷ n ∷ ms)
 
 abbrev pub or_longer : (Look → Look) → Look → Option ℕ → Look
 or_longer behind longer (Some c) = behind (Some (AClass c ∷ []))
 or_longer behind longer None = longer
 
 -- further parts behind a package
-abbrev pub in_packages : Sites → Knowledge → List ℕ → List (List ℕ) → Look
-in_packages S K p [] = Some []
-in_packages S K p (n ∷ ns) = or_longer (with_parts S K ns) (in_packages S K (p ++ codes "." ++ n) ns) (named n (types_of_package S p))
+abbrev pub in_packages : Heads → Knowledge → List ℕ → List (List ℕ) → Look
+in_packages H K p [] = Some []
+in_packages H K p (n ∷ ns) = or_longer (with_parts H K ns) (in_packages H K (p ++ codes "." ++ n) ns) (named n (types_of_package H p))
 
 -- where nothing of the first part's name is in scope, it is a package
-abbrev pub or_package : Sites → Knowledge → List ℕ → List (List ℕ) → Look → Look
-or_package S K n ps None = None
-or_package S K n ps (Some []) = in_packages S K n ps
-or_package S K n ps (Some (m ∷ ms)) = with_parts S K ps (Some (m ∷ ms))
+abbrev pub or_package : Heads → Knowledge → List ℕ → List (List ℕ) → Look → Look
+or_package H K n ps None = None
+or_package H K n ps (Some []) = in_packages H K n ps
+or_package H K n ps (Some (m ∷ ms)) = with_parts H K ps (Some (m ∷ ms))
 
 -- the parts of a name, the first of which is looked up by `find`
-abbrev pub look_up : Sites → Knowledge → (List ℕ → Look) → List ℕ → List (List ℕ) → Look
-look_up S K find n ps = or_package S K n ps (find n)
+abbrev pub look_up : Heads → Knowledge → (List ℕ → Look) → List ℕ → List (List ℕ) → Look
+look_up H K find n ps = or_package H K n ps (find n)

@@ -1,8 +1,7 @@
 -- The modifiers of declarations: those that are written, those that are implied, and those that a declaration can't have (JLS 8.1.1, 8.3.1, 8.4.1, 8.4.3,
 -- 8.5.1, 8.8.3, 9.1.1, 9.3, 9.4, 9.5, 9.6.3, 9.7, 14.4).
-use Rattle.std.specs.Prelude.{ℕ, Bool, true, false, cond, not, ◌&&◌, ◌||◌, List, [], ◌∷◌, codes, Option, Some, None, slice_get}
+use Rattle.std.specs.Prelude.{ℕ, Bool, true, false, not, ◌&&◌, ◌||◌, List, [], ◌∷◌, codes, Option, Some, None}
 use Rattle.std.specs.Str.{bytes_eq}
-use Rattle.jc_tree.specs.declared.statement.Annotation.{Annotation}
 use Rattle.jc_tree.specs.declared.statement.Formal.{Formal}
 use Rattle.jc_tree.specs.declared.statement.MethodHead.{MethodHead}
 use Rattle.jc_tree.specs.declared.statement.Modifier.{Modifier}
@@ -14,8 +13,7 @@ use Rattle.jc_types.specs.declared.declarations.Access.{Access}
 use Rattle.jc_types.specs.declared.declarations.Access.TheVariants as access
 use Rattle.jc_types.specs.declared.declarations.Modifiers.{Modifiers}
 use Rattle.jc_declares.specs.Words.{same_word, says}
-use Rattle.jc_declares.specs.Sites.{Sites, ClassSite, MethodForm, Headed, ImpliedConstructor, StaticInitialiser, is_interface_head}
-use Rattle.jc_declares.specs.Heads.{modifiers_in_head, interface_in, is_top}
+use Rattle.jc_declares.specs.Heads.{written_access, access_with}
 
 abbrev pub is_annotation : List ℕ → Modifier → Bool
 is_annotation name (modifier_of.Annotation a) = bytes_eq a.first.text name
@@ -24,27 +22,6 @@ is_annotation name (modifier_of.Word at v) = false
 abbrev pub annotated : List ℕ → List Modifier → Bool
 annotated name [] = false
 annotated name (m ∷ ms) = is_annotation name m || annotated name ms
-
--- ---- access (JLS 6.6.1), where members of interfaces are public
-
-abbrev pub written_access : List Modifier → Access
-written_access ms = cond (says word_of.Public ms) access.Public (cond (says word_of.Protected ms) access.Protected (cond (says word_of.Private ms) access.Private access.Package))
-
-abbrev pub access_with : Bool → List Modifier → Access
-access_with true ms = access.Public
-access_with false ms = written_access ms
-
--- whether a class is a member of an interface
-abbrev pub in_interface : Sites → List ℕ → Bool
-in_interface S [] = false
-in_interface S (c ∷ round) = interface_in (slice_get S.classes c)
-
-abbrev pub access_in : Sites → Option ClassSite → Access
-access_in S (Some c) = access_with (in_interface S c.round) (modifiers_in_head c.head)
-access_in S None = access.Package
-
-abbrev pub access_of_class : Sites → ℕ → Access
-access_of_class S c = access_in S (slice_get S.classes c)
 
 abbrev pub is_private : Access → Bool
 is_private access.Private = true
@@ -63,7 +40,7 @@ written_modifiers ms =
       is_native = says word_of.Native ms;
       is_transient = says word_of.Transient ms;
       is_volatile = says word_of.Volatile ms;
-      says_override = annotated (codes "Override") ms
+      says_override = annotated (codes "Override") ms;
     }
 
 -- a type: an interface is abstract, and a member type of an interface is public (JLS 9.1.1.1, 9.5). Every member type is static, since the language has
@@ -78,7 +55,7 @@ field_modifiers of_interface ms =
     record (written_modifiers ms) {
       access = access_with of_interface ms;
       is_static = of_interface || says word_of.Static ms;
-      is_final = of_interface || says word_of.Final ms
+      is_final = of_interface || says word_of.Final ms;
     }
 
 -- the methods of an interface are public and abstract (JLS 9.4)

@@ -21,8 +21,6 @@ use Rattle.jc_tree.specs.declared.statement.LocalVars.{LocalVars}
 use Rattle.jc_tree.specs.declared.statement.Member.{Member, Member-F, fold-Member}
 use Rattle.jc_tree.specs.declared.statement.MethodHead.{MethodHead}
 use Rattle.jc_tree.specs.declared.statement.Modifier.{Modifier}
-use Rattle.jc_tree.specs.declared.statement.Modifier.TheVariants as modifier_of
-use Rattle.jc_tree.specs.declared.statement.ModifierWord.TheVariants as word_of
 use Rattle.jc_tree.specs.declared.statement.Package.{Package}
 use Rattle.jc_tree.specs.declared.statement.ResultType.{ResultType}
 use Rattle.jc_tree.specs.declared.statement.Stmt.{Stmt, Stmt-F, fold-Stmt}
@@ -37,11 +35,12 @@ use Rattle.jc_tree.specs.declared.types.TypeArg.{TypeArg, TypeArg-F, out-TypeArg
 use Rattle.jc_tree.specs.declared.types.TypePart.{TypePart}
 use Rattle.jc_tree.specs.declared.types.TypeTree.{TypeTree}
 use Rattle.jc_tree.specs.Offsets.{modifiers_first, first_offset_of_class, first_offset_of_locals, first_offset_of_type}
-use Rattle.jc_types.specs.declared.ids.ClassId.{ClassId}
-use Rattle.jc_types.specs.declared.ids.MethodId.{MethodId}
 use Rattle.jc_types.specs.declared.declarations.Owner.{Owner}
 use Rattle.jc_types.specs.declared.declarations.Owner.TheVariants as owner
 use Rattle.jc_declares.specs.Words.{says_static}
+use Rattle.jc_declares.specs.declared.heads.ScopeForm.TheVariants as scope_of
+use Rattle.jc_declares.specs.declared.heads.ScopeHead.{ScopeHead}
+use Rattle.jc_declares.specs.declared.heads.Standing.{Standing}
 use Rattle.jc_declares.specs.declared.unit.SourceUnit.{SourceUnit}
 
 -- a source: its file, its scope, and what stands before its types (JLS 7.3)
@@ -51,11 +50,13 @@ pub record UnitSite : Type 0 where
   pub «package» : Option Package
   pub imports : List Import
 
--- a class or interface: its file and unit, the classes round it from the innermost outwards, and the scope of its body
+-- a class or interface: its file and unit, the classes round it from the innermost outwards, whether it is a member of an interface, and the scope of
+-- its body
 pub record ClassSite : Type 0 where
   pub file : ℕ
   pub unit : ℕ
   pub round : List ℕ
+  pub of_interface : Bool
   pub scope : ℕ
   pub head : DeclarationHead
 
@@ -82,15 +83,6 @@ pub record VariableSite : Type 0 where
   pub owner : Owner
   pub param : TypeParam
 
-pub data ScopeForm : Type 0 where
-  OfUnit : ℕ → ScopeForm
-  OfClass : ℕ → ScopeForm
-  OfMethod : ℕ → ScopeForm
-
-pub record ScopeSite : Type 0 where
-  pub outer : Option ℕ
-  pub form : ScopeForm
-
 -- What is read of a body without typing it: a type as it is written, whole, as a class with its arguments or with a diamond, or as what an array is
 -- over; and the modifiers of a variable that is declared there, with the offset of the declaration.
 pub data BodyPart : Type 0 where
@@ -113,7 +105,7 @@ pub record Sites : Type 0 where
   pub methods : List MethodSite
   pub fields : List FieldSite
   pub variables : List VariableSite
-  pub scopes : List ScopeSite
+  pub scopes : List ScopeHead
   pub uses : List UseSite
 
 abbrev pub no_sites : Sites
@@ -129,7 +121,7 @@ joined a b =
       fields = a.fields ++ b.fields;
       variables = a.variables ++ b.variables;
       scopes = a.scopes ++ b.scopes;
-      uses = a.uses ++ b.uses
+      uses = a.uses ++ b.uses;
     }
 
 -- how many classes, methods and scopes are declared before
@@ -247,14 +239,7 @@ uses_of_clause_head clause_of.Finally = []
 
 -- ---- members
 
--- The sites of what is declared in the body of class `class`, whose scope is `scope`, in a unit of a file. `round` has the classes round what
--- is declared, the innermost first.
-pub record Standing : Type 0 where
-  pub file : ℕ
-  pub unit : ℕ
-  pub round : List ℕ
-  pub scope : ℕ
-
+-- what is declared at a standing, where so much is declared before it
 abbrev pub Walk : Type 0
 Walk = Standing → Counts → Sites
 
@@ -284,7 +269,7 @@ field_walk is_static vars at n =
       fields = field_sites at vars (vars.first ∷ vars.more);
       variables = [];
       scopes = [];
-      uses = used_at at at.scope is_static (uses_in_each uses_of_var (vars.first ∷ vars.more))
+      uses = used_at at at.scope is_static (uses_in_each uses_of_var (vars.first ∷ vars.more));
     }
 
 abbrev pub variable_sites : Owner → List TypeParam → List VariableSite
@@ -302,8 +287,8 @@ method_walk head has_block trees at n =
       methods = record { class = innermost at.round; scope = n.scopes; form = Headed head has_block } ∷ [];
       fields = [];
       variables = variable_sites (owner.Method (record { 0 = n.methods })) (listed_params head.params);
-      scopes = record { outer = Some at.scope; form = OfMethod n.methods } ∷ [];
-      uses = used_at at n.scopes (says_static head.modifiers) trees
+      scopes = record { outer = Some at.scope; form = scope_of.Method n.methods } ∷ [];
+      uses = used_at at n.scopes (says_static head.modifiers) trees;
     }
 
 -- of a member: its sites, and what its declaration has to know of it: that it is a constructor, a static block or a field, static or not
@@ -390,31 +375,31 @@ implied_sites form at n =
       methods = record { class = innermost at.round; scope = n.scopes; form = form } ∷ [];
       fields = [];
       variables = [];
-      scopes = record { outer = Some at.scope; form = OfMethod n.methods } ∷ [];
-      uses = []
+      scopes = record { outer = Some at.scope; form = scope_of.Method n.methods } ∷ [];
+      uses = [];
     }
 
 abbrev pub class_sites : DeclarationHead → Walk
 class_sites head at n =
     record {
       units = [];
-      classes = record { file = at.file; unit = at.unit; round = at.round; scope = n.scopes; head = head } ∷ [];
+      classes = record { file = at.file; unit = at.unit; round = at.round; of_interface = at.of_interface; scope = n.scopes; head = head } ∷ [];
       methods = [];
       fields = [];
       variables = variable_sites (owner.Class (record { 0 = n.classes })) (params_of_head head);
-      scopes = record { outer = Some at.scope; form = OfClass n.classes } ∷ [];
-      uses = []
+      scopes = record { outer = Some at.scope; form = scope_of.Class n.classes } ∷ [];
+      uses = [];
     }
 
 -- inside a class
-abbrev pub within : Standing → Counts → Standing
-within at n = record { file = at.file; unit = at.unit; round = n.classes ∷ at.round; scope = n.scopes }
+abbrev pub within : DeclarationHead → Standing → Counts → Standing
+within head at n = record { file = at.file; unit = at.unit; round = n.classes ∷ at.round; of_interface = is_interface_head head; scope = n.scopes }
 
 -- a type, and then what its body declares
 abbrev pub declaration_walk : DeclarationHead → List Membered → Walk
 declaration_walk head members at n =
     let own : Sites = class_sites head at n in
-    joined own (walked (map implied_sites (implied_forms head members) ++ map (λ (m : Membered). m.walk) members) (within at n) (behind n own))
+    joined own (walked (map implied_sites (implied_forms head members) ++ map (λ (m : Membered). m.walk) members) (within head at n) (behind n own))
 
 abbrev pub declaration_sites : Declaration-F Membered Uses Uses Walk → Walk
 declaration_sites node = declaration_walk node.head node.members
@@ -446,18 +431,22 @@ unit_site u scope =
       fields = [];
       variables = [];
       scopes = [];
-      uses = []
+      uses = [];
     }
 
 abbrev pub unit_scope : ℕ → Sites
 unit_scope unit =
-    record { units = []; classes = []; methods = []; fields = []; variables = []; scopes = record { outer = None; form = OfUnit unit } ∷ []; uses = [] }
+    record { units = []; classes = []; methods = []; fields = []; variables = []; scopes = record { outer = None; form = scope_of.Unit unit } ∷ []; uses = [] }
+
+-- a source and its scope
+abbrev pub unit_front : SourceUnit → ℕ → ℕ → Sites
+unit_front u unit scope = joined (unit_site u scope) (unit_scope unit)
 
 -- a source, which is the unit of this number, where so much is declared before it
 abbrev pub sites_of_unit : SourceUnit → ℕ → Counts → Sites
 sites_of_unit u unit n =
-    let own : Sites = joined (unit_site u n.scopes) (unit_scope unit) in
-    joined own (walked (map sites_of_top u.unit.types) (record { file = u.file; unit = unit; round = []; scope = n.scopes }) (behind n own))
+    let own : Sites = unit_front u unit n.scopes in
+    joined own (walked (map sites_of_top u.unit.types) (record { file = u.file; unit = unit; round = []; of_interface = false; scope = n.scopes }) (behind n own))
 
 abbrev pub sites_from : List SourceUnit → ℕ → Counts → Sites
 sites_from [] unit n = no_sites

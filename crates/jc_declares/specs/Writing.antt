@@ -1,8 +1,6 @@
 -- What a type means that is written somewhere (JLS 4.3, 4.5, 4.8, 6.5.5): the type, the places of the class types inside it, and the broken rules of
 -- the names in it.
-use Rattle.std.specs.Prelude.{ℕ, zero, suc, ◌+◌, ◌==◌, Bool, true, false, cond, not, ◌&&◌, ◌||◌, List, [], ◌∷◌, ◌++◌, map, Option, Some, None, if◌then◌else◌}
-use Rattle.jc_rules.specs.declared.rule.Place.{Place}
-use Rattle.jc_rules.specs.declared.rule.Refusal.{Refusal}
+use Rattle.std.specs.Prelude.{ℕ, zero, suc, Bool, true, false, cond, List, [], ◌∷◌, ◌++◌, map, Option, Some, None}
 use Rattle.jc_tree.specs.declared.name.Ident.{Ident}
 use Rattle.jc_tree.specs.declared.types.BaseTree.{BaseTree, BaseTree-F, fold-BaseTree}
 use Rattle.jc_tree.specs.declared.types.ClassTree.{ClassTree, ClassTree-F, fold-ClassTree}
@@ -20,10 +18,11 @@ use Rattle.jc_types.specs.declared.form.Primitive.TheVariants as primitive
 use Rattle.jc_types.specs.declared.form.Ty.{Ty}
 use Rattle.jc_types.specs.declared.form.Ty.TheVariants.{Prim, Class, Raw, Variable}
 use Rattle.jc_types.specs.Arrays.{array_over}
-use Rattle.jc_declares.specs.Sites.{Sites}
-use Rattle.jc_declares.specs.Heads.{params_of, owner_of}
-use Rattle.jc_declares.specs.Looking.{Meaning, AClass, AVariable, Look, Knowledge, Asker, is_accessible, is_number, look_up}
+use Rattle.jc_declares.specs.declared.heads.Heads.{Heads}
+use Rattle.jc_declares.specs.Heads.{class_variables, owner_of}
+use Rattle.jc_declares.specs.Looking.{AClass, AVariable, Look, Knowledge, Asker, is_number, look_up}
 use Rattle.jc_declares.specs.Knowing.{passed_all}
+use Rattle.jc_declares.specs.HeadBreaks.{all_accessible}
 
 -- Where a type is written: how a simple name is looked up there, who asks, and the class whose type variables may be named, which a static place has not.
 pub record Reading : Type 0 where
@@ -73,15 +72,15 @@ last_args p [] = p.args
 last_args p (q ∷ qs) = last_args q qs
 
 -- a generic class without arguments is raw (JLS 4.8)
-abbrev pub class_type : Sites → ℕ → List Arg → Ty
-class_type S c [] = cond (is_empty (params_of S c)) (Class (record { 0 = c }) []) (Raw (record { 0 = c }))
-class_type S c (a ∷ args) = Class (record { 0 = c }) (a ∷ args)
+abbrev pub class_type : Heads → ℕ → List Arg → Ty
+class_type H c [] = cond (is_empty (class_variables H c)) (Class (record { 0 = c }) []) (Raw (record { 0 = c }))
+class_type H c (a ∷ args) = Class (record { 0 = c }) (a ∷ args)
 
 -- where a name has no meaning, or several, a rule is broken, and it doesn't matter which type it is
-abbrev pub meant_type : Sites → Look → List Arg → Ty
-meant_type S (Some (AClass c ∷ [])) args = class_type S c args
-meant_type S (Some (AVariable v ∷ [])) args = Variable (record { 0 = v })
-meant_type S _ args = Class (record { 0 = 0 }) []
+abbrev pub meant_type : Heads → Look → List Arg → Ty
+meant_type H (Some (AClass c ∷ [])) args = class_type H c args
+meant_type H (Some (AVariable v ∷ [])) args = Variable (record { 0 = v })
+meant_type H _ args = Class (record { 0 = 0 }) []
 
 abbrev pub is_class_meant : Look → Bool
 is_class_meant (Some (AVariable v ∷ [])) = false
@@ -117,39 +116,35 @@ variable_broken false without_args at = record { rule = 311; at = at } ∷ []
 
 -- what a name means, with arguments or without: nothing (302), several types (303), or a variable that can't be named there (311). A class that depends on
 -- itself breaks a rule of its own
-abbrev pub meaning_broken : Sites → Reading → Look → Bool → ℕ → List Broken
-meaning_broken S r None without_args at = []
-meaning_broken S r (Some []) without_args at = record { rule = 302; at = at } ∷ []
-meaning_broken S r (Some (AClass c ∷ [])) without_args at = []
-meaning_broken S r (Some (AVariable v ∷ [])) without_args at = variable_broken (is_own (owner_of S v) r.own) without_args at
-meaning_broken S r (Some (m ∷ n ∷ ms)) without_args at = record { rule = 303; at = at } ∷ []
+abbrev pub meaning_broken : Heads → Reading → Look → Bool → ℕ → List Broken
+meaning_broken H r None without_args at = []
+meaning_broken H r (Some []) without_args at = record { rule = 302; at = at } ∷ []
+meaning_broken H r (Some (AClass c ∷ [])) without_args at = []
+meaning_broken H r (Some (AVariable v ∷ [])) without_args at = variable_broken (is_own (owner_of H v) r.own) without_args at
+meaning_broken H r (Some (m ∷ n ∷ ms)) without_args at = record { rule = 303; at = at } ∷ []
 
 -- each class that it names may be named there (JLS 6.6)
-abbrev pub all_accessible : Sites → Asker → List ℕ → Bool
-all_accessible S a [] = true
-all_accessible S a (c ∷ cs) = is_accessible S a c && all_accessible S a cs
-
 abbrev pub access_broken : Bool → ℕ → List Broken
 access_broken true at = []
 access_broken false at = record { rule = 310; at = at } ∷ []
 
-abbrev pub name_broken : Sites → Knowledge → Reading → WrotePart → List WrotePart → List Broken
-name_broken S K r first more =
-    let look : Look = look_up S K r.find (name_of_part first) (map name_of_part more) in
-    meaning_broken S r look (is_empty (last_args first more)) first.name.at
-    ++ access_broken (all_accessible S r.asker (passed_all S K (name_of_part first) (map name_of_part more) (r.find (name_of_part first)))) first.name.at
+abbrev pub name_broken : Heads → Knowledge → Reading → WrotePart → List WrotePart → List Broken
+name_broken H K r first more =
+    let look : Look = look_up H K r.find (name_of_part first) (map name_of_part more) in
+    meaning_broken H r look (is_empty (last_args first more)) first.name.at
+    ++ access_broken (all_accessible H r.asker (passed_all H K (name_of_part first) (map name_of_part more) (r.find (name_of_part first)))) first.name.at
     ++ early_args first more
 
 abbrev pub args_in : List WroteArg → List Arg
 args_in args = map (λ (a : WroteArg). a.arg) args
 
-abbrev pub class_wrote : Sites → Knowledge → Reading → WrotePart → List WrotePart → Wrote
-class_wrote S K r first more =
-    let look : Look = look_up S K r.find (name_of_part first) (map name_of_part more) in
+abbrev pub class_wrote : Heads → Knowledge → Reading → WrotePart → List WrotePart → Wrote
+class_wrote H K r first more =
+    let look : Look = look_up H K r.find (name_of_part first) (map name_of_part more) in
     record {
-      ty = meant_type S look (args_in (last_args first more));
+      ty = meant_type H look (args_in (last_args first more));
       places = cond (is_class_meant look) (first.name.at ∷ arg_places (last_args first more)) [];
-      broken = name_broken S K r first more ++ part_broken (first ∷ more)
+      broken = name_broken H K r first more ++ part_broken (first ∷ more);
     }
 
 -- ---- types
@@ -167,8 +162,8 @@ arg_wrote (TypeArg-F.Any at) = record { arg = arg.Any; places = []; broken = [] 
 arg_wrote (TypeArg-F.Extends at w) = arg_with (λ t. arg.Extends t) w
 arg_wrote (TypeArg-F.Super at w) = arg_with (λ t. arg.Super t) w
 
-abbrev pub class_tree_wrote : Sites → Knowledge → Reading → ClassTree-F Wrote WroteArg Wrote WrotePart Wrote → Wrote
-class_tree_wrote S K r node = class_wrote S K r node.first node.more
+abbrev pub class_tree_wrote : Heads → Knowledge → Reading → ClassTree-F Wrote WroteArg Wrote WrotePart Wrote → Wrote
+class_tree_wrote H K r node = class_wrote H K r node.first node.more
 
 abbrev pub part_wrote : TypePart-F Wrote WroteArg Wrote WrotePart Wrote → WrotePart
 part_wrote node = record { name = node.name; args = node.args }
@@ -184,17 +179,17 @@ with_more_dims n w = record w { ty = with_dims n w.ty }
 abbrev pub type_wrote : TypeTree-F Wrote WroteArg Wrote WrotePart Wrote → Wrote
 type_wrote node = with_more_dims node.dims node.base
 
-unfoldable pub wrote_base : Sites → Knowledge → Reading → BaseTree → Wrote
-wrote_base S K r node = fold-BaseTree Wrote WroteArg Wrote WrotePart Wrote base_wrote arg_wrote (class_tree_wrote S K r) part_wrote type_wrote node
+unfoldable pub wrote_base : Heads → Knowledge → Reading → BaseTree → Wrote
+wrote_base H K r node = fold-BaseTree Wrote WroteArg Wrote WrotePart Wrote base_wrote arg_wrote (class_tree_wrote H K r) part_wrote type_wrote node
 
-unfoldable pub wrote_arg : Sites → Knowledge → Reading → TypeArg → WroteArg
-wrote_arg S K r node = fold-TypeArg Wrote WroteArg Wrote WrotePart Wrote base_wrote arg_wrote (class_tree_wrote S K r) part_wrote type_wrote node
+unfoldable pub wrote_arg : Heads → Knowledge → Reading → TypeArg → WroteArg
+wrote_arg H K r node = fold-TypeArg Wrote WroteArg Wrote WrotePart Wrote base_wrote arg_wrote (class_tree_wrote H K r) part_wrote type_wrote node
 
-unfoldable pub wrote_class : Sites → Knowledge → Reading → ClassTree → Wrote
-wrote_class S K r node = fold-ClassTree Wrote WroteArg Wrote WrotePart Wrote base_wrote arg_wrote (class_tree_wrote S K r) part_wrote type_wrote node
+unfoldable pub wrote_class : Heads → Knowledge → Reading → ClassTree → Wrote
+wrote_class H K r node = fold-ClassTree Wrote WroteArg Wrote WrotePart Wrote base_wrote arg_wrote (class_tree_wrote H K r) part_wrote type_wrote node
 
-unfoldable pub wrote_part : Sites → Knowledge → Reading → TypePart → WrotePart
-wrote_part S K r node = fold-TypePart Wrote WroteArg Wrote WrotePart Wrote base_wrote arg_wrote (class_tree_wrote S K r) part_wrote type_wrote node
+unfoldable pub wrote_part : Heads → Knowledge → Reading → TypePart → WrotePart
+wrote_part H K r node = fold-TypePart Wrote WroteArg Wrote WrotePart Wrote base_wrote arg_wrote (class_tree_wrote H K r) part_wrote type_wrote node
 
-unfoldable pub wrote_type : Sites → Knowledge → Reading → TypeTree → Wrote
-wrote_type S K r node = fold-TypeTree Wrote WroteArg Wrote WrotePart Wrote base_wrote arg_wrote (class_tree_wrote S K r) part_wrote type_wrote node
+unfoldable pub wrote_type : Heads → Knowledge → Reading → TypeTree → Wrote
+wrote_type H K r node = fold-TypeTree Wrote WroteArg Wrote WrotePart Wrote base_wrote arg_wrote (class_tree_wrote H K r) part_wrote type_wrote node
