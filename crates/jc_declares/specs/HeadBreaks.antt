@@ -13,9 +13,9 @@ use Rattle.jc_declares.specs.declared.heads.MethodPlace.{MethodPlace}
 use Rattle.jc_declares.specs.declared.heads.Path.{Path}
 use Rattle.jc_declares.specs.declared.heads.UnitHead.{UnitHead}
 use Rattle.jc_declares.specs.declared.heads.VariableHead.{VariableHead}
-use Rattle.jc_declares.specs.Heads.{unit_package, imports_of, name_of, is_top, is_interface, is_final, same_owner}
-use Rattle.jc_declares.specs.Looking.{AClass, AVariable, Look, Knowledge, Asker, Found, InPackage, AtClass, Nowhere, imported, next_part, single_of, is_accessible, has}
-use Rattle.jc_declares.specs.Knowing.{meant_in_head, Needs}
+use Rattle.jc_declares.specs.Heads.{unit_package, imports_of, name_of, is_top, is_interface, is_final, owner_of, same_owner}
+use Rattle.jc_declares.specs.Looking.{AClass, AVariable, Look, Knowledge, Found, InPackage, AtClass, Nowhere, imported, next_part, single_of, all_accessible, head_asker, is_own, has}
+use Rattle.jc_declares.specs.Knowing.{meant_in_head, Needs, passed_by}
 
 abbrev pub broken_at : ℕ → ℕ → ℕ → List Refusal
 broken_at rule file at = record { rule = rule; place = record { file = file; at = at }; have = 0 } ∷ []
@@ -84,16 +84,20 @@ pub record IsCycle (H : Heads) (b : Refusal) : Type 0 where
 -- ---- 305: the wrong kind of supertype (JLS 8.1.4, 8.1.5, 9.1.3)
 
 -- a superclass is a class that isn't final
-abbrev pub superclass_fits : Heads → Look → Bool
-superclass_fits H (Some (AClass c ∷ [])) = not (is_interface H c) && not (is_final H c)
-superclass_fits H (Some (AVariable v ∷ [])) = false
-superclass_fits H _ = true
+abbrev pub superclass_fits : Heads → ℕ → Look → Bool
+superclass_fits H c (Some (AClass d ∷ [])) = not (is_interface H d) && not (is_final H d)
+superclass_fits H c (Some (AVariable v ∷ [])) = not (is_own (owner_of H v) (Some c))
+superclass_fits H c _ = true
 
 -- a superinterface is an interface that doesn't stand before it in its list
-abbrev pub interface_fits : Heads → Look → List ℕ → Bool
-interface_fits H (Some (AClass c ∷ [])) before = is_interface H c && not (has c before)
-interface_fits H (Some (AVariable v ∷ [])) before = false
-interface_fits H _ before = true
+abbrev pub interface_fits : Heads → ℕ → Look → List ℕ → Bool
+interface_fits H c (Some (AClass d ∷ [])) before = is_interface H d && not (has d before)
+interface_fits H c (Some (AVariable v ∷ [])) before = not (is_own (owner_of H v) (Some c))
+interface_fits H c _ before = true
+
+-- each class that a name in the head of class c names may be named there; where one can't, that is the rule that the name breaks, and its kind isn't asked
+abbrev pub is_nameable : Heads → Knowledge → ℕ → Path → Bool
+is_nameable H K c p = all_accessible H (head_asker H c) (passed_by H K c p)
 
 abbrev pub class_meant : Look → List ℕ
 class_meant (Some (AClass c ∷ [])) = c ∷ []
@@ -101,13 +105,13 @@ class_meant _ = []
 
 abbrev pub superclass_breaks : Heads → Knowledge → ℕ → ClassHead → List Path → List Refusal
 superclass_breaks H K c s [] = []
-superclass_breaks H K c s (p ∷ ps) = unless (superclass_fits H (meant_in_head H K c p)) (broken_at 305 s.file p.at) ++ superclass_breaks H K c s ps
+superclass_breaks H K c s (p ∷ ps) = unless (not (is_nameable H K c p) || superclass_fits H c (meant_in_head H K c p)) (broken_at 305 s.file p.at) ++ superclass_breaks H K c s ps
 
 abbrev pub interface_breaks : Heads → Knowledge → ℕ → ClassHead → List ℕ → List Path → List Refusal
 interface_breaks H K c s before [] = []
 interface_breaks H K c s before (p ∷ ps) =
     let look : Look = meant_in_head H K c p in
-    unless (interface_fits H look before) (broken_at 305 s.file p.at) ++ interface_breaks H K c s (before ++ class_meant look) ps
+    unless (not (is_nameable H K c p) || interface_fits H c look before) (broken_at 305 s.file p.at) ++ interface_breaks H K c s (before ++ class_meant look) ps
 
 abbrev pub super_breaks : Heads → Knowledge → ℕ → ClassHead → List Refusal
 super_breaks H K c s = superclass_breaks H K c s s.superclass ++ interface_breaks H K c s [] s.interfaces
@@ -142,15 +146,14 @@ abbrev pub classes_found : Heads → Found → List (List ℕ) → List ℕ
 classes_found H f [] = []
 classes_found H f (n ∷ ns) = class_found (next_part H f n) ++ classes_found H (next_part H f n) ns
 
--- each of these classes may be named there (JLS 6.6)
-abbrev pub all_accessible : Heads → Asker → List ℕ → Bool
-all_accessible H a [] = true
-all_accessible H a (c ∷ cs) = is_accessible H a c && all_accessible H a cs
+-- a class that can't be named there comes before what isn't found behind it
+abbrev pub import_broken : Bool → Bool → ℕ → ℕ → List Refusal
+import_broken false fits file at = broken_at 310 file at
+import_broken true fits file at = unless fits (broken_at 306 file at)
 
 abbrev pub import_breaks : Heads → UnitHead → ℕ → ImportHead → List Refusal
 import_breaks H u k i =
-    unless (import_fits H i (imported H i)) (broken_at 306 u.file i.at)
-    ++ unless (all_accessible H (record { «package» = u.«package»; top = None }) (classes_found H (InPackage i.path.first) i.path.more)) (broken_at 310 u.file i.at)
+    import_broken (all_accessible H (record { «package» = u.«package»; top = None }) (classes_found H (InPackage i.path.first) i.path.more)) (import_fits H i (imported H i)) u.file i.at
 
 -- ---- 307: fields and type parameters of one name (JLS 8.1.2, 8.3, 8.4.4)
 

@@ -106,7 +106,16 @@ abbrev pub access_with : Bool → List Modifier → Access
 access_with true ms = access.Public
 access_with false ms = written_access ms
 
--- `of_interface` tells that it is a member of an interface
+-- a class of a package is no member of another class
+abbrev pub is_top : List ℕ → Bool
+is_top [] = true
+is_top (c ∷ round) = false
+
+-- private and protected are for members alone (JLS 6.6.1): a type of a package is public, or else open to its package
+abbrev pub access_of_type : Bool → Bool → List Modifier → Access
+access_of_type true of_interface ms = cond (says word_of.Public ms) access.Public access.Package
+access_of_type false of_interface ms = access_with of_interface ms
+
 abbrev pub class_head : ClassSite → ClassHead
 class_head c =
     record {
@@ -117,7 +126,7 @@ class_head c =
       scope = c.scope;
       name = name_in_head c.head;
       kind = kind_of_head c.head;
-      access = access_with c.of_interface (modifiers_in_head c.head);
+      access = access_of_type (is_top c.round) c.of_interface (modifiers_in_head c.head);
       is_final = says word_of.Final (modifiers_in_head c.head);
       superclass = map path_of_class (superclass_trees c.head);
       interfaces = map path_of_class (interface_trees c.head);
@@ -229,11 +238,6 @@ interface_in None = false
 abbrev pub is_interface : Heads → ℕ → Bool
 is_interface H c = interface_in (slice_get H.classes c)
 
--- a class of a package is no member of another class
-abbrev pub is_top : List ℕ → Bool
-is_top [] = true
-is_top (c ∷ round) = false
-
 -- the class that it is a member of
 abbrev pub is_inside : ℕ → List ℕ → Bool
 is_inside c [] = false
@@ -250,7 +254,7 @@ declared_of H c = named_classes (λ (d : ClassHead). is_inside c d.round) 0 H.cl
 
 -- the types that a unit and a package declare (JLS 7.6)
 abbrev pub types_of_unit : Heads → ℕ → Named
-types_of_unit H u = named_classes (λ (c : ClassHead). is_top c.round && (c.unit == u)) 0 H.classes
+types_of_unit H u = named_classes (λ (c : ClassHead). is_top c.round && (u == c.unit)) 0 H.classes
 
 abbrev pub types_of_package : Heads → List ℕ → Named
 types_of_package H p = named_classes (λ (c : ClassHead). is_top c.round && bytes_eq (unit_package H c.unit) p) 0 H.classes

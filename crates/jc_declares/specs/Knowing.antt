@@ -5,9 +5,9 @@ use Rattle.std.specs.Str.{bytes_eq}
 use Rattle.jc_types.specs.Names.{named}
 use Rattle.jc_declares.specs.declared.heads.Heads.{Heads}
 use Rattle.jc_declares.specs.declared.heads.Path.{Path}
-use Rattle.jc_declares.specs.Heads.{Named, access_of, package_of, round_of, top_of_class, supers_of, declared_of, types_of_package}
+use Rattle.jc_declares.specs.Heads.{Named, access_of, round_of, supers_of, declared_of, types_of_package}
 use Rattle.jc_declares.specs.Modifiers.{is_private}
-use Rattle.jc_declares.specs.Looking.{Meaning, AClass, AVariable, Look, Knowledge, is_accessible, member, in_head, look_up, has}
+use Rattle.jc_declares.specs.Looking.{body_asker, Meaning, AClass, AVariable, Look, Knowledge, is_accessible, member, in_head, look_up, has}
 
 -- what a class that is written in the head of class c means
 abbrev pub meant_in_head : Heads → Knowledge → ℕ → Path → Look
@@ -31,7 +31,7 @@ written_supers H K c (t ∷ ts) = and_class (meant_in_head H K c t) (written_sup
 
 -- a member type that isn't private, and that the class may name
 abbrev pub is_inheritable : Heads → ℕ → ℕ → Bool
-is_inheritable H c m = not (is_private (access_of H m)) && is_accessible H (record { «package» = package_of H c; top = Some (top_of_class H c) }) m
+is_inheritable H c m = not (is_private (access_of H m)) && is_accessible H (body_asker H c) m
 
 abbrev pub has_name : List ℕ → Named → Bool
 has_name n [] = false

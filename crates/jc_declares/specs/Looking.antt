@@ -1,13 +1,15 @@
 -- What a name of a type means where it stands (JLS 6.3, 6.4.1, 6.5.5): the candidates, layer by layer. The first layer with a candidate
 -- decides. None is the answer where a class is asked of which it isn't known yet what it inherits.
-use Rattle.std.specs.Prelude.{ℕ, ◌==◌, Bool, true, false, cond, ◌||◌, List, [], ◌∷◌, ◌++◌, map, codes, Option, Some, None}
+use Rattle.std.specs.Prelude.{ℕ, ◌==◌, Bool, true, false, cond, ◌||◌, List, [], ◌∷◌, ◌++◌, map, codes, Option, Some, None, ◌&&◌}
 use Rattle.std.specs.Str.{bytes_eq}
 use Rattle.jc_types.specs.declared.declarations.Access.{Access}
 use Rattle.jc_types.specs.declared.declarations.Access.TheVariants as access
+use Rattle.jc_types.specs.declared.declarations.Owner.{Owner}
+use Rattle.jc_types.specs.declared.declarations.Owner.TheVariants as owner
 use Rattle.jc_types.specs.Names.{named}
 use Rattle.jc_declares.specs.declared.heads.Heads.{Heads}
 use Rattle.jc_declares.specs.declared.heads.ImportHead.{ImportHead}
-use Rattle.jc_declares.specs.Heads.{Named, access_of, unit_package, imports_of, unit_of, package_of, round_of, top_of_class, declared_of, types_of_unit, types_of_package, class_variables}
+use Rattle.jc_declares.specs.Heads.{Named, access_of, is_top, unit_package, imports_of, unit_of, package_of, round_of, top_of_class, declared_of, types_of_unit, types_of_package, class_variables}
 
 pub data Meaning : Type 0 where
   AClass : ℕ → Meaning
@@ -40,6 +42,25 @@ is_number (Some m) n = m == n
 -- a class may be named there: private ones inside of the same type of a unit alone, others that aren't public in the same package
 abbrev pub is_accessible : Heads → Asker → ℕ → Bool
 is_accessible H a c = is_open (access_of H c) (bytes_eq (package_of H c) a.«package») (is_number a.top (top_of_class H c))
+
+-- in the body of class c; and in its head, which is inside of the bodies of the classes round it, and so of none for a type of a unit (JLS 6.6.1: private
+-- members are open in the body of the type of the unit)
+abbrev pub body_asker : Heads → ℕ → Asker
+body_asker H c = record { «package» = package_of H c; top = Some (top_of_class H c) }
+
+abbrev pub head_asker : Heads → ℕ → Asker
+head_asker H c = record { «package» = package_of H c; top = cond (is_top (round_of H c)) None (Some (top_of_class H c)) }
+
+-- each of these classes may be named there
+abbrev pub all_accessible : Heads → Asker → List ℕ → Bool
+all_accessible H a [] = true
+all_accessible H a (c ∷ cs) = is_accessible H a c && all_accessible H a cs
+
+-- a variable of a method may be named wherever it is found; one of a class in that class alone, and not in a static place (JLS 6.3, 8.1.2, 8.5.1)
+abbrev pub is_own : Option Owner → Option ℕ → Bool
+is_own (Some (owner.Method m)) own = true
+is_own (Some (owner.Class c)) own = is_number own c.0
+is_own None own = false
 
 -- ---- canonical names (JLS 6.7)
 

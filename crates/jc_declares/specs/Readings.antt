@@ -6,28 +6,25 @@ use Rattle.jc_declares.specs.declared.heads.MethodPlace.{MethodPlace}
 use Rattle.jc_declares.specs.declared.heads.ScopeHead.{ScopeHead}
 use Rattle.jc_declares.specs.declared.heads.ScopeForm.TheVariants as scope_of
 use Rattle.jc_declares.specs.Sites.{UseSite, BodyPart, OfType, OfClassType, OfDiamond, OfElement, OfVariable}
-use Rattle.jc_declares.specs.Heads.{is_interface, package_of, top_of_class, unit_package, method_variables}
-use Rattle.jc_declares.specs.Looking.{Knowledge, Asker, or_next, one_variable, in_unit, in_body, in_head}
+use Rattle.jc_declares.specs.Heads.{is_interface, unit_package, method_variables}
+use Rattle.jc_declares.specs.Looking.{Knowledge, or_next, one_variable, in_unit, in_body, in_head, body_asker, head_asker}
 use Rattle.jc_declares.specs.Writing.{Reading, Wrote, wrote_type, wrote_class, wrote_base}
-
-abbrev pub asker_in : Heads → ℕ → Asker
-asker_in H c = record { «package» = package_of H c; top = Some (top_of_class H c) }
 
 abbrev pub own_unless : Bool → ℕ → Option ℕ
 own_unless is_static c = cond is_static None (Some c)
 
 -- in the head of class c: the bounds of its parameters, and its supertypes
 abbrev pub head_reading : Heads → Knowledge → ℕ → Reading
-head_reading H K c = record { find = in_head H K c; asker = asker_in H c; own = Some c }
+head_reading H K c = record { find = in_head H K c; asker = head_asker H c; own = Some c }
 
 -- in its body
 abbrev pub body_reading : Heads → Knowledge → ℕ → Bool → Reading
-body_reading H K c is_static = record { find = in_body H K c; asker = asker_in H c; own = own_unless is_static c }
+body_reading H K c is_static = record { find = in_body H K c; asker = body_asker H c; own = own_unless is_static c }
 
 -- in method m of class c: first its own type parameters (JLS 8.4.4)
 abbrev pub method_reading : Heads → Knowledge → ℕ → ℕ → Bool → Reading
 method_reading H K m c is_static =
-    record { find = λ n. or_next (one_variable (named n (method_variables H m))) (in_body H K c n); asker = asker_in H c; own = own_unless is_static c }
+    record { find = λ n. or_next (one_variable (named n (method_variables H m))) (in_body H K c n); asker = body_asker H c; own = own_unless is_static c }
 
 abbrev pub class_of_method : Option MethodPlace → ℕ
 class_of_method (Some m) = m.class

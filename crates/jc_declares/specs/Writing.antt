@@ -9,8 +9,6 @@ use Rattle.jc_tree.specs.declared.types.PrimitiveWord.TheVariants as word
 use Rattle.jc_tree.specs.declared.types.TypeArg.{TypeArg, TypeArg-F, fold-TypeArg}
 use Rattle.jc_tree.specs.declared.types.TypePart.{TypePart, TypePart-F, fold-TypePart}
 use Rattle.jc_tree.specs.declared.types.TypeTree.{TypeTree, TypeTree-F, fold-TypeTree}
-use Rattle.jc_types.specs.declared.declarations.Owner.{Owner}
-use Rattle.jc_types.specs.declared.declarations.Owner.TheVariants as owner
 use Rattle.jc_types.specs.declared.form.Arg.{Arg}
 use Rattle.jc_types.specs.declared.form.Arg.TheVariants as arg
 use Rattle.jc_types.specs.declared.form.Primitive.{Primitive}
@@ -20,9 +18,8 @@ use Rattle.jc_types.specs.declared.form.Ty.TheVariants.{Prim, Class, Raw, Variab
 use Rattle.jc_types.specs.Arrays.{array_over}
 use Rattle.jc_declares.specs.declared.heads.Heads.{Heads}
 use Rattle.jc_declares.specs.Heads.{class_variables, owner_of}
-use Rattle.jc_declares.specs.Looking.{AClass, AVariable, Look, Knowledge, Asker, is_number, look_up}
+use Rattle.jc_declares.specs.Looking.{AClass, AVariable, Look, Knowledge, Asker, look_up, all_accessible, is_own}
 use Rattle.jc_declares.specs.Knowing.{passed_all}
-use Rattle.jc_declares.specs.HeadBreaks.{all_accessible}
 
 -- Where a type is written: how a simple name is looked up there, who asks, and the class whose type variables may be named, which a static place has not.
 pub record Reading : Type 0 where
@@ -103,12 +100,6 @@ abbrev pub early_args : WrotePart → List WrotePart → List Broken
 early_args p [] = []
 early_args p (q ∷ qs) = cond (is_empty p.args) [] (record { rule = 302; at = p.name.at } ∷ []) ++ early_args q qs
 
--- a variable of a method is in scope wherever it is found; one of a class in that class alone, and not in a static place (JLS 6.3, 8.1.2, 8.5.1)
-abbrev pub is_own : Option Owner → Option ℕ → Bool
-is_own (Some (owner.Method m)) own = true
-is_own (Some (owner.Class c)) own = is_number own c.0
-is_own None own = false
-
 abbrev pub variable_broken : Bool → Bool → ℕ → List Broken
 variable_broken true true at = []
 variable_broken true false at = record { rule = 302; at = at } ∷ []
@@ -123,16 +114,17 @@ meaning_broken H r (Some (AClass c ∷ [])) without_args at = []
 meaning_broken H r (Some (AVariable v ∷ [])) without_args at = variable_broken (is_own (owner_of H v) r.own) without_args at
 meaning_broken H r (Some (m ∷ n ∷ ms)) without_args at = record { rule = 303; at = at } ∷ []
 
--- each class that it names may be named there (JLS 6.6)
-abbrev pub access_broken : Bool → ℕ → List Broken
-access_broken true at = []
-access_broken false at = record { rule = 310; at = at } ∷ []
+-- where one of the classes that it names can't be named there (310), nothing else is asked of a name (JLS 6.6)
+abbrev pub if_accessible : Bool → List Broken → ℕ → List Broken
+if_accessible true broken at = broken
+if_accessible false broken at = record { rule = 310; at = at } ∷ []
 
 abbrev pub name_broken : Heads → Knowledge → Reading → WrotePart → List WrotePart → List Broken
 name_broken H K r first more =
     let look : Look = look_up H K r.find (name_of_part first) (map name_of_part more) in
-    meaning_broken H r look (is_empty (last_args first more)) first.name.at
-    ++ access_broken (all_accessible H r.asker (passed_all H K (name_of_part first) (map name_of_part more) (r.find (name_of_part first)))) first.name.at
+    if_accessible (all_accessible H r.asker (passed_all H K (name_of_part first) (map name_of_part more) (r.find (name_of_part first))))
+    (meaning_broken H r look (is_empty (last_args first more)) first.name.at)
+    first.name.at
     ++ early_args first more
 
 abbrev pub args_in : List WroteArg → List Arg

@@ -2,9 +2,9 @@
 ghost use Rattle.std.specs.Prelude.{◌≡◌, IfOk, map, ◌∷◌};
 ghost use Rattle.jc_tree.specs.Offsets.{first_offset_of_head, first_offset_of_modifier, modifiers_first};
 ghost use Rattle.jc_declares.specs.Sites.{is_interface_head, params_of_head};
-ghost use Rattle.jc_declares.specs.Heads.{name_in_head, modifiers_in_head, kind_of_head, superclass_trees, interface_trees, path_of_class, class_head};
+ghost use Rattle.jc_declares.specs.Heads.{is_top, name_in_head, modifiers_in_head, kind_of_head, superclass_trees, interface_trees, path_of_class, class_head};
 
-use crate::marks::{access_with, says};
+use crate::marks::{access_of_type, says};
 use crate::paths::{path_of_class, paths};
 use jc_declares::{ClassHead, Path, Standing};
 use jc_rules::{Items, WantOfMemory};
@@ -19,6 +19,16 @@ pub fn is_interface_head(head: &DeclarationHead) -> bool
         DeclarationHead::Class { .. } => false,
         DeclarationHead::Interface { .. } => true,
         DeclarationHead::Annotation { .. } => true,
+    }
+}
+
+/// Whether what is declared is a member of no class.
+fn is_top(round: &[u64]) -> bool
+    ensures { result ≡ is_top round.now }
+{
+    match round.first() {
+        Some(_) => false,
+        None => true,
     }
 }
 
@@ -172,7 +182,7 @@ pub fn class_head(
         scope,
         name: copy_text(alloc, &name_in_head(head).text)?,
         kind: kind_of_head(head),
-        access: access_with(at.of_interface, modifiers),
+        access: access_of_type(is_top(at.round.slice()), at.of_interface, modifiers),
         is_final: says(ModifierWord::Final, modifiers),
         superclass: superclass(alloc, head)?,
         interfaces: paths(alloc, interface_trees(head))?,

@@ -1,7 +1,7 @@
 // The words among modifiers, and what they say of access.
 ghost use Rattle.std.specs.Prelude.{◌≡◌};
 ghost use Rattle.jc_declares.specs.Words.{same_word, is_word, says};
-ghost use Rattle.jc_declares.specs.Heads.{written_access, access_with};
+ghost use Rattle.jc_declares.specs.Heads.{written_access, access_with, access_of_type};
 
 use jc_tree::{Modifier, ModifierWord};
 use jc_types::Access;
@@ -60,12 +60,26 @@ fn written_access(modifiers: &[Modifier]) -> Access
 }
 
 /// The access of a declaration, where members of interfaces are public (JLS 9.3 to 9.5).
-pub fn access_with(of_interface: bool, modifiers: &[Modifier]) -> Access
+fn access_with(of_interface: bool, modifiers: &[Modifier]) -> Access
     ensures { result ≡ access_with of_interface modifiers.now }
 {
     if of_interface {
         Access::Public
     } else {
         written_access(modifiers)
+    }
+}
+
+/// The access of a type, where one that is a member of no class is public, or else open to its package (JLS 6.6.1).
+pub fn access_of_type(is_top: bool, of_interface: bool, modifiers: &[Modifier]) -> Access
+    ensures { result ≡ access_of_type is_top of_interface modifiers.now }
+{
+    if !is_top {
+        return access_with(of_interface, modifiers);
+    }
+    if says(ModifierWord::Public, modifiers) {
+        Access::Public
+    } else {
+        Access::Package
     }
 }
