@@ -1,0 +1,129 @@
+-- The broken rules of names (301 to 311), each with the node at which it stands: those that the heads tell, modifiers (309), and the names of written types
+-- (302, 303, 310, 311).
+use Rattle.std.specs.Prelude.{ℕ, ◌⊎◌, Bool, not, ◌||◌, List, [], ◌∷◌, ◌++◌, Option, Some, None}
+use Rattle.jc_rules.specs.declared.rule.Refusal.{Refusal}
+use Rattle.jc_tree.specs.declared.statement.Formal.{Formal}
+use Rattle.jc_tree.specs.declared.statement.ResultType.{ResultType}
+use Rattle.jc_tree.specs.declared.statement.ResultType.TheVariants as result_of
+use Rattle.jc_tree.specs.declared.statement.TypeParam.{TypeParam}
+use Rattle.jc_tree.specs.declared.types.ClassTree.{ClassTree}
+use Rattle.jc_tree.specs.Offsets.{first_offset_of_head, first_offset_of_method, first_offset_of_locals, first_offset_of_formal}
+use Rattle.jc_types.specs.Breaks.{IsOf}
+use Rattle.jc_declares.specs.declared.heads.Heads.{Heads}
+use Rattle.jc_declares.specs.Words.{says_static}
+use Rattle.jc_declares.specs.Sites.{Sites, ClassSite, MethodSite, FieldSite, UseSite, BodyPart, OfType, OfClassType, OfDiamond, OfElement, OfVariable, MethodForm, Headed, ImpliedConstructor, StaticInitialiser, is_interface_head, listed_params, params_of_head}
+use Rattle.jc_declares.specs.Heads.{heads_of, modifiers_in_head, superclass_trees, interface_trees, is_top, is_interface}
+use Rattle.jc_declares.specs.Modifiers.{class_modifiers_fit, field_modifiers_fit, method_modifiers_fit, local_modifiers_fit}
+use Rattle.jc_declares.specs.Looking.{Knowledge}
+use Rattle.jc_declares.specs.Knowing.{known}
+use Rattle.jc_declares.specs.Writing.{Broken, Wrote, Reading, wrote_class, wrote_type}
+use Rattle.jc_declares.specs.Readings.{head_reading, body_reading, method_reading, wrote_in_use}
+use Rattle.jc_declares.specs.HeadBreaks.{broken_at, unless, of_each, class_file, head_breaks, IsCycle}
+
+abbrev pub in_file : ℕ → List Broken → List Refusal
+in_file file [] = []
+in_file file (b ∷ bs) = broken_at b.rule file b.at ++ in_file file bs
+
+-- ---- 309: modifiers
+
+abbrev pub class_modifier_breaks : ClassSite → List Refusal
+class_modifier_breaks s =
+    unless (class_modifiers_fit (is_interface_head s.head) (not (is_top s.round)) s.of_interface (modifiers_in_head s.head)) (broken_at 309 s.file (first_offset_of_head s.head))
+
+abbrev pub field_modifier_breaks : Heads → FieldSite → List Refusal
+field_modifier_breaks H f =
+    unless (field_modifiers_fit (is_interface H f.class) f.vars.modifiers) (broken_at 309 (class_file H f.class) (first_offset_of_locals f.vars))
+
+abbrev pub formal_modifier_breaks : ℕ → List Formal → List Refusal
+formal_modifier_breaks file [] = []
+formal_modifier_breaks file (f ∷ fs) = unless (local_modifiers_fit f.modifiers) (broken_at 309 file (first_offset_of_formal f)) ++ formal_modifier_breaks file fs
+
+abbrev pub method_modifier_breaks : Heads → ℕ → MethodForm → List Refusal
+method_modifier_breaks H c (Headed head has_block) =
+    unless (method_modifiers_fit (is_interface H c) head) (broken_at 309 (class_file H c) (first_offset_of_method head))
+    ++ formal_modifier_breaks (class_file H c) head.formals
+method_modifier_breaks H c ImpliedConstructor = []
+method_modifier_breaks H c StaticInitialiser = []
+
+abbrev pub local_modifier_breaks : ℕ → BodyPart → List Refusal
+local_modifier_breaks file (OfVariable modifiers at) = unless (local_modifiers_fit modifiers) (broken_at 309 file at)
+local_modifier_breaks file (OfType t) = []
+local_modifier_breaks file (OfClassType t) = []
+local_modifier_breaks file (OfDiamond t) = []
+local_modifier_breaks file (OfElement t) = []
+
+-- ---- 302, 303, 310 and 311: the names of written types
+
+abbrev pub class_trees_broken : Heads → Knowledge → Reading → List ClassTree → List Broken
+class_trees_broken H K r [] = []
+class_trees_broken H K r (t ∷ ts) = (wrote_class H K r t).broken ++ class_trees_broken H K r ts
+
+abbrev pub bounds_broken : Heads → Knowledge → Reading → List TypeParam → List Broken
+bounds_broken H K r [] = []
+bounds_broken H K r (p ∷ ps) = class_trees_broken H K r p.bounds ++ bounds_broken H K r ps
+
+-- of the head of class c
+abbrev pub class_broken : Heads → Knowledge → ℕ → ClassSite → List Refusal
+class_broken H K c s =
+    let r : Reading = head_reading H K c in
+    in_file s.file (bounds_broken H K r (params_of_head s.head) ++ class_trees_broken H K r (superclass_trees s.head) ++ class_trees_broken H K r (interface_trees s.head))
+
+abbrev pub formals_broken : Heads → Knowledge → Reading → List Formal → List Broken
+formals_broken H K r [] = []
+formals_broken H K r (f ∷ fs) = (wrote_type H K r f.ty).broken ++ formals_broken H K r fs
+
+abbrev pub result_broken : Heads → Knowledge → Reading → Option ResultType → List Broken
+result_broken H K r None = []
+result_broken H K r (Some (result_of.Void at)) = []
+result_broken H K r (Some (result_of.Type t)) = (wrote_type H K r t).broken
+
+-- of the head of method m of class c
+abbrev pub method_broken : Heads → Knowledge → ℕ → ℕ → MethodForm → List Refusal
+method_broken H K m c (Headed head has_block) =
+    let r : Reading = method_reading H K m c (says_static head.modifiers) in
+    in_file (class_file H c)
+    (bounds_broken H K r (listed_params head.params) ++ result_broken H K r head.result ++ formals_broken H K r head.formals ++ class_trees_broken H K r head.throws)
+method_broken H K m c ImpliedConstructor = []
+method_broken H K m c StaticInitialiser = []
+
+-- static fields, and those of interfaces, stand in a static place
+abbrev pub is_static_field : Heads → FieldSite → Bool
+is_static_field H f = is_interface H f.class || says_static f.vars.modifiers
+
+-- of a field's type
+abbrev pub field_broken : Heads → Knowledge → FieldSite → List Refusal
+field_broken H K f = in_file (class_file H f.class) (wrote_type H K (body_reading H K f.class (is_static_field H f)) f.vars.ty).broken
+
+abbrev pub wrotes_broken : List Wrote → List Broken
+wrotes_broken [] = []
+wrotes_broken (w ∷ ws) = w.broken ++ wrotes_broken ws
+
+abbrev pub use_broken : Heads → Knowledge → UseSite → List Refusal
+use_broken H K u = in_file (class_file H u.class) (wrotes_broken (wrote_in_use H K u))
+
+-- ---- all of them
+
+abbrev pub class_site_breaks : Heads → Knowledge → ℕ → ClassSite → List Refusal
+class_site_breaks H K c s = class_modifier_breaks s ++ class_broken H K c s
+
+abbrev pub method_site_breaks : Heads → Knowledge → ℕ → MethodSite → List Refusal
+method_site_breaks H K m s = method_modifier_breaks H s.class s.form ++ method_broken H K m s.class s.form
+
+abbrev pub field_site_breaks : Heads → Knowledge → ℕ → FieldSite → List Refusal
+field_site_breaks H K k f = field_modifier_breaks H f ++ field_broken H K f
+
+abbrev pub use_site_breaks : Heads → Knowledge → ℕ → UseSite → List Refusal
+use_site_breaks H K k u = local_modifier_breaks (class_file H u.class) u.part ++ use_broken H K u
+
+abbrev pub site_breaks : Sites → Heads → Knowledge → List Refusal
+site_breaks S H K =
+    of_each (class_site_breaks H K) 0 S.classes ++ of_each (method_site_breaks H K) 0 S.methods ++ of_each (field_site_breaks H K) 0 S.fields
+    ++ of_each (use_site_breaks H K) 0 S.uses
+
+-- all but the cycles
+abbrev pub listed_breaks : Sites → Heads → Knowledge → List Refusal
+listed_breaks S H K = head_breaks H K ++ site_breaks S H K
+
+-- the broken rules of names in these sources
+abbrev pub BreaksNames : Sites → Refusal → Type 0
+BreaksNames S b = IsOf b (listed_breaks S (heads_of S) (known (heads_of S))) ⊎ IsCycle (heads_of S) b

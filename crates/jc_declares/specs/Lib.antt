@@ -1,0 +1,12 @@
+pub mod Words
+pub mod Sites
+pub mod Heads
+pub mod Modifiers
+pub mod Looking
+pub mod Knowing
+pub mod HeadBreaks
+pub mod Writing
+pub mod Readings
+pub mod Breaks
+pub mod Constants
+pub mod Making

@@ -1,0 +1,7 @@
+use Rattle.std.proofs.Common.{◌≡◌, drop, map}
+use Rattle.std.specs.Prelude.{◌||◌, ◌&&◌}
+use Rattle.jc_declares.specs.Sites.{Membered, membered, some_of}
+use Rattle.jc_heads.proofs.members.some_static.Given as goal
+
+abbrev pub invariant-loop-member : goal.invariant-loop-member
+invariant-loop-member l = some_of (λ (m : Membered). m.is_static_part || (l.is_interface && m.is_field)) (map membered (drop l.member-index l.members)) ≡ some_of (λ (m : Membered). m.is_static_part || (l.is_interface && m.is_field)) (map membered l.members)

@@ -1,0 +1,2 @@
+pub mod SpacesNoted
+pub mod Indexed

@@ -1,0 +1,50 @@
+-- An index of the heads of declarations: the member types of classes, the types of units, and the type parameters of classes and methods.
+use Rattle.std.specs.Prelude.{◌≡◌, ◌<◌, ℕ, List, [], ◌∷◌, length, Option, Some, None}
+use Rattle.jc_types.specs.declared.declarations.Owner.{Owner}
+use Rattle.jc_types.specs.declared.declarations.Owner.TheVariants as owner
+use Rattle.jc_types.specs.Names.{named}
+use Rattle.jc_declares.specs.declared.heads.ClassHead.{ClassHead}
+use Rattle.jc_declares.specs.declared.heads.Heads.{Heads}
+use Rattle.jc_declares.specs.declared.heads.VariableHead.{VariableHead}
+use Rattle.jc_declares.specs.Heads.{declared_of, types_of_unit, class_variables, method_variables}
+use Rattle.jc_name_index.specs.Spaces.{space_named}
+use Rattle.jc_name_index.specs.declared.index.Index.{Index}
+
+-- ---- where each declaration is noted, and under which name
+
+abbrev pub inside_first : List ℕ → List ℕ → Option (ℕ × List ℕ)
+inside_first [] name = None
+inside_first (c ∷ round) name = Some (c, name)
+
+-- a member type in its class
+abbrev pub as_member : ClassHead → Option (ℕ × List ℕ)
+as_member c = inside_first c.round c.name
+
+abbrev pub outside_all : List ℕ → ℕ → List ℕ → Option (ℕ × List ℕ)
+outside_all [] unit name = Some (unit, name)
+outside_all (c ∷ round) unit name = None
+
+-- a type of a unit in that
+abbrev pub as_top : ClassHead → Option (ℕ × List ℕ)
+as_top c = outside_all c.round c.unit c.name
+
+abbrev pub of_class : Owner → List ℕ → Option (ℕ × List ℕ)
+of_class (owner.Class c) name = Some (c.0, name)
+of_class (owner.Method m) name = None
+
+abbrev pub of_method : Owner → List ℕ → Option (ℕ × List ℕ)
+of_method (owner.Class c) name = None
+of_method (owner.Method m) name = Some (m.0, name)
+
+abbrev pub as_class_variable : VariableHead → Option (ℕ × List ℕ)
+as_class_variable v = of_class v.owner v.name
+
+abbrev pub as_method_variable : VariableHead → Option (ℕ × List ℕ)
+as_method_variable v = of_method v.owner v.name
+
+-- ---- what an index promises: in each space the first of each name
+pub record IsIndex (H : Heads) (I : Index) : Type 0 where
+  pub members : (c : ℕ) (n : List ℕ) → c < length H.classes → space_named I.members c n ≡ named n (declared_of H c)
+  pub tops : (u : ℕ) (n : List ℕ) → u < length H.units → space_named I.tops u n ≡ named n (types_of_unit H u)
+  pub class_variables : (c : ℕ) (n : List ℕ) → c < length H.classes → space_named I.class_variables c n ≡ named n (class_variables H c)
+  pub method_variables : (m : ℕ) (n : List ℕ) → m < length H.methods → space_named I.method_variables m n ≡ named n (method_variables H m)

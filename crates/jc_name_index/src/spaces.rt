@@ -1,0 +1,75 @@
+//! Names in numbered spaces.
+ghost use Rattle.std.specs.Prelude.{◌≡◌, ◌∷◌, [], ℕ, IfOk, OnOk, replicate};
+ghost use Rattle.jc_types.specs.Names.{named};
+ghost use Rattle.jc_name_index.specs.Spaces.{space_named, noted, with_first};
+
+use jc_rules::{Text, WantOfMemory};
+use jc_types::Names;
+use std::alloc::Global;
+use std::marker::Model;
+
+/// Of each number some names, each with its first place.
+#[derive(Drop)]
+pub struct Spaces {
+    spaces: Vec<Names>,
+}
+
+impl Model for Spaces {
+    ghost use Rattle.std.specs.Prelude.{ℕ, List};
+    ghost use Rattle.std.specs.Coded.{coded_list, coded_ℕ, coded×};
+
+    ghost Value = { List (List (List ℕ × ℕ)) };
+
+    ghost coded = { coded_list (coded_list (coded× (coded_list coded_ℕ) coded_ℕ)) };
+
+    ghost view = { λ s. s.spaces.items };
+}
+
+/// Adds a name to others, unless it is there.
+fn add_first(alloc: Global, names: &mut Names, name: &Text, place: u64) -> Result<(), WantOfMemory>
+    ensures { OnOk result (names.new ≡ with_first name.now place names.old) }
+{
+    if names.find(name.str()).is_some() {
+        return Ok(());
+    }
+    names.add(String::from_str(alloc, name.str())?, place)
+}
+
+impl Spaces {
+    /// So many spaces without a name.
+    pub fn new(alloc: Global, count: usize) -> Result<Spaces, WantOfMemory>
+        ensures { IfOk result (λ it. it ≡ replicate count []) }
+    {
+        let mut spaces = Vec::new(alloc);
+        for _ in 0..count {
+            spaces.push(Names::new(alloc))?;
+        }
+        Ok(Spaces { spaces })
+    }
+
+    /// The first place that was noted for a name in a space.
+    pub fn find(&self, space: u64, name: &str) -> Option<u64>
+        ensures { result ≡ space_named self.now space name.now }
+    {
+        match self.spaces.get(space as usize) {
+            Some(names) => names.find(name),
+            None => None,
+        }
+    }
+
+    /// Notes a name in a space, unless it is there. No space is made.
+    pub fn note(
+        &mut self,
+        alloc: Global,
+        space: u64,
+        name: &Text,
+        place: u64,
+    ) -> Result<(), WantOfMemory>
+        ensures { OnOk result (self.new ≡ noted space name.now place self.old) }
+    {
+        match self.spaces.get_mut(space as usize) {
+            Some(names) => add_first(alloc, names, name, place),
+            None => Ok(()),
+        }
+    }
+}
