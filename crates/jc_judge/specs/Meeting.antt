@@ -1,5 +1,5 @@
 -- The greatest lower bound of types (JLS 5.1.10), and when two classes meet in it.
-use Rattle.std.specs.Prelude.{◌||◌, ◌&&◌, not, nat_lt, Bool, true, false, Option, Some, None, is_none, List, [], ◌∷◌, ◌++◌, length, filter, if◌then◌else◌}
+use Rattle.std.specs.Prelude.{ℕ, ◌+◌, ◌||◌, ◌&&◌, not, nat_lt, Bool, true, false, Option, Some, None, is_none, List, [], ◌∷◌, ◌++◌, length, filter, if◌then◌else◌}
 use Rattle.jc_types.specs.declared.form.Ty.{Ty, Ty-F, out-Ty}
 use Rattle.jc_types.specs.declared.form.Ty.TheVariants.{Class, Meet}
 use Rattle.jc_types.specs.declared.form.Arg.{Arg, Arg-F, out-Arg}
@@ -98,3 +98,22 @@ clashes T t (u ∷ us) = clash T t u || clashes T t us
 abbrev pub classes_meet : Table → List Ty → Bool
 classes_meet T [] = false
 classes_meet T (t ∷ ts) = clashes T t ts || classes_meet T ts
+
+abbrev pub clashes_before : Table → List Ty → Ty → Bool
+clashes_before T [] t = false
+clashes_before T (e ∷ earlier) t = clash T e t || clashes_before T earlier t
+
+abbrev pub brings_clash : Table → List Ty → List Ty → Bool
+brings_clash T earlier [] = false
+brings_clash T earlier (t ∷ ts) = clashes_before T earlier t || brings_clash T (earlier ++ t ∷ []) ts
+
+-- the place of the first of these types with a class that is unrelated to an earlier one, where the places are counted from i, and
+-- the parts of an intersection stand for it (JLS 5.1.10)
+abbrev pub unrelated_from : Table → List Ty → ℕ → List Ty → Option ℕ
+unrelated_from T earlier i [] = None
+unrelated_from T earlier i (t ∷ ts) =
+    let parts = parts_at t (out-Ty t) in if brings_clash T earlier parts then Some i else unrelated_from T (earlier ++ parts) (i + 1) ts
+
+-- the place at which two unrelated classes meet in a greatest lower bound
+unfoldable pub unrelated : Table → List Ty → Option ℕ
+unrelated T ts = unrelated_from T [] 0 ts

@@ -1,5 +1,5 @@
-/// Why a type has no capture: at the argument `i` and at no earlier one, counted from 0, two classes of which neither is a
-/// subclass of the other meet in a bound (JLS 5.1.10).
+/// Why a type has no capture, or types have no greatest lower bound: at the argument or type `i` and at no earlier one, counted
+/// from 0, two classes of which neither is a subclass of the other meet (JLS 5.1.10).
 #[derive(Clone, Copy, Debug, PartialEq, Eq, Hash)]
 pub enum CaptureFault {
     ClassesMeet { i: u64 },

@@ -2,9 +2,10 @@
 #![tactic(auto)]
 
 use jc_rules::{Items, Place, Text, WantOfMemory};
+use jc_tables::{empty_table, push_class, push_scope, push_variable};
 use jc_types::{
-    Access, Arg, ClassDecl, ClassId, Kind, Modifiers, Names, Owner, Primitive, ScopeId, Table, Ty,
-    VarId, VariableDecl, WrittenTypes, array_over,
+    Access, Arg, ClassDecl, ClassId, Kind, Modifiers, Names, Owner, Primitive, Scope, ScopeId,
+    ScopeOf, Table, Ty, TypePlaces, VarId, VariableDecl, WrittenTypes, array_over,
 };
 use std::alloc::Global;
 
@@ -109,7 +110,7 @@ fn push_letter(
         b'0'..=b'6' => stack.push(Arg::Exact(simple(letter))),
         b'a'..=b'n' => stack.push(Arg::Exact(Ty::Variable(VarId((letter - b'a') as u64)))),
         b't'..=b'w' => stack.push(Arg::Exact(Ty::Variable(VarId((letter - b't') as u64 + 14)))),
-        _ => push_class(alloc, letter, raw, stack),
+        _ => push_class_type(alloc, letter, raw, stack),
     }
 }
 
@@ -125,7 +126,7 @@ fn simple(letter: u8) -> Ty {
     }
 }
 
-fn push_class(
+fn push_class_type(
     alloc: Global,
     letter: u8,
     raw: bool,
@@ -162,15 +163,23 @@ fn one_type(alloc: Global, text: &[u8]) -> Result<WrittenTypes, WantOfMemory> {
     let mut stack = Items::new(alloc);
     push_all(alloc, text, &mut stack)?;
     let mut types = Items::new(alloc);
+    let mut places = Items::new(alloc);
     for arg in stack.into_vec() {
         if let Arg::Exact(t) = arg {
             types.push(t)?;
+            places.push(TypePlaces {
+                first: NOWHERE,
+                classes: Items::new(alloc),
+            })?;
         }
     }
-    Ok(WrittenTypes {
-        types,
-        places: Items::new(alloc),
-    })
+    Ok(WrittenTypes { types, places })
+}
+
+fn named(alloc: Global, letter: u8) -> Result<Text, WantOfMemory> {
+    let mut name = String::new(alloc);
+    name.push(letter as char)?;
+    Ok(Text::of(name))
 }
 
 fn class(alloc: Global, letter: u8) -> Result<ClassDecl, WantOfMemory> {
@@ -185,8 +194,8 @@ fn class(alloc: Global, letter: u8) -> Result<ClassDecl, WantOfMemory> {
     };
     Ok(ClassDecl {
         place: NOWHERE,
-        name: Text::of(String::new(alloc)),
-        binary: Text::of(String::new(alloc)),
+        name: named(alloc, letter)?,
+        binary: named(alloc, letter)?,
         package: Text::of(String::new(alloc)),
         outer: None,
         members: Items::new(alloc),
@@ -209,28 +218,32 @@ fn class(alloc: Global, letter: u8) -> Result<ClassDecl, WantOfMemory> {
     })
 }
 
+fn scope(alloc: Global) -> Scope {
+    Scope {
+        outer: None,
+        of: ScopeOf::Unit {
+            own: Names::new(alloc),
+            package: Text::of(String::new(alloc)),
+            demands: Items::new(alloc),
+        },
+    }
+}
+
 /// A table with the classes of java.lang and java.util that tests speak of, and some with bounds that are hard to meet.
 pub fn library(alloc: Global) -> Result<Table, WantOfMemory> {
-    let mut classes = Items::new(alloc);
+    let mut table = empty_table(alloc);
+    push_scope(&mut table, scope(alloc))?;
     for letter in LETTERS {
-        classes.push(class(alloc, *letter)?)?;
+        push_class(alloc, &mut table, class(alloc, *letter)?)?;
     }
-    let mut variables = Items::new(alloc);
     for bound in BOUNDS {
-        variables.push(VariableDecl {
+        let variable = VariableDecl {
             place: NOWHERE,
             name: Text::of(String::new(alloc)),
             owner: Owner::Class(ClassId(0)),
             bounds: one_type(alloc, bound)?,
-        })?;
+        };
+        push_variable(&mut table, variable)?;
     }
-    Ok(Table {
-        classes,
-        methods: Items::new(alloc),
-        fields: Items::new(alloc),
-        variables,
-        scopes: Items::new(alloc),
-        uses: Items::new(alloc),
-        index: Names::new(alloc),
-    })
+    Ok(table)
 }

@@ -1,5 +1,7 @@
 mod Decided
 mod Joined
 mod Kept
+mod Passed
 mod Reached
+mod Single
 mod Ups

@@ -1,8 +1,11 @@
 -- Ways from a class up to another one, and the supertypes along them.
 use Rattle.std.specs.Prelude.{◌≡◌, ◌≢◌, ℕ, ◌==◌, Option, Some, None, List, [], ◌∷◌, length, take, slice_get, if◌then◌else◌}
-use Rattle.jc_types.specs.declared.form.Ty.{Ty}
+use Rattle.jc_types.specs.declared.form.Ty.{Ty, Ty-F, out-Ty}
+use Rattle.jc_types.specs.declared.form.Ty.TheVariants.{Class, Variable}
 use Rattle.jc_types.specs.declared.form.Arg.{Arg}
+use Rattle.jc_types.specs.declared.form.Arg.TheVariants.{Exact}
 use Rattle.jc_types.specs.declared.ids.ClassId.{ClassId}
+use Rattle.jc_types.specs.declared.ids.VarId.{VarId}
 use Rattle.jc_types.specs.declared.table.Table.{Table}
 use Rattle.jc_types.specs.Substitution.{subst}
 use Rattle.jc_types.specs.Accessors.{vars_of, supers_of}
@@ -74,3 +77,15 @@ and_then (Some t) f = f t
 abbrev pub follow : Table → List Turn → Ty → Option Ty
 follow T [] t = Some t
 follow T (f ∷ fs) t = and_then (slice_get (supers T t) f.next) (follow T fs)
+
+-- a parameter as an argument
+abbrev pub own_arg : VarId → Arg
+own_arg v = Exact (Variable v)
+
+abbrev pub renamed_at : ClassId → Ty → Ty-F Arg Ty → Ty
+renamed_at k t (Ty-F.Class id args) = Class k args
+renamed_at k t _ = t
+
+-- a class type with another class
+unfoldable pub renamed : ClassId → Ty → Ty
+renamed k t = renamed_at k t (out-Ty t)

@@ -1,5 +1,6 @@
 ghost use Rattle.std.specs.Prelude.{◌≡◌, ◌↔◌, IfOk};
 ghost use Rattle.jc_judge.specs.Trees.{Proof, Refute, Contains, Excludes};
+ghost use Rattle.jc_judge.specs.Deciding.{answer_of, contained_answer};
 
 use crate::answering::{below_at, part_answer};
 use crate::containing::contained_part;
@@ -22,6 +23,7 @@ pub fn below(
 ) -> Result<Answer, WantOfMemory>
     ensures yes { IfOk result (λ a. (a ≡ Answer.Yes) ↔ Proof table.now 64 env.now.bounds s.now t.now) }
     ensures no { IfOk result (λ a. (a ≡ Answer.No) ↔ Refute table.now 64 env.now.bounds s.now t.now) }
+    ensures answer { IfOk result (λ a. a ≡ answer_of table.now 64 env.now.bounds s.now t.now) }
 {
     let mut fresh = Items::new(alloc);
     below_at(
@@ -45,6 +47,7 @@ pub fn contained(
 ) -> Result<Answer, WantOfMemory>
     ensures yes { IfOk result (λ r. (r ≡ Answer.Yes) ↔ Contains table.now 64 env.now.bounds a.now b.now) }
     ensures no { IfOk result (λ r. (r ≡ Answer.No) ↔ Excludes table.now 64 env.now.bounds a.now b.now) }
+    ensures answer { IfOk result (λ r. r ≡ contained_answer table.now 64 env.now.bounds a.now b.now) }
 {
     let mut fresh = Items::new(alloc);
     let part = contained_part(alloc, a, b)?;

@@ -1,6 +1,7 @@
-ghost use Rattle.std.specs.Prelude.{◌≡◌, ◌+◌, ◌++◌, ◌∷◌, [], map, length, None, IfOk, IfErr, OnOk, OnErr};
+ghost use Rattle.std.specs.Prelude.{◌≡◌, ◌+◌, ◌++◌, ◌∷◌, [], true, map, length, None, IfOk, IfErr, OnOk, OnErr};
 ghost use Rattle.jc_types.specs.declared.form.Arg.{out-Arg};
 ghost use Rattle.jc_types.specs.declared.form.Arg.TheVariants.{Exact};
+ghost use Rattle.jc_types.specs.Substitution.{is_row};
 ghost use Rattle.jc_judge.specs.Meeting.{glb};
 ghost use Rattle.jc_judge.specs.Capturing.{capture, capture_one, capture_parts, captured_args, fresh_args, fresh_at, put_bounds, meets_at, first_meeting, meeting, meeting_one, meeting_parts, bounded, captured_at, next_at, IsCaptureStop};
 
@@ -9,7 +10,7 @@ use jc_judge::CaptureFault;
 use jc_rules::{Items, Stop, WantOfMemory};
 use jc_types::{
     Arg, Bounds, CaptureId, ClassId, Env, Table, Ty, VarId, class_vars, copy_type, copy_types,
-    declared_bounds, substitute_all,
+    declared_bounds, is_row, substitute_all,
 };
 use std::alloc::Global;
 
@@ -199,8 +200,8 @@ fn push_one_captured(
     }
 }
 
-// A number of variables, and some more. No memory holds as many as would overflow.
-fn moved_on(start: u64, more: usize) -> Result<u64, WantOfMemory>
+/// A number, and some more. No memory holds as many as would overflow.
+pub fn moved_on(start: u64, more: usize) -> Result<u64, WantOfMemory>
     ensures { IfOk result (λ n. n ≡ start + more) }
 {
     match start.checked_add(more as u64) {
@@ -220,18 +221,21 @@ fn all_exact(alloc: Global, types: &[Ty]) -> Result<Items<Arg>, WantOfMemory>
     Ok(out)
 }
 
-/// The declared bounds of a parameter, with the types `by` for the parameters `vars`.
+/// The declared bounds of a parameter, with the types `by` for the parameters `vars`, of which `row` tells whether they are known
+/// to be a row.
 pub fn put_bounds(
     alloc: Global,
     table: &Table,
     vars: &[VarId],
     by: &[Ty],
+    row: bool,
     param: VarId,
 ) -> Result<Items<Ty>, WantOfMemory>
-    requires { length vars.now ≡ length by.now }
+    requires same { length vars.now ≡ length by.now }
+    requires row { row ≡ true → is_row vars.now ≡ true }
     ensures { IfOk result (λ r. r ≡ put_bounds table.now vars.now by.now param) }
 {
-    substitute_all(alloc, declared_bounds(table, param), vars, by)
+    substitute_all(alloc, declared_bounds(table, param), vars, by, row)
 }
 
 /// The bounds of the fresh variables of a class type with these arguments, of which `by` stands for the parameters `vars`.
@@ -262,13 +266,14 @@ fn push_fresh(
     requires { length vars.now ≡ length by.now }
     ensures { OnOk result (out.new ≡ out.old ++ fresh_args table.now vars.now by.now params.now args.now) }
 {
+    let row = is_row(vars);
     let mut left = params;
     let mut rest = args;
     while let [param, others @ ..] = left {
         match rest {
             [] => return Ok(()),
             [arg, more @ ..] => {
-                push_bounds(alloc, table, vars, by, *param, arg, out)?;
+                push_bounds(alloc, table, vars, by, row, *param, arg, out)?;
                 rest = more;
             }
         }
@@ -283,26 +288,28 @@ fn push_bounds(
     table: &Table,
     vars: &[VarId],
     by: &[Ty],
+    row: bool,
     param: VarId,
     arg: &Arg,
     out: &mut Items<Bounds>,
 ) -> Result<(), WantOfMemory>
-    requires { length vars.now ≡ length by.now }
+    requires same { length vars.now ≡ length by.now }
+    requires row { row ≡ true → is_row vars.now ≡ true }
     ensures { OnOk result (out.new ≡ out.old ++ fresh_at table.now (put_bounds table.now vars.now by.now param) (out-Arg arg.now)) }
 {
     match arg {
         Arg::Exact(_) => Ok(()),
         Arg::Any => {
-            let bounds = put_bounds(alloc, table, vars, by, param)?;
+            let bounds = put_bounds(alloc, table, vars, by, row, param)?;
             out.push(bounded(alloc, table, bounds.slice(), None)?)
         }
         Arg::Extends(upper) => {
-            let bounds = put_bounds(alloc, table, vars, by, param)?;
+            let bounds = put_bounds(alloc, table, vars, by, row, param)?;
             let types = joined(alloc, upper, bounds)?;
             out.push(bounded(alloc, table, types.slice(), None)?)
         }
         Arg::Super(lower) => {
-            let bounds = put_bounds(alloc, table, vars, by, param)?;
+            let bounds = put_bounds(alloc, table, vars, by, row, param)?;
             let lower = copy_type(alloc, lower)?;
             out.push(bounded(alloc, table, bounds.slice(), Some(lower))?)
         }
@@ -398,6 +405,7 @@ fn first_meeting(
     requires { length vars.now ≡ length by.now }
     ensures { IfOk result (λ r. r ≡ first_meeting table.now vars.now by.now 0 vars.now args.now) }
 {
+    let row = is_row(vars);
     let mut i: u64 = 0;
     let mut left = vars;
     let mut rest = args;
@@ -405,7 +413,7 @@ fn first_meeting(
         match rest {
             [] => return Ok(None),
             [arg, more @ ..] => {
-                let bounds = put_bounds(alloc, table, vars, by, *param)?;
+                let bounds = put_bounds(alloc, table, vars, by, row, *param)?;
                 if argument_meets(alloc, table, bounds, arg)? {
                     return Ok(Some(i));
                 }

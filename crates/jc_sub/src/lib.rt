@@ -4,16 +4,19 @@
 
 mod answering;
 mod asking;
+mod bounding;
 mod capturing;
 mod containing;
 mod kinds;
 mod meeting;
+mod passing;
 mod questions;
 mod reaching;
 mod views;
 
 pub use answering::every;
 pub use asking::{MAX_HEIGHT, below, contained};
+pub use bounding::glb;
 pub use capturing::{argument_meets, capture, captured_args, fresh_bounds, put_bounds};
 pub use jc_judge::{Answer, CaptureFault};
 pub use kinds::{class_of, is_null, is_object, is_primitive, primitives_below};

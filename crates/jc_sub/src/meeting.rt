@@ -56,8 +56,9 @@ fn push_flat(alloc: Global, types: &[Ty], out: &mut Items<Ty>) -> Result<(), Wan
     Ok(())
 }
 
+/// A type, or the parts of an intersection.
 #[tactic(auto, using(jc_types::proofs::Opened::opened))]
-fn parts_of(alloc: Global, t: &Ty) -> Result<Items<Ty>, WantOfMemory>
+pub fn parts_of(alloc: Global, t: &Ty) -> Result<Items<Ty>, WantOfMemory>
     ensures { IfOk result (λ r. r ≡ parts_at t.now (out-Ty t.now)) }
 {
     match t {
@@ -220,7 +221,8 @@ fn is_exact(a: &Arg) -> bool
     }
 }
 
-fn are_exact(args: &[Arg]) -> bool
+/// Whether no argument is a wildcard.
+pub fn are_exact(args: &[Arg]) -> bool
     ensures { result ≡ are_exact args.now }
 {
     let mut rest = args;
@@ -233,8 +235,9 @@ fn are_exact(args: &[Arg]) -> bool
     true
 }
 
+/// Whether both are of classes, neither a subclass of the other.
 #[tactic(auto, unfolding(jc_judge::specs::Meeting::clash))]
-fn clash(alloc: Global, table: &Table, t: &Ty, u: &Ty) -> Result<bool, WantOfMemory>
+pub fn clash(alloc: Global, table: &Table, t: &Ty, u: &Ty) -> Result<bool, WantOfMemory>
     ensures { IfOk result (λ r. r ≡ clash table.now t.now u.now) }
 {
     match class_of(t) {

@@ -7,10 +7,11 @@ ghost use Rattle.jc_judge.specs.Views.{view, view_within, first_of, is_class, su
 ghost use Rattle.jc_types.specs.declared.form.Arg.{out-Arg};
 
 use crate::kinds::class_of;
+use crate::passing::{passed_to, renamed};
 use crate::reaching::{Turn, Way, way_to};
 use jc_rules::{Items, WantOfMemory};
 use jc_types::{
-    Arg, ClassId, Table, Ty, arguments, class_supers, class_vars, copy_type, copy_types,
+    Arg, ClassId, Table, Ty, arguments, class_supers, class_vars, copy_type, copy_types, is_row,
     substitute, substitute_all,
 };
 use std::alloc::Global;
@@ -143,13 +144,23 @@ fn follow(alloc: Global, table: &Table, turns: &[Turn], t: &Ty) -> Result<Option
     let mut at = copy_type(alloc, t)?;
     let mut rest = turns;
     while let [turn, more @ ..] = rest {
-        match super_at(alloc, table, &at, turn.next)? {
+        match step(alloc, table, at, turn.next)? {
             None => return Ok(None),
             Some(up) => at = up,
         }
         rest = more;
     }
     Ok(Some(at))
+}
+
+// One of the direct supertypes, to which the arguments go over where it has the type's own.
+fn step(alloc: Global, table: &Table, t: Ty, i: usize) -> Result<Option<Ty>, WantOfMemory>
+    ensures { IfOk result (λ r. r ≡ slice_get (supers table.now t) i) }
+{
+    match passed_to(table, &t, i) {
+        Some(k) => Ok(Some(renamed(t, k))),
+        None => super_at(alloc, table, &t, i),
+    }
 }
 
 // One of the direct supertypes.
@@ -290,7 +301,13 @@ fn supers_with(
     push_exacts(alloc, args, &mut by)?;
     let vars = class_vars(table, id);
     if by.len() == vars.len() {
-        substitute_all(alloc, class_supers(table, id), vars, by.slice())
+        substitute_all(
+            alloc,
+            class_supers(table, id),
+            vars,
+            by.slice(),
+            is_row(vars),
+        )
     } else {
         all_erased(alloc, class_supers(table, id))
     }

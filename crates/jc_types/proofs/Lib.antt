@@ -1,9 +1,10 @@
+mod Finds
 pub mod Cores
 pub mod Counted
-mod Finds
 pub mod Insides
 pub mod Least
 pub mod Opened
+pub mod Placed
 pub mod Pointwise
 pub mod Reified
 pub mod Sameness

@@ -1,5 +1,5 @@
 -- Types for variables in a type.
-use Rattle.std.specs.Prelude.{List, [], ◌∷◌, if◌then◌else◌, ◌==◌}
+use Rattle.std.specs.Prelude.{ℕ, ◌+◌, Bool, true, List, [], ◌∷◌, if◌then◌else◌, ◌==◌, ◌&&◌}
 use Rattle.jc_types.specs.declared.form.Ty.{Ty, Ty-F, roll-Ty, fold-Ty}
 use Rattle.jc_types.specs.declared.form.Ty.TheVariants.{Variable}
 use Rattle.jc_types.specs.declared.form.Arg.{Arg, roll-Arg, fold-Arg}
@@ -23,3 +23,13 @@ subst vars by t = fold-Ty Arg Ty roll-Arg (subst_step vars by) t
 
 unfoldable pub subst_arg : List VarId → List Ty → Arg → Arg
 subst_arg vars by a = fold-Arg Arg Ty roll-Arg (subst_step vars by) a
+
+-- each of these variables has the number after that of the one before it, and the first has number n
+abbrev pub is_row_from : ℕ → List VarId → Bool
+is_row_from n [] = true
+is_row_from n (v ∷ vars) = (v.0 == n) && is_row_from (n + 1) vars
+
+-- each of these variables has the number after that of the one before it
+unfoldable pub is_row : List VarId → Bool
+is_row [] = true
+is_row (v ∷ vars) = is_row_from (v.0 + 1) vars

@@ -9,7 +9,7 @@ use jc_sub::{
     MAX_HEIGHT, argument_meets, asked_above, captured_args, every, fresh_bounds, is_primitive,
     put_bounds,
 };
-use jc_types::{Arg, Bounds, ClassId, Env, Table, Ty, VarId, class_types, class_vars};
+use jc_types::{Arg, Bounds, ClassId, Env, Table, Ty, VarId, class_types, class_vars, is_row};
 use std::alloc::Global;
 
 /// Whether a type is well formed (JLS 4.5). The type itself is asked first, and then the class types inside it in the order in
@@ -145,6 +145,7 @@ fn check_args(
     requires { length vars.now ≡ length by.now }
     ensures { IfOk result (λ found. ArgsChecked table.now (env.now ++ full.old) (env.now ++ plain.old) vars.now by.now 0 vars.now by.now args.now found) }
 {
+    let row = is_row(vars);
     let mut i: u64 = 0;
     let mut left = vars;
     let mut types = by;
@@ -156,7 +157,7 @@ fn check_args(
         let [arg, later @ ..] = rest else {
             return Ok(None);
         };
-        let bounds = put_bounds(alloc, table, vars, by, *param)?;
+        let bounds = put_bounds(alloc, table, vars, by, row, *param)?;
         let fault = check_arg(alloc, table, env, full, plain, bounds, i, s, arg)?;
         if fault.is_some() {
             return Ok(fault);

@@ -8,7 +8,7 @@ use crate::checking::{after, is_primitive_arg, lower_parts, push_bare};
 use jc_judge::{Answer, TypeFault};
 use jc_rules::{Items, WantOfMemory};
 use jc_sub::{argument_meets, asked_above, captured_args, fresh_bounds, put_bounds};
-use jc_types::{Arg, Bounds, Env, Table, Ty, VarId, class_vars};
+use jc_types::{Arg, Bounds, Env, Table, Ty, VarId, class_vars, is_row};
 use std::alloc::Global;
 
 /// All faults of a class type (JLS 4.5): its wrong number of arguments alone, or the faults of its arguments in order, at each in
@@ -83,6 +83,7 @@ fn args_faults(
     requires { length vars.now ≡ length by.now }
     ensures { IfOk result (λ r. r ≡ args_faults table.now (env.now ++ full.old) (env.now ++ plain.old) vars.now by.now 0 vars.now by.now args.now) }
 {
+    let row = is_row(vars);
     let mut out = Items::new(alloc);
     let mut i: u64 = 0;
     let mut left = vars;
@@ -94,7 +95,7 @@ fn args_faults(
             [s, further @ ..] => match rest {
                 [] => return Ok(out),
                 [arg, more @ ..] => {
-                    let bounds = put_bounds(alloc, table, vars, by, *param)?;
+                    let bounds = put_bounds(alloc, table, vars, by, row, *param)?;
                     let faults = arg_faults(alloc, table, env, full, plain, bounds, i, s, arg)?;
                     out.append(faults)?;
                     types = further;

@@ -7,7 +7,7 @@ use crate::checking::{is_primitive_arg, lower_parts, push_bare};
 use jc_judge::{Answer, Part};
 use jc_rules::{Items, WantOfMemory};
 use jc_sub::{asked_above, captured_args, fresh_bounds, put_bounds};
-use jc_types::{Arg, Bounds, Env, Table, Ty, VarId, class_types, class_vars};
+use jc_types::{Arg, Bounds, Env, Table, Ty, VarId, class_types, class_vars, is_row};
 use std::alloc::Global;
 
 /// Whether a type is well formed as far as its bounds go (JLS 4.5): after capture each argument of each class type inside it is
@@ -136,6 +136,7 @@ fn all_captured(
     requires { length vars.now ≡ length by.now }
     ensures { IfOk result (λ r. r ≡ all_captured table.now vars.now by.now vars.now by.now args.now) }
 {
+    let row = is_row(vars);
     let mut out = Items::new(alloc);
     let mut left = vars;
     let mut types = by;
@@ -146,7 +147,7 @@ fn all_captured(
             [s, further @ ..] => match rest {
                 [] => return Ok(out),
                 [arg, more @ ..] => {
-                    let bounds = put_bounds(alloc, table, vars, by, *param)?;
+                    let bounds = put_bounds(alloc, table, vars, by, row, *param)?;
                     push_captured_parts(alloc, s, arg, bounds, &mut out)?;
                     types = further;
                     rest = more;
@@ -185,6 +186,7 @@ fn all_bare(
     requires { length vars.now ≡ length by.now }
     ensures { IfOk result (λ r. r ≡ all_bare table.now vars.now by.now vars.now args.now) }
 {
+    let row = is_row(vars);
     let mut out = Items::new(alloc);
     let mut left = vars;
     let mut rest = args;
@@ -192,7 +194,7 @@ fn all_bare(
         match rest {
             [] => return Ok(out),
             [arg, more @ ..] => {
-                let bounds = put_bounds(alloc, table, vars, by, *param)?;
+                let bounds = put_bounds(alloc, table, vars, by, row, *param)?;
                 push_bare_parts(alloc, arg, bounds, &mut out)?;
                 rest = more;
             }

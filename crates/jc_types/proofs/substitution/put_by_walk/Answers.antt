@@ -1,6 +1,6 @@
 use Rattle.std.proofs.Common.{sym, ◌∙◌}
 use Rattle.jc_types.proofs.Substituted.{passed}
-use Rattle.jc_types.proofs.substitution.put_for.Goals as goal
+use Rattle.jc_types.proofs.substitution.put_by_walk.Goals as goal
 
 pub loop-i-preserved : goal.loop-i-preserved
 loop-i-preserved c =
