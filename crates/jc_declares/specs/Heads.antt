@@ -256,8 +256,12 @@ declared_of H c = named_classes (λ (d : ClassHead). is_inside c d.round) 0 H.cl
 abbrev pub types_of_unit : Heads → ℕ → Named
 types_of_unit H u = named_classes (λ (c : ClassHead). is_top c.round && (u == c.unit)) 0 H.classes
 
+abbrev pub is_of_package : Option UnitHead → List ℕ → Bool
+is_of_package None p = false
+is_of_package (Some u) p = bytes_eq u.«package» p
+
 abbrev pub types_of_package : Heads → List ℕ → Named
-types_of_package H p = named_classes (λ (c : ClassHead). is_top c.round && bytes_eq (unit_package H c.unit) p) 0 H.classes
+types_of_package H p = named_classes (λ (c : ClassHead). is_top c.round && is_of_package (slice_get H.units c.unit) p) 0 H.classes
 
 -- the names of these classes, the outermost first, with a dollar behind each
 abbrev pub with_dollars : Heads → List ℕ → List ℕ

@@ -1,2 +1,3 @@
 pub mod SpacesNoted
 pub mod Indexed
+pub mod Packaged
