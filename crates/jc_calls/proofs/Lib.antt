@@ -1,0 +1,3 @@
+pub mod HandlerRows
+pub mod Laid
+pub mod MethodLines
