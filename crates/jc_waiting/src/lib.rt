@@ -4,11 +4,13 @@
 mod faults;
 mod initialising;
 mod onward;
+mod settling;
 mod stack;
 mod thrown;
 
 pub use faults::{fault_class, is_error, is_throwable, set_state};
 pub use initialising::{initialise, resume};
 pub use onward::Onward;
+pub use settling::{return_to, settle};
 pub use stack::Stack;
 pub use thrown::{throw_among, throw_fault_among, unwind};
