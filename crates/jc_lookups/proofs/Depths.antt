@@ -1,5 +1,5 @@
 -- Types of descriptors by their dimensions.
-use Rattle.std.proofs.Common.{◌≡◌, ◌≢◌, ◌<◌, ◌≤◌, ◌+◌, ◌-◌, ◌==◌, ℕ, suc, Bool, true, false, List, [], ◌∷◌, length, take, drop, get_or, refl, sym, ap, ◌∙◌, arith, add-one, if◌then◌else◌}
+use Rattle.std.proofs.Common.{◌≡◌, ◌≢◌, ◌<◌, ◌≤◌, ◌+◌, ◌==◌, ℕ, suc, Bool, true, false, List, [], ◌∷◌, length, drop, get_or, refl, sym, ap, ◌∙◌, arith, add-one, if◌then◌else◌}
 use Rattle.std.proofs.lemmas.Bool.Decides.{nat_tests}
 use Rattle.std.proofs.lemmas.List.{drop_all}
 use Rattle.std.proofs.Math.Seq.{drop-cons}
@@ -7,8 +7,7 @@ use Rattle.std.specs.Option.{option_map}
 use Rattle.std.specs.declared.option.Option.{Option}
 use Rattle.std.specs.declared.option.Option.TheVariants.{Some, None}
 use Rattle.jc_class_out.specs.declared.model.ClassModel.{ClassModel}
-use Rattle.jc_jvm.specs.Classes.{class_named}
-use Rattle.jc_jvm.specs.Types.{deeper, shape_of_class, based, primitive_of, shape_of_descriptor}
+use Rattle.jc_jvm.specs.Types.{deeper, shape_of_descriptor}
 use Rattle.jc_jvm.specs.declared.value.Shape.{Shape}
 use Rattle.jc_lookups.specs.Deepened.{deepened, bare_shape}
 
