@@ -1,10 +1,12 @@
 // Fields by name.
 ghost use Rattle.std.specs.Prelude.{◌≡◌, position};
-ghost use Rattle.jc_jvm.specs.Classes.{is_field, fields_of, field_on, field_of};
+ghost use Rattle.jc_jvm.specs.Classes.{is_field, fields_of, field_on, field_of, field_at};
+ghost use Rattle.jc_jvm.specs.Table.{static_if, static_field};
+ghost use Rattle.std.specs.Option.{option_copied};
 ghost use Rattle.jc_lookups.specs.Interfaces.{interface_names};
 
 use jc_class_out::{ClassModel, FieldModel};
-use jc_heap::{class_named, superclass};
+use jc_heap::{class_named, has_flag, superclass};
 use jc_rules::Items;
 
 fn is_named(name: &[u16], descriptor: &[u16], field: &FieldModel) -> bool
@@ -84,6 +86,43 @@ pub fn find_field(
 {
     match class_named(classes, class) {
         Some(number) => find_on(classes, classes.len(), number as u64, name, descriptor),
+        None => None,
+    }
+}
+
+// The field of that number in the class of that number.
+fn field_at_place(classes: &[ClassModel], class: u64, field: u64) -> Option<&FieldModel>
+    ensures { option_copied result ≡ field_at classes.now (class, field) }
+{
+    fields_in(classes, class).get(field as usize)
+}
+
+fn static_at(classes: &[ClassModel], class: u64, field: u64) -> Option<(u64, u64)>
+    ensures { result ≡ static_if classes.now (class, field) (field_at classes.now (class, field)) }
+{
+    match field_at_place(classes, class, field) {
+        Some(found) => {
+            if has_flag(8, found.flags) {
+                Some((class, field))
+            } else {
+                None
+            }
+        }
+        None => None,
+    }
+}
+
+/// A static field: the class that declares it, and its number there.
+pub fn find_static_field(
+    classes: &[ClassModel],
+    class: &[u16],
+    name: &[u16],
+    descriptor: &[u16],
+) -> Option<(u64, u64)>
+    ensures { result ≡ static_field classes.now class.now name.now descriptor.now }
+{
+    match find_field(classes, class, name, descriptor) {
+        Some((declaring, field)) => static_at(classes, declaring, field),
         None => None,
     }
 }

@@ -6,7 +6,7 @@ mod natives;
 mod shapes;
 mod sorts;
 
-pub use fields::find_field;
+pub use fields::{find_field, find_static_field};
 pub use natives::native_by_name;
 pub use shapes::{shape_by_descriptor, shape_by_name};
 pub use sorts::result_sort_of;
