@@ -5,7 +5,7 @@ use Rattle.std.specs.declared.option.Option.{Option}
 use Rattle.std.specs.declared.option.Option.TheVariants.{Some, None}
 use Rattle.jc_class_out.specs.declared.model.ClassModel.{ClassModel}
 use Rattle.jc_class_out.specs.declared.model.MethodModel.{MethodModel}
-use Rattle.jc_jvm.specs.Classes.{line_on, super_of, or_else, first_some, methods_of, method_among}
+use Rattle.jc_jvm.specs.Classes.{line_on, super_of, or_else, methods_of, method_among}
 
 line_more : (classes : List ClassModel) (m n k : ℕ) → m ≡ suc n → line_on classes m (Some k) ≡ k ∷ line_on classes n (super_of classes k)
 unfolding line_on

@@ -1,7 +1,7 @@
-use Rattle.std.proofs.Common.{◌≡◌, ◌-◌, ◌+◌, ◌&&◌, ◌∙◌, ℕ, List, Bool, length, position, sym, ap, arith}
+use Rattle.std.proofs.Common.{◌-◌, ◌+◌, ◌∙◌, ℕ, List, length, position, sym, ap, arith}
 use Rattle.std.specs.declared.option.Option.{Option}
 use Rattle.jc_class_out.specs.declared.model.MethodModel.{MethodModel}
-use Rattle.jc_jvm.specs.Classes.{is_method, method_of}
+use Rattle.jc_jvm.specs.Classes.{is_method}
 use Rattle.jc_calls.proofs.MethodLines.{among_on, among_found, among_more, among_end, among_over}
 use Rattle.jc_calls.proofs.methods.find_method.Goals as goal
 

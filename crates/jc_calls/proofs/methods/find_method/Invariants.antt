@@ -1,4 +1,4 @@
-use Rattle.std.proofs.Common.{◌≡◌, ◌-◌, ◌&&◌, length}
+use Rattle.std.proofs.Common.{◌≡◌, ◌-◌, length}
 use Rattle.jc_jvm.specs.Classes.{is_method, method_of}
 use Rattle.jc_calls.proofs.MethodLines.{among_on}
 use Rattle.jc_calls.proofs.methods.find_method.Given as goal
