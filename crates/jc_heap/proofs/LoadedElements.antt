@@ -1,5 +1,5 @@
 -- Elements that are read where the index and the array were taken from the stack.
-use Rattle.std.proofs.Common.{◌≡◌, ℕ, Bool, true, false, List, [], ◌∷◌, slice_get, option_and_then, ℤ, refl, sym, ap, ◌∙◌, if◌then◌else◌}
+use Rattle.std.proofs.Common.{◌≡◌, ℕ, Bool, true, false, List, ◌∷◌, slice_get, option_and_then, ℤ, refl, sym, ap, ◌∙◌, if◌then◌else◌}
 use Rattle.std.specs.declared.option.Option.{Option}
 use Rattle.std.specs.declared.option.Option.TheVariants.{Some, None}
 use Rattle.jc_jvm.specs.Frames.{Act, Fails}
@@ -10,7 +10,7 @@ use Rattle.jc_jvm.specs.declared.cells.Cell.TheVariants.{Instance, Array}
 use Rattle.jc_jvm.specs.declared.frame.Frame.{Frame}
 use Rattle.jc_jvm.specs.declared.groups.Element.{Element}
 use Rattle.jc_jvm.specs.declared.value.Value.{Value}
-use Rattle.jc_jvm.specs.declared.value.Value.TheVariants.{Whole, Long, Address, NullValue}
+use Rattle.jc_jvm.specs.declared.value.Value.TheVariants.{Whole, Address}
 use Rattle.jc_jvm.specs.declared.world.World.{World}
 
 pushed_same : (next : ℕ) (now : Frame) (rest : List Value) (item : Option Value) →

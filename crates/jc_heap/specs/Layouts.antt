@@ -1,5 +1,5 @@
 -- The values with which the fields of new objects begin.
-use Rattle.std.specs.Prelude.{ℕ, Bool, not, List, [], ◌∷◌, map, filter, length}
+use Rattle.std.specs.Prelude.{not, List, map, filter, length}
 use Rattle.std.specs.List.{range_with_len}
 use Rattle.jc_class_out.specs.declared.model.ClassModel.{ClassModel}
 use Rattle.jc_class_out.specs.declared.model.FieldModel.{FieldModel}

@@ -1,7 +1,6 @@
 -- The direct supertypes of classes, by number, and which classes stand below which by these.
-use Rattle.std.specs.Prelude.{ℕ, zero, suc, ◌==◌, Bool, true, false, ◌||◌, List, [], ◌∷◌, ◌++◌, map, slice_get, option_and_then}
+use Rattle.std.specs.Prelude.{ℕ, zero, suc, ◌==◌, Bool, false, ◌||◌, List, [], ◌++◌, map, slice_get, option_and_then}
 use Rattle.std.specs.List.{list_any, filter_map}
-use Rattle.std.specs.declared.option.Option.{Option}
 use Rattle.std.specs.declared.option.Option.TheVariants.{Some, None}
 use Rattle.jc_class_out.specs.declared.model.ClassModel.{ClassModel}
 use Rattle.jc_jvm.specs.Classes.{class_named, listed}

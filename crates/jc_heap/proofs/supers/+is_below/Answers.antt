@@ -1,5 +1,5 @@
-use Rattle.std.proofs.Common.{arith, rules, sym}
-use Rattle.jc_heap.proofs.Below.{is_below_by, is_not_below_by, is_itself, below_by-none}
+use Rattle.std.proofs.Common.{arith, sym}
+use Rattle.jc_heap.proofs.Below.{is_below_by, is_not_below_by}
 use Rattle.jc_heap.proofs.supers.+is_below.Goals as goal
 
 pub returns-then-is_below : goal.returns-then-is_below

@@ -1,6 +1,6 @@
-use Rattle.std.proofs.Common.{◌≡◌, ◌-◌, Bool, false, take}
+use Rattle.std.proofs.Common.{◌≡◌, ◌-◌, false, take}
 use Rattle.std.specs.List.{list_any}
-use Rattle.jc_heap.specs.Supers.{below_by, supers_at}
+use Rattle.jc_heap.specs.Supers.{below_by}
 use Rattle.jc_heap.proofs.supers.+is_below.Given as goal
 
 abbrev pub decreases-is_below : goal.decreases-is_below

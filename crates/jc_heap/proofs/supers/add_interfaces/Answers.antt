@@ -1,4 +1,4 @@
-use Rattle.std.proofs.Common.{ℕ, List, ◌++◌, ◌∙◌, ap, rules}
+use Rattle.std.proofs.Common.{ℕ, List, ◌++◌, ◌∙◌, ap}
 use Rattle.jc_jvm.specs.Classes.{class_named, listed}
 use Rattle.jc_heap.proofs.Below.{named_more}
 use Rattle.jc_heap.proofs.supers.add_interfaces.Goals as goal
