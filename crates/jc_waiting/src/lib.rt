@@ -4,6 +4,7 @@
 mod faults;
 mod initialising;
 mod onward;
+mod ready;
 mod settling;
 mod stack;
 mod thrown;
@@ -11,6 +12,7 @@ mod thrown;
 pub use faults::{fault_class, is_error, is_throwable, set_state};
 pub use initialising::{initialise, resume};
 pub use onward::Onward;
+pub use ready::{Readiness, make_ready};
 pub use settling::{return_to, settle};
 pub use stack::Stack;
 pub use thrown::{throw_among, throw_fault_among, unwind};
