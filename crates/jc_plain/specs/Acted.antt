@@ -1,5 +1,4 @@
 -- What a function that acts on a frame in place answers, as the definition's answer.
-use Rattle.std.specs.Prelude.{ℕ}
 use Rattle.jc_jvm.specs.Frames.{Act, Goes, Throws, Fails}
 use Rattle.jc_jvm.specs.declared.frame.Frame.{Frame}
 use Rattle.jc_plain.specs.declared.acts.Act.{Act as Answer}
