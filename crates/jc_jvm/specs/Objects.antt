@@ -13,6 +13,8 @@ use Rattle.jc_jvm.specs.Worlds.{with_heap, with_array, with_object, with_string,
 use Rattle.jc_jvm.specs.declared.cells.Cell.{Cell}
 use Rattle.jc_jvm.specs.declared.cells.Cell.TheVariants.{Instance, Array}
 use Rattle.jc_jvm.specs.declared.frame.Frame.{Frame}
+use Rattle.jc_jvm.specs.declared.groups.Element.{Element}
+use Rattle.jc_jvm.specs.declared.groups.Element.TheVariants.{OfInt, OfLong, OfReference, OfByte, OfChar, OfShort}
 use Rattle.jc_jvm.specs.declared.operands.Sort.{Sort}
 use Rattle.jc_jvm.specs.declared.value.Base.{Base}
 use Rattle.jc_jvm.specs.declared.value.Base.TheVariants as base
@@ -27,15 +29,6 @@ abbrev pub Act_in : Type 0
 Act_in = World × Act
 
 -- ---- arrays: null is tested first, then the range, and for aastore then the type
-
--- the kinds of element instructions, by the elements that they read and write; baload and bastore serve boolean too
-pub data Element : Type 0 where
-  OfInt : Element
-  OfLong : Element
-  OfReference : Element
-  OfByte : Element
-  OfChar : Element
-  OfShort : Element
 
 abbrev pub is_element_base : Element → Base → Bool
 is_element_base OfInt base.Int = true

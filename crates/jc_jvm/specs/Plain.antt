@@ -6,33 +6,30 @@ use Rattle.std.specs.Ordering.{int_eq}
 use Rattle.std.specs.declared.option.Option.{Option}
 use Rattle.std.specs.declared.option.Option.TheVariants.{Some, None}
 use Rattle.jc_class_out.specs.declared.model.SwitchCase.{SwitchCase}
-use Rattle.jc_opcodes.specs.declared.opcode.Opcode.{Opcode}
-use Rattle.jc_opcodes.specs.declared.opcode.Opcode.TheVariants as is
 use Rattle.jc_jvm.specs.Frames.{Act, Goes, Fails, throws, pushes, leaves, with_local, local_of_sort}
 use Rattle.jc_jvm.specs.Types.{is_of_sort}
 use Rattle.jc_jvm.specs.declared.frame.Frame.{Frame}
+use Rattle.jc_jvm.specs.declared.groups.Operator.{Operator}
+use Rattle.jc_jvm.specs.declared.groups.Operator.TheVariants.{Add, Subtract, Multiply, And, Or, Xor}
+use Rattle.jc_jvm.specs.declared.groups.Shift.{Shift}
+use Rattle.jc_jvm.specs.declared.groups.Shift.TheVariants.{Left, Right, Unsigned}
+use Rattle.jc_jvm.specs.declared.groups.Division.{Division}
+use Rattle.jc_jvm.specs.declared.groups.Division.TheVariants.{Quotient, Remainder}
+use Rattle.jc_jvm.specs.declared.groups.IntConversion.{IntConversion}
+use Rattle.jc_jvm.specs.declared.groups.IntConversion.TheVariants.{Negated, Widened, ToByte, ToChar, ToShort}
+use Rattle.jc_jvm.specs.declared.groups.LongConversion.{LongConversion}
+use Rattle.jc_jvm.specs.declared.groups.LongConversion.TheVariants.{LongNegated, Narrowed}
+use Rattle.jc_jvm.specs.declared.groups.Comparison.{Comparison}
+use Rattle.jc_jvm.specs.declared.groups.Comparison.TheVariants.{Equal, Unequal, Less, NotLess, Greater, NotGreater}
+use Rattle.jc_jvm.specs.declared.groups.Width.{Width}
+use Rattle.jc_jvm.specs.declared.groups.Width.TheVariants.{NoUnit, OneUnit, TwoUnits}
 use Rattle.jc_jvm.specs.declared.operands.Sort.{Sort}
 use Rattle.jc_jvm.specs.declared.operands.Sort.TheVariants.{WholeSort, LongSort, ReferenceSort}
 use Rattle.jc_jvm.specs.declared.value.Value.{Value}
 use Rattle.jc_jvm.specs.declared.value.Value.TheVariants.{Whole, Long, Address, NullValue}
 use Rattle.jc_jvm.specs.declared.world.Fault.TheVariants.{Arithmetic}
 
--- ---- constants
-
-abbrev pub constant_of : Opcode → Option Value
-constant_of is.AconstNull = Some NullValue
-constant_of is.IconstM1 = Some (Whole (negsuc 0))
-constant_of is.Iconst0 = Some (Whole (pos 0))
-constant_of is.Iconst1 = Some (Whole (pos 1))
-constant_of is.Iconst2 = Some (Whole (pos 2))
-constant_of is.Iconst3 = Some (Whole (pos 3))
-constant_of is.Iconst4 = Some (Whole (pos 4))
-constant_of is.Iconst5 = Some (Whole (pos 5))
-constant_of is.Lconst0 = Some (Long (pos 0))
-constant_of is.Lconst1 = Some (Long (pos 1))
-constant_of _ = None
-
--- ---- the stack; a form speaks of values of one unit, or of a long, which has two
+-- ---- the stack
 
 abbrev pub is_one_unit : Value → Bool
 is_one_unit (Long n) = false
@@ -41,61 +38,24 @@ is_one_unit _ = true
 abbrev pub is_both_one_unit : Value → Value → Bool
 is_both_one_unit a b = is_one_unit a && is_one_unit b
 
--- the values from the top after an instruction of the stack; those that it puts there need room again
-abbrev pub popped : List Value → Option (List Value)
-popped (a ∷ rest) = if is_one_unit a then Some rest else None
-popped [] = None
+-- the topmost values that have so many units, and those beneath them
+abbrev pub one_unit : List Value → Option (List Value × List Value)
+one_unit (a ∷ rest) = if is_one_unit a then Some (a ∷ [], rest) else None
+one_unit [] = None
 
-abbrev pub popped_two : List Value → Option (List Value)
-popped_two (Long n ∷ rest) = Some rest
-popped_two (a ∷ b ∷ rest) = if is_both_one_unit a b then Some rest else None
-popped_two _ = None
+abbrev pub second_unit : Value → List Value → Option (List Value × List Value)
+second_unit a (b ∷ rest) = if is_one_unit b then Some (a ∷ b ∷ [], rest) else None
+second_unit a [] = None
 
-abbrev pub swapped : List Value → Option (List Value)
-swapped (a ∷ b ∷ rest) = if is_both_one_unit a b then Some (b ∷ a ∷ rest) else None
-swapped _ = None
+-- a long, or two values of one unit each
+abbrev pub two_units : List Value → Option (List Value × List Value)
+two_units (a ∷ rest) = if is_one_unit a then second_unit a rest else Some (a ∷ [], rest)
+two_units [] = None
 
--- what dup and its kin copy: the values to be copied, those beneath which the copy goes, and the rest
-abbrev pub Copied : Type 0
-Copied = List Value × List Value × List Value
-
-abbrev pub copy_one : List Value → Option Copied
-copy_one (a ∷ rest) = if is_one_unit a then Some (a ∷ [], [], rest) else None
-copy_one [] = None
-
-abbrev pub copy_one_under_one : List Value → Option Copied
-copy_one_under_one (a ∷ b ∷ rest) = if is_both_one_unit a b then Some (a ∷ [], b ∷ [], rest) else None
-copy_one_under_one _ = None
-
-abbrev pub copy_one_under_two : List Value → Option Copied
-copy_one_under_two (a ∷ Long n ∷ rest) = if is_one_unit a then Some (a ∷ [], Long n ∷ [], rest) else None
-copy_one_under_two (a ∷ b ∷ c ∷ rest) = if is_one_unit a && is_both_one_unit b c then Some (a ∷ [], b ∷ c ∷ [], rest) else None
-copy_one_under_two _ = None
-
-abbrev pub copy_two : List Value → Option Copied
-copy_two (Long n ∷ rest) = Some (Long n ∷ [], [], rest)
-copy_two (a ∷ b ∷ rest) = if is_both_one_unit a b then Some (a ∷ b ∷ [], [], rest) else None
-copy_two _ = None
-
-abbrev pub copy_two_under_one : List Value → Option Copied
-copy_two_under_one (Long n ∷ b ∷ rest) = if is_one_unit b then Some (Long n ∷ [], b ∷ [], rest) else None
-copy_two_under_one (a ∷ b ∷ c ∷ rest) = if is_one_unit a && is_both_one_unit b c then Some (a ∷ b ∷ [], c ∷ [], rest) else None
-copy_two_under_one _ = None
-
-abbrev pub copy_long_under_two : ℤ → List Value → Option Copied
-copy_long_under_two n (Long m ∷ rest) = Some (Long n ∷ [], Long m ∷ [], rest)
-copy_long_under_two n (b ∷ c ∷ rest) = if is_both_one_unit b c then Some (Long n ∷ [], b ∷ c ∷ [], rest) else None
-copy_long_under_two n _ = None
-
-abbrev pub copy_pair_under_two : Value → Value → List Value → Option Copied
-copy_pair_under_two a b (Long m ∷ rest) = Some (a ∷ b ∷ [], Long m ∷ [], rest)
-copy_pair_under_two a b (c ∷ d ∷ rest) = if is_both_one_unit c d then Some (a ∷ b ∷ [], c ∷ d ∷ [], rest) else None
-copy_pair_under_two a b _ = None
-
-abbrev pub copy_two_under_two : List Value → Option Copied
-copy_two_under_two (Long n ∷ rest) = copy_long_under_two n rest
-copy_two_under_two (a ∷ b ∷ rest) = if is_both_one_unit a b then copy_pair_under_two a b rest else None
-copy_two_under_two _ = None
+abbrev pub units_taken : Width → List Value → Option (List Value × List Value)
+units_taken NoUnit values = Some ([], values)
+units_taken OneUnit values = one_unit values
+units_taken TwoUnits values = two_units values
 
 -- ---- whole numbers; they wrap, and shifts use the low five or six bits
 
@@ -109,83 +69,68 @@ abbrev pub compared : ℤ → ℤ → ℤ
 compared a b = if int_lt a b then negsuc 0 else if int_lt b a then pos 1 else pos 0
 
 -- the second operand is the topmost one
-abbrev pub int_of_two : Opcode → ℤ → ℤ → Option ℤ
-int_of_two is.Iadd a b = Some (int_wrapping_add w32 a b)
-int_of_two is.Isub a b = Some (int_wrapping_sub w32 a b)
-int_of_two is.Imul a b = Some (int_wrapping_mul w32 a b)
-int_of_two is.Ishl a b = Some (int_shl w32 a (int_shift b))
-int_of_two is.Ishr a b = Some (int_shr a (int_shift b))
-int_of_two is.Iushr a b = Some (cast_signed w32 (cast_unsigned w32 a / 2 ^ int_shift b))
-int_of_two is.Iand a b = Some (int_bit_and w32 a b)
-int_of_two is.Ior a b = Some (int_bit_or w32 a b)
-int_of_two is.Ixor a b = Some (int_bit_xor w32 a b)
-int_of_two _ a b = None
+abbrev pub int_of_two : Operator → ℤ → ℤ → ℤ
+int_of_two Add a b = int_wrapping_add w32 a b
+int_of_two Subtract a b = int_wrapping_sub w32 a b
+int_of_two Multiply a b = int_wrapping_mul w32 a b
+int_of_two And a b = int_bit_and w32 a b
+int_of_two Or a b = int_bit_or w32 a b
+int_of_two Xor a b = int_bit_xor w32 a b
 
-abbrev pub long_of_two : Opcode → ℤ → ℤ → Option ℤ
-long_of_two is.Ladd a b = Some (int_wrapping_add w64 a b)
-long_of_two is.Lsub a b = Some (int_wrapping_sub w64 a b)
-long_of_two is.Lmul a b = Some (int_wrapping_mul w64 a b)
-long_of_two is.Land a b = Some (int_bit_and w64 a b)
-long_of_two is.Lor a b = Some (int_bit_or w64 a b)
-long_of_two is.Lxor a b = Some (int_bit_xor w64 a b)
-long_of_two _ a b = None
+abbrev pub long_of_two : Operator → ℤ → ℤ → ℤ
+long_of_two Add a b = int_wrapping_add w64 a b
+long_of_two Subtract a b = int_wrapping_sub w64 a b
+long_of_two Multiply a b = int_wrapping_mul w64 a b
+long_of_two And a b = int_bit_and w64 a b
+long_of_two Or a b = int_bit_or w64 a b
+long_of_two Xor a b = int_bit_xor w64 a b
 
--- a long shifted by an int
-abbrev pub long_shifted : Opcode → ℤ → ℤ → Option ℤ
-long_shifted is.Lshl a b = Some (int_shl w64 a (long_shift b))
-long_shifted is.Lshr a b = Some (int_shr a (long_shift b))
-long_shifted is.Lushr a b = Some (cast_signed w64 (cast_unsigned w64 a / 2 ^ long_shift b))
-long_shifted _ a b = None
+-- an int or a long shifted by an int
+abbrev pub int_shifted : Shift → ℤ → ℤ → ℤ
+int_shifted Left a b = int_shl w32 a (int_shift b)
+int_shifted Right a b = int_shr a (int_shift b)
+int_shifted Unsigned a b = cast_signed w32 (cast_unsigned w32 a / 2 ^ int_shift b)
+
+abbrev pub long_shifted : Shift → ℤ → ℤ → ℤ
+long_shifted Left a b = int_shl w64 a (long_shift b)
+long_shifted Right a b = int_shr a (long_shift b)
+long_shifted Unsigned a b = cast_signed w64 (cast_unsigned w64 a / 2 ^ long_shift b)
 
 abbrev pub is_zero : ℤ → Bool
 is_zero n = int_eq n (pos 0)
 
 -- quotients go towards zero, and a remainder has the sign of the dividend
-abbrev pub int_quotient : Opcode → ℤ → ℤ → Option ℤ
-int_quotient is.Idiv a b = Some (int_wrapping_div w32 a b)
-int_quotient is.Irem a b = Some (int_rem a b)
-int_quotient _ a b = None
+abbrev pub int_quotient : Division → ℤ → ℤ → ℤ
+int_quotient Quotient a b = int_wrapping_div w32 a b
+int_quotient Remainder a b = int_rem a b
 
-abbrev pub long_quotient : Opcode → ℤ → ℤ → Option ℤ
-long_quotient is.Ldiv a b = Some (int_wrapping_div w64 a b)
-long_quotient is.Lrem a b = Some (int_rem a b)
-long_quotient _ a b = None
+abbrev pub long_quotient : Division → ℤ → ℤ → ℤ
+long_quotient Quotient a b = int_wrapping_div w64 a b
+long_quotient Remainder a b = int_rem a b
 
 abbrev pub low_int : ℤ → ℤ
 low_int n = cast_signed w32 (cast_unsigned w64 n % 2 ^ 32)
 
-abbrev pub of_int : Opcode → ℤ → Option Value
-of_int is.Ineg n = Some (Whole (int_wrapping_neg w32 n))
-of_int is.I2l n = Some (Long n)
-of_int is.I2b n = Some (Whole (cast_signed w8 (cast_unsigned w32 n % 2 ^ 8)))
-of_int is.I2c n = Some (Whole (pos (cast_unsigned w32 n % 2 ^ 16)))
-of_int is.I2s n = Some (Whole (cast_signed w16 (cast_unsigned w32 n % 2 ^ 16)))
-of_int _ n = None
+abbrev pub of_int : IntConversion → ℤ → Value
+of_int Negated n = Whole (int_wrapping_neg w32 n)
+of_int Widened n = Long n
+of_int ToByte n = Whole (cast_signed w8 (cast_unsigned w32 n % 2 ^ 8))
+of_int ToChar n = Whole (pos (cast_unsigned w32 n % 2 ^ 16))
+of_int ToShort n = Whole (cast_signed w16 (cast_unsigned w32 n % 2 ^ 16))
 
-abbrev pub of_long : Opcode → ℤ → Option Value
-of_long is.Lneg n = Some (Long (int_wrapping_neg w64 n))
-of_long is.L2i n = Some (Whole (low_int n))
-of_long _ n = None
+abbrev pub of_long : LongConversion → ℤ → Value
+of_long LongNegated n = Long (int_wrapping_neg w64 n)
+of_long Narrowed n = Whole (low_int n)
 
 -- ---- tests of jumps
 
-abbrev pub int_test : Opcode → ℤ → Option Bool
-int_test is.Ifeq n = Some (is_zero n)
-int_test is.Ifne n = Some (not (is_zero n))
-int_test is.Iflt n = Some (int_lt n (pos 0))
-int_test is.Ifge n = Some (int_le (pos 0) n)
-int_test is.Ifgt n = Some (int_lt (pos 0) n)
-int_test is.Ifle n = Some (int_le n (pos 0))
-int_test _ n = None
-
-abbrev pub int_pair_test : Opcode → ℤ → ℤ → Option Bool
-int_pair_test is.IfIcmpeq a b = Some (int_eq a b)
-int_pair_test is.IfIcmpne a b = Some (not (int_eq a b))
-int_pair_test is.IfIcmplt a b = Some (int_lt a b)
-int_pair_test is.IfIcmpge a b = Some (int_le b a)
-int_pair_test is.IfIcmpgt a b = Some (int_lt b a)
-int_pair_test is.IfIcmple a b = Some (int_le a b)
-int_pair_test _ a b = None
+abbrev pub holds : Comparison → ℤ → ℤ → Bool
+holds Equal a b = int_eq a b
+holds Unequal a b = not (int_eq a b)
+holds Less a b = int_lt a b
+holds NotLess a b = int_le b a
+holds Greater a b = int_lt b a
+holds NotGreater a b = int_le a b
 
 abbrev pub same_reference : Value → Value → Option Bool
 same_reference (Address a) (Address b) = Some (a == b)

@@ -1,5 +1,5 @@
 -- Slots of objects and elements of arrays.
-use Rattle.std.specs.Prelude.{ℕ, Bool, false, nat_lt, List, length, slice_get, slice_set, option_and_then}
+use Rattle.std.specs.Prelude.{ℕ, ◌^◌, ◌<◌, Bool, false, nat_lt, List, length, slice_get, slice_set, option_and_then}
 use Rattle.std.specs.declared.option.Option.{Option}
 use Rattle.std.specs.declared.option.Option.TheVariants.{Some, None}
 use Rattle.jc_jvm.specs.declared.cells.Cell.{Cell}
@@ -10,6 +10,10 @@ use Rattle.jc_jvm.specs.declared.value.Value.{Value}
 abbrev pub slots_of : Cell → List Value
 slots_of (Instance class fields) = fields
 slots_of (Array of items) = items
+
+-- no more slots than an int counts
+abbrev pub IsSmall : Cell → Type 0
+IsSmall cell = length (slots_of cell) < 2 ^ 31
 
 -- with this value in a slot
 abbrev pub cell_with : ℕ → Value → Cell → Cell

@@ -1,5 +1,5 @@
 -- The instruction table (JVMS 6.5): what each instruction does, and one step of the machine.
-use Rattle.std.specs.Prelude.{ℕ, ◌+◌, ◌-◌, ◌==◌, Bool, true, false, not, ◌&&◌, ◌||◌, List, [], ◌∷◌, ◌++◌, length, find, slice_get, option_and_then, ℤ, pos, int_le, nat_le, if◌then◌else◌}
+use Rattle.std.specs.Prelude.{ℕ, ◌+◌, ◌-◌, ◌==◌, Bool, true, false, not, ◌&&◌, ◌||◌, List, [], ◌∷◌, ◌++◌, length, find, slice_get, option_and_then, ℤ, pos, negsuc, int_le, nat_le, if◌then◌else◌}
 use Rattle.std.specs.Int.{w32, int_wrapping_add}
 use Rattle.std.specs.Option.{option_map}
 use Rattle.std.specs.declared.option.Option.{Option}
@@ -20,14 +20,34 @@ use Rattle.jc_jvm.specs.Calls.{Step, Moves as MovesTo, Asks, Shown, Quiet, stuck
 use Rattle.jc_jvm.specs.Classes.{class_named, class_has_flag, field_of, field_at, is_static_field, slot_of, method_of, method_at, is_static_method, placed_at}
 use Rattle.jc_jvm.specs.Frames.{Act, Goes, Fails, throws, go_on, pushes, leaves, with_local, local_of_sort}
 use Rattle.jc_jvm.specs.Initialising.{initialised}
-use Rattle.jc_jvm.specs.Objects.{Act_in, Element, OfInt, OfLong, OfReference, OfByte, OfChar, OfShort, element_loaded, element_stored, array_length, array_made, arrays_made, object_made, field_pushed, field_loaded, field_stored, cast_to, truth, literal_pushed}
-use Rattle.jc_jvm.specs.Plain.{constant_of, popped, popped_two, swapped, Copied, copy_one, copy_one_under_one, copy_one_under_two, copy_two, copy_two_under_one, copy_two_under_two, compared, int_of_two, long_of_two, long_shifted, is_zero, int_quotient, long_quotient, of_int, of_long, int_test, int_pair_test, same_reference, is_null}
+use Rattle.jc_jvm.specs.Objects.{Act_in, element_loaded, element_stored, array_length, array_made, arrays_made, object_made, field_pushed, field_loaded, field_stored, cast_to, truth, literal_pushed}
+use Rattle.jc_jvm.specs.Plain.{is_both_one_unit, units_taken, compared, int_of_two, long_of_two, int_shifted, long_shifted, is_zero, int_quotient, long_quotient, of_int, of_long, holds, same_reference, is_null}
 use Rattle.jc_jvm.specs.Stacked.{Stacked, units_in}
 use Rattle.jc_jvm.specs.Thrown.{State, Going, Over, fault_thrown, thrown}
 use Rattle.jc_jvm.specs.Types.{is_of_sort, fits, result_sort, sort_of_descriptor, shape_named, based, deeper}
 use Rattle.jc_jvm.specs.Worlds.{state_of_class, statics_at, with_static}
 use Rattle.jc_jvm.specs.declared.frame.Frame.{Frame}
 use Rattle.jc_jvm.specs.declared.frame.Waiting.{Waiting}
+use Rattle.jc_jvm.specs.declared.groups.Comparison.{Comparison}
+use Rattle.jc_jvm.specs.declared.groups.Comparison.TheVariants as compare
+use Rattle.jc_jvm.specs.declared.groups.Division.{Division}
+use Rattle.jc_jvm.specs.declared.groups.Division.TheVariants as division
+use Rattle.jc_jvm.specs.declared.groups.Element.{Element}
+use Rattle.jc_jvm.specs.declared.groups.Element.TheVariants.{OfInt, OfLong, OfReference, OfByte, OfChar, OfShort}
+use Rattle.jc_jvm.specs.declared.groups.Group.{Group}
+use Rattle.jc_jvm.specs.declared.groups.Group.TheVariants.{Alone, Numbers, Literals, Longs, Loads, Stores, Steps, ElementLoads, ElementStores, IntJumps, IntPairJumps, PairJumps, NullJumps, Jumps, Switches, Returns, StaticLoads, StaticStores, FieldLoads, FieldStores, VirtualCalls, SpecialCalls, StaticCalls, News, NewArrays, NewReferenceArrays, NewNests, Lengths, Throws, Casts, Tests}
+use Rattle.jc_jvm.specs.declared.groups.IntConversion.{IntConversion}
+use Rattle.jc_jvm.specs.declared.groups.IntConversion.TheVariants as int_to
+use Rattle.jc_jvm.specs.declared.groups.LongConversion.{LongConversion}
+use Rattle.jc_jvm.specs.declared.groups.LongConversion.TheVariants as long_to
+use Rattle.jc_jvm.specs.declared.groups.Operator.{Operator}
+use Rattle.jc_jvm.specs.declared.groups.Operator.TheVariants as operator
+use Rattle.jc_jvm.specs.declared.groups.Plain.{Plain}
+use Rattle.jc_jvm.specs.declared.groups.Plain.TheVariants.{Push, Load, Store, Increment, Discard, Swap, Duplicate, CalculateInt, CalculateLong, ShiftInt, ShiftLong, DivideInt, DivideLong, ConvertInt, ConvertLong, CompareLongs, JumpByInt, JumpByInts, JumpByReferences, JumpByNull, Jump}
+use Rattle.jc_jvm.specs.declared.groups.Shift.{Shift}
+use Rattle.jc_jvm.specs.declared.groups.Shift.TheVariants as shift
+use Rattle.jc_jvm.specs.declared.groups.Width.{Width}
+use Rattle.jc_jvm.specs.declared.groups.Width.TheVariants as some
 use Rattle.jc_jvm.specs.declared.frame.Waiting.TheVariants.{Caller}
 use Rattle.jc_jvm.specs.declared.operands.Sort.{Sort}
 use Rattle.jc_jvm.specs.declared.operands.Sort.TheVariants.{WholeSort, LongSort, ReferenceSort}
@@ -45,186 +65,102 @@ use Rattle.jc_jvm.specs.declared.world.World.{World}
 
 -- ---- what an instruction takes and gives
 
-pub data Group : Type 0 where
-  -- a constant onto the stack
-  Constants : Group
-  -- the number behind the instruction
-  Numbers : Group
-  -- an int or a string of the constant pool
-  Literals : Group
-  -- a long of the constant pool
-  Longs : Group
-  -- a local variable onto the stack
-  Loads : Group
-  -- the topmost value into a local variable
-  Stores : Group
-  -- a local int grows
-  Steps : Group
-  -- an element of an array
-  ElementLoads : Group
-  -- into an element of an array
-  ElementStores : Group
-  -- values of the stack go away or change places
-  Moves : Group
-  -- values of the stack are copied
-  Copies : Group
-  -- of two ints one
-  IntPairs : Group
-  -- of two longs one
-  LongPairs : Group
-  -- a long shifted by an int
-  LongShifts : Group
-  -- of two ints one, if the divisor isn't zero
-  IntQuotients : Group
-  -- of two longs one, if the divisor isn't zero
-  LongQuotients : Group
-  -- of an int another value
-  OfInts : Group
-  -- of a long another value
-  OfLongs : Group
-  -- of two longs an int
-  Comparisons : Group
-  -- jumps by a test of an int
-  IntJumps : Group
-  -- jumps by a test of two ints
-  IntPairJumps : Group
-  -- jumps by a test of two references
-  PairJumps : Group
-  -- jumps by a test of a reference
-  NullJumps : Group
-  -- jumps
-  Jumps : Group
-  -- jumps by an int
-  Switches : Group
-  -- returns
-  Returns : Group
-  -- a static field onto the stack
-  StaticLoads : Group
-  -- into a static field
-  StaticStores : Group
-  -- a field of an object
-  FieldLoads : Group
-  -- into a field of an object
-  FieldStores : Group
-  -- calls by the object's class
-  VirtualCalls : Group
-  -- calls of constructors, private methods and those of superclasses
-  SpecialCalls : Group
-  -- calls without an object
-  StaticCalls : Group
-  -- a new object
-  News : Group
-  -- a new array of a primitive type
-  NewArrays : Group
-  -- a new array of references
-  NewReferenceArrays : Group
-  -- new arrays of several lengths
-  NewNests : Group
-  -- the length of an array
-  Lengths : Group
-  -- throws
-  Throws : Group
-  -- checks the type of a reference
-  Casts : Group
-  -- tests the type of a reference
-  Tests : Group
-
 abbrev pub group_of : Opcode → Group
-group_of is.AconstNull = Constants
-group_of is.IconstM1 = Constants
-group_of is.Iconst0 = Constants
-group_of is.Iconst1 = Constants
-group_of is.Iconst2 = Constants
-group_of is.Iconst3 = Constants
-group_of is.Iconst4 = Constants
-group_of is.Iconst5 = Constants
-group_of is.Lconst0 = Constants
-group_of is.Lconst1 = Constants
+group_of is.AconstNull = Alone (Push NullValue)
+group_of is.IconstM1 = Alone (Push (Whole (negsuc 0)))
+group_of is.Iconst0 = Alone (Push (Whole (pos 0)))
+group_of is.Iconst1 = Alone (Push (Whole (pos 1)))
+group_of is.Iconst2 = Alone (Push (Whole (pos 2)))
+group_of is.Iconst3 = Alone (Push (Whole (pos 3)))
+group_of is.Iconst4 = Alone (Push (Whole (pos 4)))
+group_of is.Iconst5 = Alone (Push (Whole (pos 5)))
+group_of is.Lconst0 = Alone (Push (Long (pos 0)))
+group_of is.Lconst1 = Alone (Push (Long (pos 1)))
 group_of is.Bipush = Numbers
 group_of is.Sipush = Numbers
 group_of is.Ldc = Literals
 group_of is.LdcW = Literals
 group_of is.Ldc2W = Longs
-group_of is.Iload = Loads
-group_of is.Lload = Loads
-group_of is.Aload = Loads
-group_of is.Istore = Stores
-group_of is.Lstore = Stores
-group_of is.Astore = Stores
+group_of is.Iload = Loads WholeSort
+group_of is.Lload = Loads LongSort
+group_of is.Aload = Loads ReferenceSort
+group_of is.Istore = Stores WholeSort
+group_of is.Lstore = Stores LongSort
+group_of is.Astore = Stores ReferenceSort
 group_of is.Iinc = Steps
-group_of is.Iaload = ElementLoads
-group_of is.Laload = ElementLoads
-group_of is.Aaload = ElementLoads
-group_of is.Baload = ElementLoads
-group_of is.Caload = ElementLoads
-group_of is.Saload = ElementLoads
-group_of is.Iastore = ElementStores
-group_of is.Lastore = ElementStores
-group_of is.Aastore = ElementStores
-group_of is.Bastore = ElementStores
-group_of is.Castore = ElementStores
-group_of is.Sastore = ElementStores
-group_of is.Pop = Moves
-group_of is.Pop2 = Moves
-group_of is.Swap = Moves
-group_of is.Dup = Copies
-group_of is.DupX1 = Copies
-group_of is.DupX2 = Copies
-group_of is.Dup2 = Copies
-group_of is.Dup2X1 = Copies
-group_of is.Dup2X2 = Copies
-group_of is.Iadd = IntPairs
-group_of is.Isub = IntPairs
-group_of is.Imul = IntPairs
-group_of is.Ishl = IntPairs
-group_of is.Ishr = IntPairs
-group_of is.Iushr = IntPairs
-group_of is.Iand = IntPairs
-group_of is.Ior = IntPairs
-group_of is.Ixor = IntPairs
-group_of is.Ladd = LongPairs
-group_of is.Lsub = LongPairs
-group_of is.Lmul = LongPairs
-group_of is.Land = LongPairs
-group_of is.Lor = LongPairs
-group_of is.Lxor = LongPairs
-group_of is.Lshl = LongShifts
-group_of is.Lshr = LongShifts
-group_of is.Lushr = LongShifts
-group_of is.Idiv = IntQuotients
-group_of is.Irem = IntQuotients
-group_of is.Ldiv = LongQuotients
-group_of is.Lrem = LongQuotients
-group_of is.Ineg = OfInts
-group_of is.I2l = OfInts
-group_of is.I2b = OfInts
-group_of is.I2c = OfInts
-group_of is.I2s = OfInts
-group_of is.Lneg = OfLongs
-group_of is.L2i = OfLongs
-group_of is.Lcmp = Comparisons
-group_of is.Ifeq = IntJumps
-group_of is.Ifne = IntJumps
-group_of is.Iflt = IntJumps
-group_of is.Ifge = IntJumps
-group_of is.Ifgt = IntJumps
-group_of is.Ifle = IntJumps
-group_of is.IfIcmpeq = IntPairJumps
-group_of is.IfIcmpne = IntPairJumps
-group_of is.IfIcmplt = IntPairJumps
-group_of is.IfIcmpge = IntPairJumps
-group_of is.IfIcmpgt = IntPairJumps
-group_of is.IfIcmple = IntPairJumps
-group_of is.IfAcmpeq = PairJumps
-group_of is.IfAcmpne = PairJumps
-group_of is.Ifnull = NullJumps
-group_of is.Ifnonnull = NullJumps
+group_of is.Iaload = ElementLoads OfInt
+group_of is.Laload = ElementLoads OfLong
+group_of is.Aaload = ElementLoads OfReference
+group_of is.Baload = ElementLoads OfByte
+group_of is.Caload = ElementLoads OfChar
+group_of is.Saload = ElementLoads OfShort
+group_of is.Iastore = ElementStores OfInt
+group_of is.Lastore = ElementStores OfLong
+group_of is.Aastore = ElementStores OfReference
+group_of is.Bastore = ElementStores OfByte
+group_of is.Castore = ElementStores OfChar
+group_of is.Sastore = ElementStores OfShort
+group_of is.Pop = Alone (Discard some.OneUnit)
+group_of is.Pop2 = Alone (Discard some.TwoUnits)
+group_of is.Swap = Alone Swap
+group_of is.Dup = Alone (Duplicate some.OneUnit some.NoUnit)
+group_of is.DupX1 = Alone (Duplicate some.OneUnit some.OneUnit)
+group_of is.DupX2 = Alone (Duplicate some.OneUnit some.TwoUnits)
+group_of is.Dup2 = Alone (Duplicate some.TwoUnits some.NoUnit)
+group_of is.Dup2X1 = Alone (Duplicate some.TwoUnits some.OneUnit)
+group_of is.Dup2X2 = Alone (Duplicate some.TwoUnits some.TwoUnits)
+group_of is.Iadd = Alone (CalculateInt operator.Add)
+group_of is.Isub = Alone (CalculateInt operator.Subtract)
+group_of is.Imul = Alone (CalculateInt operator.Multiply)
+group_of is.Ishl = Alone (ShiftInt shift.Left)
+group_of is.Ishr = Alone (ShiftInt shift.Right)
+group_of is.Iushr = Alone (ShiftInt shift.Unsigned)
+group_of is.Iand = Alone (CalculateInt operator.And)
+group_of is.Ior = Alone (CalculateInt operator.Or)
+group_of is.Ixor = Alone (CalculateInt operator.Xor)
+group_of is.Ladd = Alone (CalculateLong operator.Add)
+group_of is.Lsub = Alone (CalculateLong operator.Subtract)
+group_of is.Lmul = Alone (CalculateLong operator.Multiply)
+group_of is.Land = Alone (CalculateLong operator.And)
+group_of is.Lor = Alone (CalculateLong operator.Or)
+group_of is.Lxor = Alone (CalculateLong operator.Xor)
+group_of is.Lshl = Alone (ShiftLong shift.Left)
+group_of is.Lshr = Alone (ShiftLong shift.Right)
+group_of is.Lushr = Alone (ShiftLong shift.Unsigned)
+group_of is.Idiv = Alone (DivideInt division.Quotient)
+group_of is.Irem = Alone (DivideInt division.Remainder)
+group_of is.Ldiv = Alone (DivideLong division.Quotient)
+group_of is.Lrem = Alone (DivideLong division.Remainder)
+group_of is.Ineg = Alone (ConvertInt int_to.Negated)
+group_of is.I2l = Alone (ConvertInt int_to.Widened)
+group_of is.I2b = Alone (ConvertInt int_to.ToByte)
+group_of is.I2c = Alone (ConvertInt int_to.ToChar)
+group_of is.I2s = Alone (ConvertInt int_to.ToShort)
+group_of is.Lneg = Alone (ConvertLong long_to.LongNegated)
+group_of is.L2i = Alone (ConvertLong long_to.Narrowed)
+group_of is.Lcmp = Alone CompareLongs
+group_of is.Ifeq = IntJumps compare.Equal
+group_of is.Ifne = IntJumps compare.Unequal
+group_of is.Iflt = IntJumps compare.Less
+group_of is.Ifge = IntJumps compare.NotLess
+group_of is.Ifgt = IntJumps compare.Greater
+group_of is.Ifle = IntJumps compare.NotGreater
+group_of is.IfIcmpeq = IntPairJumps compare.Equal
+group_of is.IfIcmpne = IntPairJumps compare.Unequal
+group_of is.IfIcmplt = IntPairJumps compare.Less
+group_of is.IfIcmpge = IntPairJumps compare.NotLess
+group_of is.IfIcmpgt = IntPairJumps compare.Greater
+group_of is.IfIcmple = IntPairJumps compare.NotGreater
+group_of is.IfAcmpeq = PairJumps false
+group_of is.IfAcmpne = PairJumps true
+group_of is.Ifnull = NullJumps false
+group_of is.Ifnonnull = NullJumps true
 group_of is.Goto = Jumps
 group_of is.Lookupswitch = Switches
-group_of is.Ireturn = Returns
-group_of is.Lreturn = Returns
-group_of is.Areturn = Returns
-group_of is.Return = Returns
+group_of is.Ireturn = Returns (Some WholeSort)
+group_of is.Lreturn = Returns (Some LongSort)
+group_of is.Areturn = Returns (Some ReferenceSort)
+group_of is.Return = Returns None
 group_of is.Getstatic = StaticLoads
 group_of is.Putstatic = StaticStores
 group_of is.Getfield = FieldLoads
@@ -249,54 +185,41 @@ abbrev pub gives : ℕ → Frame → List Value → Option Value → Act
 gives next now rest (Some v) = pushes next now rest v
 gives next now rest None = Fails
 
-abbrev pub whole_of : Option ℤ → Option Value
-whole_of n = option_map (λ (x : ℤ). Whole x) n
+abbrev pub int_pairs : Operator → ℕ → Frame → List Value → Act
+int_pairs how next now (Whole b ∷ Whole a ∷ rest) = pushes next now rest (Whole (int_of_two how a b))
+int_pairs how next now _ = Fails
 
-abbrev pub long_of : Option ℤ → Option Value
-long_of n = option_map (λ (x : ℤ). Long x) n
+abbrev pub long_pairs : Operator → ℕ → Frame → List Value → Act
+long_pairs how next now (Long b ∷ Long a ∷ rest) = pushes next now rest (Long (long_of_two how a b))
+long_pairs how next now _ = Fails
 
-abbrev pub constants : Opcode → ℕ → Frame → Act
-constants code next now = gives next now now.stack.values (constant_of code)
+abbrev pub int_shifts : Shift → ℕ → Frame → List Value → Act
+int_shifts how next now (Whole b ∷ Whole a ∷ rest) = pushes next now rest (Whole (int_shifted how a b))
+int_shifts how next now _ = Fails
 
-abbrev pub int_pairs : Opcode → ℕ → Frame → List Value → Act
-int_pairs code next now (Whole b ∷ Whole a ∷ rest) = gives next now rest (whole_of (int_of_two code a b))
-int_pairs code next now _ = Fails
+abbrev pub long_shifts : Shift → ℕ → Frame → List Value → Act
+long_shifts how next now (Whole b ∷ Long a ∷ rest) = pushes next now rest (Long (long_shifted how a b))
+long_shifts how next now _ = Fails
 
-abbrev pub long_pairs : Opcode → ℕ → Frame → List Value → Act
-long_pairs code next now (Long b ∷ Long a ∷ rest) = gives next now rest (long_of (long_of_two code a b))
-long_pairs code next now _ = Fails
+abbrev pub int_quotients : Division → ℕ → Frame → List Value → Act
+int_quotients how next now (Whole b ∷ Whole a ∷ rest) = if is_zero b then throws Arithmetic now else pushes next now rest (Whole (int_quotient how a b))
+int_quotients how next now _ = Fails
 
-abbrev pub long_shifts : Opcode → ℕ → Frame → List Value → Act
-long_shifts code next now (Whole b ∷ Long a ∷ rest) = gives next now rest (long_of (long_shifted code a b))
-long_shifts code next now _ = Fails
+abbrev pub long_quotients : Division → ℕ → Frame → List Value → Act
+long_quotients how next now (Long b ∷ Long a ∷ rest) = if is_zero b then throws Arithmetic now else pushes next now rest (Long (long_quotient how a b))
+long_quotients how next now _ = Fails
 
-abbrev pub int_quotients : Opcode → ℕ → Frame → List Value → Act
-int_quotients code next now (Whole b ∷ Whole a ∷ rest) = if is_zero b then throws Arithmetic now else gives next now rest (whole_of (int_quotient code a b))
-int_quotients code next now _ = Fails
+abbrev pub of_ints : IntConversion → ℕ → Frame → List Value → Act
+of_ints how next now (Whole n ∷ rest) = pushes next now rest (of_int how n)
+of_ints how next now _ = Fails
 
-abbrev pub long_quotients : Opcode → ℕ → Frame → List Value → Act
-long_quotients code next now (Long b ∷ Long a ∷ rest) = if is_zero b then throws Arithmetic now else gives next now rest (long_of (long_quotient code a b))
-long_quotients code next now _ = Fails
-
-abbrev pub of_ints : Opcode → ℕ → Frame → List Value → Act
-of_ints code next now (Whole n ∷ rest) = gives next now rest (of_int code n)
-of_ints code next now _ = Fails
-
-abbrev pub of_longs : Opcode → ℕ → Frame → List Value → Act
-of_longs code next now (Long n ∷ rest) = gives next now rest (of_long code n)
-of_longs code next now _ = Fails
+abbrev pub of_longs : LongConversion → ℕ → Frame → List Value → Act
+of_longs how next now (Long n ∷ rest) = pushes next now rest (of_long how n)
+of_longs how next now _ = Fails
 
 abbrev pub comparisons : ℕ → Frame → List Value → Act
 comparisons next now (Long b ∷ Long a ∷ rest) = pushes next now rest (Whole (compared a b))
 comparisons next now _ = Fails
-
--- the sort of the value that an instruction moves between the stack and a local variable
-abbrev pub local_sort : Opcode → Sort
-local_sort is.Lload = LongSort
-local_sort is.Lstore = LongSort
-local_sort is.Aload = ReferenceSort
-local_sort is.Astore = ReferenceSort
-local_sort _ = WholeSort
 
 abbrev pub loads : Sort → ℕ → ℕ → Frame → Act
 loads sort local next now = gives next now now.stack.values (local_of_sort sort (slice_get now.locals local))
@@ -313,64 +236,120 @@ abbrev pub steps : ℕ → ℤ → ℕ → Frame → Option (Option Value) → A
 steps local by next now (Some (Some (Whole n))) = keeps next now now.stack.values (with_local local (Whole (int_wrapping_add w32 n by)) now.locals)
 steps local by next now _ = Fails
 
-abbrev pub moved : Opcode → List Value → Option (List Value)
-moved is.Pop values = popped values
-moved is.Pop2 values = popped_two values
-moved is.Swap values = swapped values
-moved _ values = None
+-- pop and pop2
+abbrev pub discards : ℕ → Frame → Option (List Value × List Value) → Act
+discards next now (Some taken) = leaves next now taken.1
+discards next now None = Fails
 
-abbrev pub left : ℕ → Frame → Option (List Value) → Act
-left next now (Some values) = leaves next now values
-left next now None = Fails
+abbrev pub swaps : ℕ → Frame → List Value → Act
+swaps next now (a ∷ b ∷ rest) = if is_both_one_unit a b then leaves next now (b ∷ a ∷ rest) else Fails
+swaps next now _ = Fails
 
-abbrev pub copied : Opcode → List Value → Option Copied
-copied is.Dup values = copy_one values
-copied is.DupX1 values = copy_one_under_one values
-copied is.DupX2 values = copy_one_under_two values
-copied is.Dup2 values = copy_two values
-copied is.Dup2X1 values = copy_two_under_one values
-copied is.Dup2X2 values = copy_two_under_two values
-copied _ values = None
-
--- the copied values once more beneath those that stood under them, where there is room
+-- dup and its kin: the copied values once more beneath those that stood under them, where there is room
 abbrev pub copies_by : ℕ → Frame → List Value → Act
 copies_by next now values = if nat_le (units_in values) now.stack.limit then leaves next now values else Fails
 
-abbrev pub copies : ℕ → Frame → Option Copied → Act
-copies next now (Some c) = copies_by next now (c.0 ++ (c.1 ++ (c.0 ++ c.2)))
-copies next now None = Fails
+abbrev pub copies_under : ℕ → Frame → List Value → Option (List Value × List Value) → Act
+copies_under next now copied (Some under) = copies_by next now (copied ++ (under.0 ++ (copied ++ under.1)))
+copies_under next now copied None = Fails
+
+abbrev pub copies : Width → ℕ → Frame → Option (List Value × List Value) → Act
+copies under next now (Some taken) = copies_under next now taken.0 (units_taken under taken.1)
+copies under next now None = Fails
 
 -- a jump goes to its place where the test holds
-abbrev pub jumps : ℕ → ℕ → Frame → List Value → Option Bool → Act
-jumps to next now rest (Some true) = leaves to now rest
-jumps to next now rest (Some false) = leaves next now rest
-jumps to next now rest None = Fails
+abbrev pub jumps : ℕ → ℕ → Frame → List Value → Bool → Act
+jumps to next now rest true = leaves to now rest
+jumps to next now rest false = leaves next now rest
 
-abbrev pub int_jumps : Opcode → ℕ → ℕ → Frame → List Value → Act
-int_jumps code to next now (Whole n ∷ rest) = jumps to next now rest (int_test code n)
-int_jumps code to next now _ = Fails
+abbrev pub int_jumps : Comparison → ℕ → ℕ → Frame → List Value → Act
+int_jumps test to next now (Whole n ∷ rest) = jumps to next now rest (holds test n (pos 0))
+int_jumps test to next now _ = Fails
 
-abbrev pub int_pair_jumps : Opcode → ℕ → ℕ → Frame → List Value → Act
-int_pair_jumps code to next now (Whole b ∷ Whole a ∷ rest) = jumps to next now rest (int_pair_test code a b)
-int_pair_jumps code to next now _ = Fails
+abbrev pub int_pair_jumps : Comparison → ℕ → ℕ → Frame → List Value → Act
+int_pair_jumps test to next now (Whole b ∷ Whole a ∷ rest) = jumps to next now rest (holds test a b)
+int_pair_jumps test to next now _ = Fails
 
--- the tests of Ifnull and IfAcmpeq as they are, those of Ifnonnull and IfAcmpne the other way
-abbrev pub is_turned : Opcode → Bool
-is_turned is.IfAcmpne = true
-is_turned is.Ifnonnull = true
-is_turned _ = false
-
-abbrev pub turned : Bool → Option Bool → Option Bool
-turned true test = option_map not test
+-- a test of references, or the other way; there is none of values that are no references
+abbrev pub turned : Bool → Bool → Bool
+turned true test = not test
 turned false test = test
 
+abbrev pub reference_jumps : Bool → ℕ → ℕ → Frame → List Value → Option Bool → Act
+reference_jumps other to next now rest (Some test) = jumps to next now rest (turned other test)
+reference_jumps other to next now rest None = Fails
+
 abbrev pub pair_jumps : Bool → ℕ → ℕ → Frame → List Value → Act
-pair_jumps other to next now (b ∷ a ∷ rest) = jumps to next now rest (turned other (same_reference a b))
+pair_jumps other to next now (b ∷ a ∷ rest) = reference_jumps other to next now rest (same_reference a b)
 pair_jumps other to next now _ = Fails
 
 abbrev pub null_jumps : Bool → ℕ → ℕ → Frame → List Value → Act
-null_jumps other to next now (v ∷ rest) = jumps to next now rest (turned other (is_null v))
+null_jumps other to next now (v ∷ rest) = reference_jumps other to next now rest (is_null v)
 null_jumps other to next now [] = Fails
+
+-- what an instruction does that touches its frame alone
+abbrev pub plain_act : Plain → ℕ → Frame → Act
+plain_act (Push v) next now = pushes next now now.stack.values v
+plain_act (Load sort local) next now = loads sort local next now
+plain_act (Store sort local) next now = stores sort local next now now.stack.values
+plain_act (Increment local by) next now = steps local by next now (slice_get now.locals local)
+plain_act (Discard units) next now = discards next now (units_taken units now.stack.values)
+plain_act Swap next now = swaps next now now.stack.values
+plain_act (Duplicate copied under) next now = copies under next now (units_taken copied now.stack.values)
+plain_act (CalculateInt how) next now = int_pairs how next now now.stack.values
+plain_act (CalculateLong how) next now = long_pairs how next now now.stack.values
+plain_act (ShiftInt how) next now = int_shifts how next now now.stack.values
+plain_act (ShiftLong how) next now = long_shifts how next now now.stack.values
+plain_act (DivideInt how) next now = int_quotients how next now now.stack.values
+plain_act (DivideLong how) next now = long_quotients how next now now.stack.values
+plain_act (ConvertInt how) next now = of_ints how next now now.stack.values
+plain_act (ConvertLong how) next now = of_longs how next now now.stack.values
+plain_act CompareLongs next now = comparisons next now now.stack.values
+plain_act (JumpByInt test to) next now = int_jumps test to next now now.stack.values
+plain_act (JumpByInts test to) next now = int_pair_jumps test to next now now.stack.values
+plain_act (JumpByReferences other to) next now = pair_jumps other to next now now.stack.values
+plain_act (JumpByNull other to) next now = null_jumps other to next now now.stack.values
+plain_act (Jump to) next now = leaves to now now.stack.values
+
+-- such an instruction, by its operand and its group
+abbrev pub alone_of : Group → Option Plain
+alone_of (Alone plain) = Some plain
+alone_of group = None
+
+abbrev pub with_number : Group → ℤ → Option Plain
+with_number Numbers n = Some (Push (Whole n))
+with_number group n = None
+
+abbrev pub with_constant : Group → Loaded → Option Plain
+with_constant Literals (LoadedWhole n) = Some (Push (Whole n))
+with_constant Longs (LoadedLong n) = Some (Push (Long n))
+with_constant group constant = None
+
+abbrev pub on_local : Group → ℕ → Option Plain
+on_local (Loads sort) local = Some (Load sort local)
+on_local (Stores sort) local = Some (Store sort local)
+on_local group local = None
+
+abbrev pub by_step : Group → ℕ → ℤ → Option Plain
+by_step Steps local by = Some (Increment local by)
+by_step group local by = None
+
+abbrev pub jump_to : Group → ℕ → Option Plain
+jump_to (IntJumps test) to = Some (JumpByInt test to)
+jump_to (IntPairJumps test) to = Some (JumpByInts test to)
+jump_to (PairJumps other) to = Some (JumpByReferences other to)
+jump_to (NullJumps other) to = Some (JumpByNull other to)
+jump_to Jumps to = Some (Jump to)
+jump_to group to = None
+
+abbrev pub plain_of : Group → Operand → Option Plain
+plain_of group op.Nothing = alone_of group
+plain_of group (op.Number n) = with_number group n
+plain_of group (op.Load constant) = with_constant group constant
+plain_of group (op.Local local) = on_local group local
+plain_of group (op.Step local by) = by_step group local by
+plain_of group (op.Jump to) = jump_to group to
+plain_of group operand = None
 
 -- where a switch goes for an int: to the first case of that key, or else to the place for all others
 abbrev pub case_of : List SwitchCase → ℤ → ℕ → ℕ
@@ -478,40 +457,27 @@ tests classes world next now shape (NullValue ∷ rest) = pushes next now rest (
 tests classes world next now (Some shape) (Address at ∷ rest) = pushes next now rest (truth (fits classes world.heap shape (Address at)))
 tests classes world next now _ _ = Fails
 
-abbrev pub element_by : Opcode → Element
-element_by is.Laload = OfLong
-element_by is.Lastore = OfLong
-element_by is.Aaload = OfReference
-element_by is.Aastore = OfReference
-element_by is.Baload = OfByte
-element_by is.Bastore = OfByte
-element_by is.Caload = OfChar
-element_by is.Castore = OfChar
-element_by is.Saload = OfShort
-element_by is.Sastore = OfShort
-element_by _ = OfInt
-
 -- ---- returns and throws
 
--- the value that a return gives: the topmost one, if it is of the sort that the method's descriptor says; `return` gives none
+-- the value that a return of this sort gives: the topmost one, if it is of the sort that the method's descriptor says; `return` gives none
 abbrev pub top_of_sort : Sort → List Value → Option (Option Value)
 top_of_sort sort (v ∷ rest) = if is_of_sort sort v then Some (Some v) else None
 top_of_sort sort [] = None
 
-abbrev pub given_back : Opcode → Option Sort → List Value → Option (Option Value)
-given_back is.Return None values = Some None
-given_back is.Ireturn (Some WholeSort) values = top_of_sort WholeSort values
-given_back is.Lreturn (Some LongSort) values = top_of_sort LongSort values
-given_back is.Areturn (Some ReferenceSort) values = top_of_sort ReferenceSort values
-given_back _ result values = None
+abbrev pub given_back : Option Sort → Option Sort → List Value → Option (Option Value)
+given_back None None values = Some None
+given_back (Some WholeSort) (Some WholeSort) values = top_of_sort WholeSort values
+given_back (Some LongSort) (Some LongSort) values = top_of_sort LongSort values
+given_back (Some ReferenceSort) (Some ReferenceSort) values = top_of_sort ReferenceSort values
+given_back wanted result values = None
 
 abbrev pub returns_by : List ClassModel → World → List Waiting → Option (Option Value) → Step
 returns_by classes world waiting (Some v) = MovesTo Quiet (returned classes world waiting v)
 returns_by classes world waiting None = stuck
 
-abbrev pub returns : List ClassModel → World → Frame → List Waiting → Opcode → Option MethodModel → Step
-returns classes world now waiting code (Some m) = returns_by classes world waiting (given_back code (result_sort m.descriptor) now.stack.values)
-returns classes world now waiting code None = stuck
+abbrev pub returns : List ClassModel → World → Frame → List Waiting → Option Sort → Option MethodModel → Step
+returns classes world now waiting wanted (Some m) = returns_by classes world waiting (given_back wanted (result_sort m.descriptor) now.stack.values)
+returns classes world now waiting wanted None = stuck
 
 abbrev pub throws_top : List ClassModel → World → Frame → List Waiting → List Value → Step
 throws_top classes world now waiting (Address at ∷ rest) = MovesTo Quiet (thrown classes world now waiting at)
@@ -520,63 +486,46 @@ throws_top classes world now waiting _ = stuck
 
 -- ---- the table
 
--- an instruction with an operand that isn't its own does nothing
-abbrev pub row : List ClassModel → World → ℕ → Frame → List Waiting → Opcode → Group → Operand → Step
-row classes world next now waiting code Constants op.Nothing = acts classes waiting (world, constants code next now)
-row classes world next now waiting code Numbers (op.Number n) = acts classes waiting (world, pushes next now now.stack.values (Whole n))
-row classes world next now waiting code Literals (op.Load (LoadedWhole n)) = acts classes waiting (world, pushes next now now.stack.values (Whole n))
-row classes world next now waiting code Literals (op.Load (LoadedText text)) = acts classes waiting (literal_pushed classes text world next now)
-row classes world next now waiting code Longs (op.Load (LoadedLong n)) = acts classes waiting (world, pushes next now now.stack.values (Long n))
-row classes world next now waiting code Loads (op.Local local) = acts classes waiting (world, loads (local_sort code) local next now)
-row classes world next now waiting code Stores (op.Local local) = acts classes waiting (world, stores (local_sort code) local next now now.stack.values)
-row classes world next now waiting code Steps (op.Step local by) = acts classes waiting (world, steps local by next now (slice_get now.locals local))
-row classes world next now waiting code ElementLoads op.Nothing = acts classes waiting (world, element_loaded (element_by code) world next now now.stack.values)
-row classes world next now waiting code ElementStores op.Nothing = acts classes waiting (element_stored classes (element_by code) world next now now.stack.values)
-row classes world next now waiting code Moves op.Nothing = acts classes waiting (world, left next now (moved code now.stack.values))
-row classes world next now waiting code Copies op.Nothing = acts classes waiting (world, copies next now (copied code now.stack.values))
-row classes world next now waiting code IntPairs op.Nothing = acts classes waiting (world, int_pairs code next now now.stack.values)
-row classes world next now waiting code LongPairs op.Nothing = acts classes waiting (world, long_pairs code next now now.stack.values)
-row classes world next now waiting code LongShifts op.Nothing = acts classes waiting (world, long_shifts code next now now.stack.values)
-row classes world next now waiting code IntQuotients op.Nothing = acts classes waiting (world, int_quotients code next now now.stack.values)
-row classes world next now waiting code LongQuotients op.Nothing = acts classes waiting (world, long_quotients code next now now.stack.values)
-row classes world next now waiting code OfInts op.Nothing = acts classes waiting (world, of_ints code next now now.stack.values)
-row classes world next now waiting code OfLongs op.Nothing = acts classes waiting (world, of_longs code next now now.stack.values)
-row classes world next now waiting code Comparisons op.Nothing = acts classes waiting (world, comparisons next now now.stack.values)
-row classes world next now waiting code IntJumps (op.Jump to) = acts classes waiting (world, int_jumps code to next now now.stack.values)
-row classes world next now waiting code IntPairJumps (op.Jump to) = acts classes waiting (world, int_pair_jumps code to next now now.stack.values)
-row classes world next now waiting code PairJumps (op.Jump to) = acts classes waiting (world, pair_jumps (is_turned code) to next now now.stack.values)
-row classes world next now waiting code NullJumps (op.Jump to) = acts classes waiting (world, null_jumps (is_turned code) to next now now.stack.values)
-row classes world next now waiting code Jumps (op.Jump to) = acts classes waiting (world, leaves to now now.stack.values)
-row classes world next now waiting code Switches (op.Switch otherwise cases) = acts classes waiting (world, switches otherwise cases now now.stack.values)
-row classes world next now waiting code Returns op.Nothing = returns classes world now waiting code (method_at classes (now.class, now.method))
-row classes world next now waiting code Throws op.Nothing = throws_top classes world now waiting now.stack.values
-row classes world next now waiting code StaticLoads (op.Member class name descriptor) =
+-- what the other instructions do; the table allows nothing where the operand isn't the instruction's own
+abbrev pub row : List ClassModel → World → ℕ → Frame → List Waiting → Group → Operand → Step
+row classes world next now waiting Literals (op.Load (LoadedText text)) = acts classes waiting (literal_pushed classes text world next now)
+row classes world next now waiting (ElementLoads element) op.Nothing = acts classes waiting (world, element_loaded element world next now now.stack.values)
+row classes world next now waiting (ElementStores element) op.Nothing = acts classes waiting (element_stored classes element world next now now.stack.values)
+row classes world next now waiting Switches (op.Switch otherwise cases) = acts classes waiting (world, switches otherwise cases now now.stack.values)
+row classes world next now waiting (Returns wanted) op.Nothing = returns classes world now waiting wanted (method_at classes (now.class, now.method))
+row classes world next now waiting Throws op.Nothing = throws_top classes world now waiting now.stack.values
+row classes world next now waiting StaticLoads (op.Member class name descriptor) =
     static_loads classes (sort_of_descriptor descriptor) world next now waiting (static_field classes class name descriptor)
-row classes world next now waiting code StaticStores (op.Member class name descriptor) =
+row classes world next now waiting StaticStores (op.Member class name descriptor) =
     static_stores classes (sort_of_descriptor descriptor) world next now waiting (static_field classes class name descriptor)
-row classes world next now waiting code FieldLoads (op.Member class name descriptor) =
+row classes world next now waiting FieldLoads (op.Member class name descriptor) =
     field_loads classes (sort_of_descriptor descriptor) world next now waiting (instance_slot classes class name descriptor)
-row classes world next now waiting code FieldStores (op.Member class name descriptor) =
+row classes world next now waiting FieldStores (op.Member class name descriptor) =
     field_stores classes (sort_of_descriptor descriptor) world next now waiting (instance_slot classes class name descriptor)
-row classes world next now waiting code VirtualCalls (op.Member class name descriptor) =
+row classes world next now waiting VirtualCalls (op.Member class name descriptor) =
     called_virtually classes name descriptor world next now waiting (arguments_of (sorts_of_call true descriptor) now.stack.values)
-row classes world next now waiting code SpecialCalls (op.Member class name descriptor) =
+row classes world next now waiting SpecialCalls (op.Member class name descriptor) =
     called_specially classes (special_method classes now.class class name descriptor) world next now waiting (arguments_of (sorts_of_call true descriptor) now.stack.values)
-row classes world next now waiting code StaticCalls (op.Member class name descriptor) =
+row classes world next now waiting StaticCalls (op.Member class name descriptor) =
     static_calls classes descriptor world next now waiting (static_method classes class name descriptor)
-row classes world next now waiting code News (op.Class name) = news classes world next now waiting (class_named classes name)
-row classes world next now waiting code NewArrays (op.Number n) = new_arrays classes world next now waiting (option_map based (type_of_code n))
-row classes world next now waiting code NewReferenceArrays (op.Class name) = new_arrays classes world next now waiting (shape_named classes name)
-row classes world next now waiting code NewNests (op.Dims name dims) = new_nests classes dims world next now waiting (shape_named classes name)
-row classes world next now waiting code Lengths op.Nothing = acts classes waiting (world, array_length world next now now.stack.values)
-row classes world next now waiting code Casts (op.Class name) = acts classes waiting (world, casts classes world next now (shape_named classes name) now.stack.values)
-row classes world next now waiting code Tests (op.Class name) = acts classes waiting (world, tests classes world next now (shape_named classes name) now.stack.values)
-row classes world next now waiting code group operand = stuck
+row classes world next now waiting News (op.Class name) = news classes world next now waiting (class_named classes name)
+row classes world next now waiting NewArrays (op.Number n) = new_arrays classes world next now waiting (option_map based (type_of_code n))
+row classes world next now waiting NewReferenceArrays (op.Class name) = new_arrays classes world next now waiting (shape_named classes name)
+row classes world next now waiting NewNests (op.Dims name dims) = new_nests classes dims world next now waiting (shape_named classes name)
+row classes world next now waiting Lengths op.Nothing = acts classes waiting (world, array_length world next now now.stack.values)
+row classes world next now waiting Casts (op.Class name) = acts classes waiting (world, casts classes world next now (shape_named classes name) now.stack.values)
+row classes world next now waiting Tests (op.Class name) = acts classes waiting (world, tests classes world next now (shape_named classes name) now.stack.values)
+row classes world next now waiting group operand = stuck
 
 -- ---- steps
 
+abbrev pub grouped_row : List ClassModel → World → ℕ → Frame → List Waiting → Group → Operand → Option Plain → Step
+grouped_row classes world next now waiting group operand (Some plain) = acts classes waiting (world, plain_act plain next now)
+grouped_row classes world next now waiting group operand None = row classes world next now waiting group operand
+
 abbrev pub coded_row : List ClassModel → World → ℕ → Frame → List Waiting → Operand → Option Opcode → Step
-coded_row classes world next now waiting operand (Some code) = row classes world next now waiting code (group_of code) operand
+coded_row classes world next now waiting operand (Some code) =
+    grouped_row classes world next now waiting (group_of code) operand (plain_of (group_of code) operand)
 coded_row classes world next now waiting operand None = stuck
 
 -- the instruction at the frame's place, and the place behind it

@@ -1,6 +1,6 @@
-ghost use Rattle.std.specs.Prelude.{◌≡◌, ◌∷◌, ◌++◌, [], OnOk, OnErr, nat_lt, length, slice_get};
+ghost use Rattle.std.specs.Prelude.{◌≡◌, ◌∷◌, ◌++◌, [], ◌↔◌, IsTrue, IfSome, OnOk, OnErr, nat_lt, length, slice_get};
 ghost use Rattle.std.specs.Option.{option_copied};
-ghost use Rattle.jc_jvm.specs.Slotted.{heap_with, has_slot, cell_with, slots_of};
+ghost use Rattle.jc_jvm.specs.Slotted.{IsSmall, heap_with, has_slot, cell_with, slots_of};
 
 use crate::{Shape, Slots, Value};
 use jc_rules::WantOfMemory;
@@ -14,19 +14,34 @@ pub enum Cell {
     Array { of: Shape, items: Slots<Value> },
 }
 
-/// The objects and arrays, in the order in which they were made. Contracts see the list.
+/// The objects and arrays, in the order in which they were made. Contracts see the list. None has more than 2^31 - 1 slots.
 #[derive(Debug, Drop)]
 pub struct Cells {
     cells: Vec<Cell>,
 }
 
 impl Model for Cells {
-    ghost use Rattle.std.specs.Prelude.{List};
+    ghost use Rattle.std.specs.Prelude.{List, All};
+    ghost use Rattle.jc_jvm.specs.Slotted.{IsSmall};
     ghost use Rattle.jc_jvm.specs.declared.cells.Cell.{Cell};
 
     ghost Value = { List Cell };
 
     ghost view = { λ c. c.cells.items };
+
+    ghost invariant = { λ c. All IsSmall c.cells.items };
+}
+
+/// The most slots of an object or an array: as many as an int counts.
+const MOST: usize = 2147483647;
+
+fn is_small(cell: &Cell) -> bool
+    ensures { IsTrue result ↔ IsSmall cell.now }
+{
+    match cell {
+        Cell::Instance { fields, .. } => fields.len() <= MOST,
+        Cell::Array { items, .. } => items.len() <= MOST,
+    }
 }
 
 fn write(cell: &mut Cell, slot: usize, value: Value) -> bool
@@ -66,15 +81,20 @@ impl Cells {
     }
 
     pub fn get(&self, at: u64) -> Option<&Cell>
-        ensures { option_copied result ≡ slice_get self.now at }
+        ensures cell { option_copied result ≡ slice_get self.now at }
+        ensures small { IfSome result (λ cell. IsSmall cell.now) }
     {
         self.cells.get(at as usize)
     }
 
+    /// Adds an object or an array. One with too many slots finds no memory.
     pub fn push(&mut self, cell: Cell) -> Result<(), WantOfMemory>
         ensures ok { OnOk result (self.new ≡ self.old ++ cell ∷ []) }
         ensures err { OnErr result (self.new ≡ self.old) }
     {
+        if !is_small(&cell) {
+            return Err(WantOfMemory);
+        }
         self.cells.push(cell)?;
         Ok(())
     }

@@ -4,6 +4,7 @@
 
 mod cells;
 mod frame;
+mod groups;
 mod operands;
 mod slots;
 mod statics;
@@ -12,6 +13,10 @@ mod world;
 
 pub use cells::{Cell, Cells};
 pub use frame::{Frame, Waiting};
+pub use groups::{
+    Comparison, Division, Element, Group, IntConversion, LongConversion, Operator, Plain, Shift,
+    Width,
+};
 pub use operands::{Operands, Sort, sort_of};
 pub use slots::Slots;
 pub use statics::Statics;

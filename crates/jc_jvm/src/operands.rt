@@ -1,5 +1,5 @@
-ghost use Rattle.std.specs.Prelude.{◌≡◌, [], ◌∷◌, MatchOption, MatchBool, IfOk, Some, None};
-ghost use Rattle.jc_jvm.specs.Stacked.{pushed, units_of};
+ghost use Rattle.std.specs.Prelude.{◌≡◌, ◌≤◌, [], ◌∷◌, MatchOption, MatchBool, IfOk, Some, None};
+ghost use Rattle.jc_jvm.specs.Stacked.{pushed, units_of, units_in};
 ghost use Rattle.jc_jvm.specs.Types.{sort_of_value};
 
 use crate::Value;
@@ -84,11 +84,19 @@ impl Operands {
     /// Takes the value on top.
     pub fn pop(&mut self) -> Option<Value>
         ensures limit { self.new.limit ≡ self.old.limit }
+        ensures room { units_in self.old.values ≤ self.old.limit }
         ensures values { MatchOption result ((self.old.values ≡ []) × (self.new.values ≡ [])) (λ top. self.old.values ≡ top ∷ self.new.values) }
     {
         let top = self.values.pop()?;
         self.units -= units(top);
         Some(top)
+    }
+
+    /// Says that a stack is within its limit, and does nothing.
+    pub fn is_within(&self)
+        ensures { units_in self.now.values ≤ self.now.limit }
+    {
+        let _units = &self.units;
     }
 
     /// Takes all values away.

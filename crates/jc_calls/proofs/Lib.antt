@@ -1,0 +1,4 @@
+pub mod HandlerRows
+pub mod Laid
+pub mod MethodLines
+pub mod OnLine

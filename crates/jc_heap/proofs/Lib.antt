@@ -1,0 +1,4 @@
+pub mod Below
+pub mod LoadedElements
+pub mod FieldLayouts
+pub mod StringPlaces

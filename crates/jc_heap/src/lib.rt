@@ -1,0 +1,26 @@
+//! The instructions of the Java Virtual Machine on objects, arrays, strings and types that run no other code (JVMS SE 7, 6.5), and the
+//! classes that they ask.
+#![tactic(auto)]
+
+mod arrays;
+mod classes;
+mod elements;
+mod fields;
+mod kinds;
+mod layouts;
+mod names;
+mod objects;
+mod places;
+mod strings;
+mod supers;
+
+pub use arrays::{array_length, make_array, new_array, zero};
+pub use classes::Classes;
+pub use elements::{load_element, store_element};
+pub use fields::{load_field, push_field, store_field};
+pub use kinds::{cast, fits, test_kind};
+pub use layouts::superclass;
+pub use names::{class_named, class_spelled, field_sort, has_flag, shape_sort, spells};
+pub use objects::{make_object, new_object};
+pub use places::StringPlace;
+pub use strings::{interned, make_string, push_literal};

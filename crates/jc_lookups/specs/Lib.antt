@@ -1,0 +1,2 @@
+pub mod Deepened
+pub mod Interfaces

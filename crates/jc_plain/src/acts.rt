@@ -1,0 +1,35 @@
+ghost use Rattle.std.specs.Prelude.{◌≡◌};
+ghost use Rattle.jc_jvm.specs.Frames.{throws, pushes};
+ghost use Rattle.jc_plain.specs.Acted.{acted};
+
+use jc_jvm::{Fault, Frame, Value};
+
+/// What an instruction did to its frame, whose place stays.
+#[derive(Clone, Copy, Debug)]
+pub enum Act {
+    /// The frame goes on at this place.
+    Goes(u32),
+    /// The machine makes this exception, which comes up at the frame's place. The stack is empty.
+    Throws(Fault),
+    /// The table allows nothing.
+    Fails,
+}
+
+/// The exception comes up in the frame.
+pub fn throw_in(fault: Fault, now: &mut Frame) -> Act
+    ensures { throws fault now.old ≡ acted result now.new }
+{
+    now.stack.clear();
+    Act::Throws(fault)
+}
+
+/// A value onto the stack, where there is room for it.
+pub fn push(next: u32, now: &mut Frame, value: Value) -> Act
+    ensures { pushes next now.old now.old.stack.values value ≡ acted result now.new }
+{
+    if now.stack.push(value) {
+        Act::Goes(next)
+    } else {
+        Act::Fails
+    }
+}

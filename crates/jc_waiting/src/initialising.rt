@@ -1,0 +1,186 @@
+ghost use Rattle.std.specs.Prelude.{◌≡◌, ◌∷◌, [], IfOk, IfNone};
+ghost use Rattle.jc_jvm.specs.Classes.{class_has_flag};
+ghost use Rattle.jc_jvm.specs.Frames.{frame_of};
+ghost use Rattle.jc_jvm.specs.Initialising.{initialiser_begins, resumed, first_super as super_first, initialised_on, initialised};
+ghost use Rattle.jc_waiting.specs.Onwards.{state_of, state_resumed, first_by_state, first_of};
+
+use crate::{Onward, Stack, set_state, throw_fault_among};
+use jc_calls::{find_initialiser, frame_for};
+use jc_class_out::ClassModel;
+use jc_heap::{Classes, has_flag, superclass};
+use jc_jvm::{ClassState, Ending, Fault, Waiting, World};
+use jc_rules::WantOfMemory;
+use std::alloc::Global;
+
+fn begin(
+    alloc: Global,
+    classes: &Classes,
+    class: u64,
+    method: u64,
+    world: &World,
+    waiting: &mut Stack<Waiting>,
+) -> Result<Onward, WantOfMemory>
+    ensures { IfOk result (λ on. initialiser_begins classes.now world.now class waiting.old (frame_of classes.now (class, method) []) ≡ state_of on world.now waiting.new) }
+{
+    match frame_for(alloc, classes.models(), class, method, &[])? {
+        Some(frame) => {
+            waiting.push(Waiting::Initialising(class))?;
+            Ok(Onward::Runs(frame))
+        }
+        None => Ok(Onward::Ends(Ending::Stuck)),
+    }
+}
+
+// Of a class whose superclass is done the initialiser begins, if it has one.
+fn resume_class(
+    alloc: Global,
+    classes: &Classes,
+    class: u64,
+    world: &mut World,
+    waiting: &mut Stack<Waiting>,
+) -> Result<Option<Onward>, WantOfMemory>
+    ensures kept { IfOk result (λ on. IfNone on (waiting.new ≡ waiting.old)) }
+    ensures state { IfOk result (λ on. resumed classes.now world.old (Waiting.Prepared class ∷ waiting.old) ≡ state_resumed classes.now on world.new waiting.new) }
+{
+    match find_initialiser(classes.models(), class) {
+        Some(method) => {
+            let on = begin(alloc, classes, class, method as u64, world, waiting)?;
+            Ok(Some(on))
+        }
+        None => {
+            set_state(world, ClassState::Ready, class);
+            Ok(None)
+        }
+    }
+}
+
+fn resume_nearest(
+    alloc: Global,
+    classes: &Classes,
+    nearest: Waiting,
+    world: &mut World,
+    waiting: &mut Stack<Waiting>,
+) -> Result<Option<Onward>, WantOfMemory>
+    ensures kept { IfOk result (λ on. IfNone on (waiting.new ≡ waiting.old)) }
+    ensures state { IfOk result (λ on. resumed classes.now world.old (nearest ∷ waiting.old) ≡ state_resumed classes.now on world.new waiting.new) }
+{
+    match nearest {
+        Waiting::Caller(frame) => Ok(Some(Onward::Runs(frame))),
+        Waiting::Prepared(class) => resume_class(alloc, classes, class, world, waiting),
+        Waiting::Initialising(class) => {
+            set_state(world, ClassState::Ready, class);
+            Ok(None)
+        }
+    }
+}
+
+/// What waits goes on, from the nearest on.
+pub fn resume(
+    alloc: Global,
+    classes: &Classes,
+    world: &mut World,
+    waiting: &mut Stack<Waiting>,
+) -> Result<Onward, WantOfMemory>
+    ensures { IfOk result (λ on. resumed classes.now world.old waiting.old ≡ state_of on world.new waiting.new) }
+{
+    while let Some(nearest) = waiting.pop() {
+        match resume_nearest(alloc, classes, nearest, world, waiting)? {
+            Some(on) => return Ok(on),
+            None => (),
+        }
+    }
+    Ok(Onward::Ends(Ending::Ended))
+}
+
+fn has_class_flag(classes: &[ClassModel], flag: u16, class: u64) -> bool
+    ensures { result ≡ class_has_flag classes.now flag class }
+{
+    match classes.get(class as usize) {
+        Some(model) => has_flag(flag, model.flags),
+        None => false,
+    }
+}
+
+fn first_super(classes: &[ClassModel], class: u64) -> Option<u64>
+    ensures { result ≡ super_first classes.now class }
+{
+    if has_class_flag(classes, 512, class) {
+        None
+    } else {
+        superclass(classes, class)
+    }
+}
+
+/// What has to be done about the superclass before a class.
+#[derive(Clone, Copy, Debug)]
+enum First {
+    /// This one has to be initialised.
+    Untouched(u64),
+    Failed,
+    Nothing,
+}
+
+fn first_by(before: u64, state: Option<ClassState>) -> First
+    ensures { result ≡ first_by_state before state }
+{
+    match state {
+        Some(ClassState::Untouched) => First::Untouched(before),
+        Some(ClassState::Failed) => First::Failed,
+        Some(ClassState::InProgress) | Some(ClassState::Ready) | None => First::Nothing,
+    }
+}
+
+fn first_state(classes: &Classes, class: u64, world: &World) -> First
+    ensures { result ≡ first_of world.now (super_first classes.now class) }
+{
+    match first_super(classes.models(), class) {
+        Some(before) => first_by(before, world.states.get(before as usize)),
+        None => First::Nothing,
+    }
+}
+
+// The initialisation of a class that isn't touched yet begins, over at most so many superclasses.
+#[tactic(auto, using(crate::proofs::Begun::begun, crate::proofs::Begun::not_begun))]
+fn initialise_on(
+    alloc: Global,
+    classes: &Classes,
+    steps: usize,
+    class: u64,
+    world: &mut World,
+    waiting: &mut Stack<Waiting>,
+) -> Result<Onward, WantOfMemory>
+    ensures { IfOk result (λ on. initialised_on classes.now steps class world.old waiting.old ≡ state_of on world.new waiting.new) }
+{
+    if steps == 0 {
+        return Ok(Onward::Ends(Ending::Stuck));
+    }
+    set_state(world, ClassState::InProgress, class);
+    waiting.push(Waiting::Prepared(class))?;
+    match first_state(classes, class, world) {
+        First::Untouched(before) => {
+            initialise_on(alloc, classes, steps - 1, before, world, waiting)
+        }
+        First::Failed => throw_fault_among(alloc, classes, world, waiting, Fault::NoClassDefFound),
+        First::Nothing => resume(alloc, classes, world, waiting),
+    }
+}
+
+/// The initialisation of an untouched class begins; what waits for it waits already.
+pub fn initialise(
+    alloc: Global,
+    classes: &Classes,
+    class: u64,
+    world: &mut World,
+    waiting: &mut Stack<Waiting>,
+) -> Result<Onward, WantOfMemory>
+    ensures { IfOk result (λ on. initialised classes.now class world.old waiting.old ≡ state_of on world.new waiting.new) }
+{
+    initialise_on(
+        alloc,
+        classes,
+        classes.models().len(),
+        class,
+        world,
+        waiting,
+    )
+}
