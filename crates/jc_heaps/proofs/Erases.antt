@@ -1,8 +1,11 @@
 -- What erases goes through the ways in which computations are put together.
 use Rattle.std.proofs.Common.{◌≡◌, ℕ, zero, suc, refl, ap, ◌∙◌}
 use Rattle.jc_types.specs.declared.erased.Erased.{Erased}
-use Rattle.jc_running.specs.Outcomes.{Out, Val, Thrown, Exited, Going, Wrong, Run, give, throw, on_both, both_ways, bind, spend, leave, node, Completion, Turn, Again, Last, on_turn, turns}
-use Rattle.jc_heaps.specs.States.{State}
+use Rattle.jc_running.specs.declared.value.Completion.{Completion}
+use Rattle.jc_running.specs.declared.value.Turn.{Turn}
+use Rattle.jc_running.specs.declared.value.Turn.TheVariants.{Again, Last}
+use Rattle.jc_running.specs.Outcomes.{Out, Val, Thrown, Exited, Going, Wrong, Run, give, throw, on_both, both_ways, bind, spend, leave, node, on_turn, turns}
+use Rattle.jc_heaps.specs.declared.state.State.{State}
 use Rattle.jc_heaps.specs.Erases.{ErasedState, erase_out, Erases}
 
 module _ (K F R : Type 0) (erased : K → Erased) where

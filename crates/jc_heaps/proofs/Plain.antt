@@ -1,6 +1,6 @@
 -- Smooth computations of one bound on units, put together.
 use Rattle.std.proofs.Common.{ℕ, arith}
-use Rattle.jc_running.specs.Shows.{Shown}
+use Rattle.jc_running.specs.declared.seen.Shown.{Shown}
 use Rattle.jc_running.specs.Outcomes.{Run, bind, both_ways}
 use Rattle.jc_running.proofs.Smooth.{Smooth, smooth_less, smooth_both, smooth_bind}
 

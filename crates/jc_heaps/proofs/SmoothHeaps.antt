@@ -8,11 +8,15 @@ use Rattle.jc_typed.specs.declared.program.Known.{Known}
 use Rattle.jc_running.specs.declared.value.Value.{Value}
 use Rattle.jc_running.specs.declared.value.Value.TheVariants.{Whole, Long, Address, Null}
 use Rattle.jc_running.specs.declared.seen.Check.{Check}
-use Rattle.jc_running.specs.Shows.{Shown, a_byte_more, one_more_taken, a_failure_more}
+use Rattle.jc_running.specs.declared.seen.Shown.{Shown}
+use Rattle.jc_running.specs.Shows.{a_byte_more, one_more_taken, a_failure_more}
 use Rattle.jc_running.specs.Outcomes.{Out, Val, Thrown, Exited, Going, Wrong, Run, give, throw, wrong}
 use Rattle.jc_running.proofs.Smooth.{Smooth, Quiet, Grow, smooth_give, smooth_throw, smooth_wrong, smooth_change, smooth_show, smooth_exit}
-use Rattle.jc_heaps.specs.States.{Object, State, shown_of, some_or_wrong, look, change, set_local, object_at, set_part, back_in, in_frame}
-use Rattle.jc_heaps.specs.Numbers.{Given, Gives, ByZero, Unfit}
+use Rattle.jc_heaps.specs.declared.state.Object.{Object}
+use Rattle.jc_heaps.specs.declared.state.State.{State}
+use Rattle.jc_heaps.specs.States.{shown_of, some_or_wrong, look, change, set_local, object_at, set_part, back_in, in_frame}
+use Rattle.jc_heaps.specs.declared.given.Given.{Given}
+use Rattle.jc_heaps.specs.declared.given.Given.TheVariants.{Gives, ByZero, Unfit}
 use Rattle.jc_heaps.specs.Classes.{element_of}
 use Rattle.jc_heaps.specs.Layout.{slot_of, new_fields}
 use Rattle.jc_heaps.specs.Making.{Keeping, make, raise, set_chars, make_string, interned_in, keep_string, if_interned, constant_string, address_of, place_of, passes, fail, if_passes, checked, stored_if, storable, store, given, put_byte, taken_from, take_byte, exit_with}

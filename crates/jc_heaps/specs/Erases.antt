@@ -3,7 +3,8 @@
 use Rattle.std.specs.Prelude.{◌≡◌, ℕ, map}
 use Rattle.jc_types.specs.declared.erased.Erased.{Erased}
 use Rattle.jc_running.specs.Outcomes.{Out, Val, Thrown, Exited, Going, Wrong, Run}
-use Rattle.jc_heaps.specs.States.{Object, State}
+use Rattle.jc_heaps.specs.declared.state.Object.{Object}
+use Rattle.jc_heaps.specs.declared.state.State.{State}
 
 abbrev pub ErasedState : Type 0
 ErasedState = State Erased (Unit {0}) (Unit {0})

@@ -10,10 +10,14 @@ use Rattle.jc_running.specs.declared.value.Value.TheVariants.{Whole, Address, Nu
 use Rattle.jc_running.specs.declared.seen.Check.{Check}
 use Rattle.jc_running.specs.Shows.{with_byte, with_taken, with_failure}
 use Rattle.jc_running.specs.Outcomes.{Val, Run, give, throw, exit, wrong, bind, behind, spend}
-use Rattle.jc_heaps.specs.States.{Object, Interned, State, change, object_at, set_part}
+use Rattle.jc_heaps.specs.declared.state.Object.{Object}
+use Rattle.jc_heaps.specs.declared.state.Interned.{Interned}
+use Rattle.jc_heaps.specs.declared.state.State.{State}
+use Rattle.jc_heaps.specs.States.{change, object_at, set_part}
 use Rattle.jc_heaps.specs.Classes.{is_of, element_of}
 use Rattle.jc_heaps.specs.Layout.{new_fields, slot_of}
-use Rattle.jc_heaps.specs.Numbers.{Given, Gives, ByZero, Unfit}
+use Rattle.jc_heaps.specs.declared.given.Given.{Given}
+use Rattle.jc_heaps.specs.declared.given.Given.TheVariants.{Gives, ByZero, Unfit}
 
 -- what a kept type erases to, and what objects of a class without parameters, arrays of `char` and arrays keep
 pub record Keeping (K : Type 0) : Type 0 where

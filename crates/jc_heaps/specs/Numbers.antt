@@ -7,6 +7,8 @@ use Rattle.jc_types.specs.declared.form.Primitive.{Primitive}
 use Rattle.jc_types.specs.declared.form.Primitive.TheVariants.{Boolean, Byte, Short, Char, Int, Long as LongType}
 use Rattle.jc_running.specs.declared.value.Value.{Value}
 use Rattle.jc_running.specs.declared.value.Value.TheVariants.{Whole, Long, Address, Null}
+use Rattle.jc_heaps.specs.declared.given.Given.{Given}
+use Rattle.jc_heaps.specs.declared.given.Given.TheVariants.{Gives, ByZero, Unfit}
 
 abbrev pub int_eq : ℤ → ℤ → Bool
 int_eq (pos a) (pos b) = a == b
@@ -16,12 +18,6 @@ int_eq _ _ = false
 abbrev pub truth : Bool → Value
 truth true = Whole (pos 1)
 truth false = Whole (pos 0)
-
--- what an operator gives: a value, a division by zero, or nothing, where it doesn't take these values
-pub data Given : Type 0 where
-  Gives : (value : Value) → Given
-  ByZero : Given
-  Unfit : Given
 
 abbrev pub unless_zero : ℤ → Given → Given
 unless_zero b g = if int_eq b (pos 0) then ByZero else g
@@ -109,7 +105,7 @@ stepped _ _ = Unfit
 
 -- a number as a value of a primitive type: its low bits (JLS 5.1.2, 5.1.3)
 abbrev pub number_as : Primitive → ℤ → Value
-number_as Boolean n = Whole n
+number_as Boolean n = Whole (int_wrap w32 n)
 number_as Byte n = Whole (int_wrap w8 n)
 number_as Short n = Whole (int_wrap w16 n)
 number_as Char n = Whole (pos (cast_unsigned w16 (int_wrap w16 n)))

@@ -1,34 +1,11 @@
--- The state of a running program. `K` is what an object keeps of its type, `F` what a running method keeps beside its variables,
--- and `R` what is recorded on the way.
+-- What reads and changes the state of a running program.
 use Rattle.std.specs.Prelude.{ℕ, List, Option, Some, None, slice_get, slice_set}
 use Rattle.jc_running.specs.declared.value.Value.{Value}
-use Rattle.jc_running.specs.declared.value.Readiness.{Readiness}
-use Rattle.jc_running.specs.Shows.{Shown}
+use Rattle.jc_running.specs.declared.seen.Shown.{Shown}
+use Rattle.jc_heaps.specs.declared.state.Object.{Object}
+use Rattle.jc_heaps.specs.declared.state.Interned.{Interned}
+use Rattle.jc_heaps.specs.declared.state.State.{State}
 use Rattle.jc_running.specs.Outcomes.{Out, Val, Thrown, Exited, Going, Wrong, Run, give, wrong}
-
--- an object with its fields, those of its superclasses first, or an array with its elements
-pub record Object (K : Type 0) : Type 0 where
-  pub kept : K
-  pub parts : List Value
-
--- a string that stands for all equal constants (JLS 3.10.5): its units and its address
-pub record Interned : Type 0 where
-  pub units : List ℕ
-  pub address : ℕ
-
--- `locals` are the variables of the running method by their numbers; in an instance method or constructor number 0 is `this`. An
--- address is a place in `heap`, the objects and arrays in the order in which they were made. `classes` tells of each class how far
--- its initialisation is, `statics` has the value of each static field at the field's place. `input` is what can still be taken
-pub record State (K F R : Type 0) : Type 0 where
-  pub locals : List Value
-  pub frame : F
-  pub heap : List (Object K)
-  pub classes : List Readiness
-  pub statics : List Value
-  pub strings : List Interned
-  pub input : List ℕ
-  pub shown : Shown
-  pub record_of : R
 
 abbrev pub shown_of : {K F R : Type 0} → State K F R → Shown
 shown_of s = s.shown

@@ -10,9 +10,12 @@ use Rattle.jc_types.specs.Erasing.{erasure}
 use Rattle.jc_running.specs.declared.value.Value.{Value}
 use Rattle.jc_running.specs.declared.value.Value.TheVariants.{Address}
 use Rattle.jc_running.specs.declared.seen.Check.TheVariants.{EntryGuard}
-use Rattle.jc_running.specs.Outcomes.{give, wrong, bind, Completion, Normal, Broke, Continued, Returned}
+use Rattle.jc_running.specs.declared.value.Completion.{Completion}
+use Rattle.jc_running.specs.declared.value.Completion.TheVariants.{Normal, Broke, Continued, Returned}
+use Rattle.jc_running.specs.Outcomes.{give, wrong, bind}
 use Rattle.jc_running.proofs.Smooth.{Smooth}
-use Rattle.jc_heaps.specs.States.{Object, shown_of}
+use Rattle.jc_heaps.specs.declared.state.Object.{Object}
+use Rattle.jc_heaps.specs.States.{shown_of}
 use Rattle.jc_heaps.specs.Classes.{is_of, same_erased, methods_class}
 use Rattle.jc_heaps.specs.Numbers.{converted}
 use Rattle.jc_heaps.proofs.Plain.{seq, soft}
@@ -20,7 +23,9 @@ use Rattle.jc_heaps.proofs.SmoothHeaps as h
 use Rattle.jc_typed.specs.declared.program.BoxedIn.{BoxedIn}
 use Rattle.jc_typed.specs.declared.program.TypedProgram.{TypedProgram}
 use Rattle.jc_typed.specs.Trees.{Step, Widen, Narrow, BoxUp, Unbox, Up, Test}
-use Rattle.jc_meaning.specs.Kept.{Frame, Read, TypedState, TypedRun, typed_keeping}
+use Rattle.jc_meaning.specs.declared.frame.Frame.{Frame}
+use Rattle.jc_meaning.specs.declared.frame.Read.{Read}
+use Rattle.jc_meaning.specs.Kept.{TypedState, TypedRun, typed_keeping}
 use Rattle.jc_meaning.specs.Programs.{selected}
 use Rattle.jc_meaning.specs.Calls.{Bodies, answer_of, run_method, call_static, call_direct, entered, entered_all, answered, call_selected, call_virtual}
 use Rattle.jc_meaning.specs.Steps.{Ready, box_of, boxed, step, steps}

@@ -14,8 +14,10 @@ use Rattle.jc_running.specs.declared.value.Value.{Value}
 use Rattle.jc_running.specs.declared.value.Value.TheVariants.{Whole, Long, Address, Null as NullValue}
 use Rattle.jc_running.specs.Outcomes.{give, wrong, bind}
 use Rattle.jc_running.proofs.Smooth.{Smooth, smooth_change}
-use Rattle.jc_heaps.specs.States.{Object, shown_of, object_at}
-use Rattle.jc_heaps.specs.Numbers.{Given, truth, operated, prefixed, stepped, boolean_of, whole_of}
+use Rattle.jc_heaps.specs.declared.state.Object.{Object}
+use Rattle.jc_heaps.specs.States.{shown_of, object_at}
+use Rattle.jc_heaps.specs.declared.given.Given.{Given}
+use Rattle.jc_heaps.specs.Numbers.{truth, operated, prefixed, stepped, boolean_of, whole_of}
 use Rattle.jc_heaps.specs.Layout.{slot_of, field_class, new_fields}
 use Rattle.jc_heaps.specs.Making.{raise, address_of, place_of, passes, given}
 use Rattle.jc_heaps.proofs.Plain.{seq, soft}
@@ -28,11 +30,15 @@ use Rattle.jc_typed.specs.declared.expressions.Printed.{Printed}
 use Rattle.jc_typed.specs.declared.lists.Capture.{Capture}
 use Rattle.jc_typed.specs.declared.program.TypedProgram.{TypedProgram}
 use Rattle.jc_typed.specs.Trees.{Step, Expr, NoExpr, expr, Operand, NoOperand, operand, Form, Fixed, Null, Local, This, StaticField, Field, Element, Length, Prefix, Chain, AllOf, AnyOf, InstanceOf, Conditional, Assign, Compound, Change, Call, New, NewArray, ArrayOf, Cast, Variable, LocalVariable, StaticVariable, FieldVariable, ElementVariable, Operands, Links, NoLinks, MoreLinks}
-use Rattle.jc_meaning.specs.Kept.{Frame, Read, TypedState, TypedRun, typed_keeping, closed, kept_by}
+use Rattle.jc_meaning.specs.declared.frame.Frame.{Frame}
+use Rattle.jc_meaning.specs.declared.frame.Read.{Read}
+use Rattle.jc_meaning.specs.Kept.{TypedState, TypedRun, typed_keeping, closed, kept_by}
 use Rattle.jc_meaning.specs.Programs.{operand_list, method_class}
 use Rattle.jc_meaning.specs.Calls.{call_static, call_direct, call_virtual}
 use Rattle.jc_meaning.specs.Steps.{steps}
-use Rattle.jc_meaning.specs.Expressions.{Inner, value_of, values_of, values, choose, if_true, constant_value, get_static, set_static, get_field, set_field, get_element, set_element, length_of, prefixes, printer_of, text_of, joined, chain, all_true, any_true, instance_of, forget, Target, ToLocal, ToStatic, ToField, ToElement, target_of, read_target, write_target, note, assigned, changed, first_value, call_with, create, new_array, fill, element_type, arrays, lengths_of, fill_with, form_of, is_noted, capture, noted, expr_act}
+use Rattle.jc_meaning.specs.declared.target.Target.{Target}
+use Rattle.jc_meaning.specs.declared.target.Target.TheVariants.{ToLocal, ToStatic, ToField, ToElement}
+use Rattle.jc_meaning.specs.Expressions.{Inner, value_of, values_of, values, choose, if_true, constant_value, get_static, set_static, get_field, set_field, get_element, set_element, length_of, prefixes, printer_of, text_of, joined, chain, all_true, any_true, instance_of, forget, target_of, read_target, write_target, note, assigned, changed, first_value, call_with, create, new_array, fill, element_type, arrays, lengths_of, fill_with, form_of, is_noted, capture, noted, expr_act}
 use Rattle.jc_meaning.proofs.SmoothCalls as c
 
 -- two levels, one with more room than the other

@@ -11,7 +11,8 @@ use Rattle.jc_running.specs.declared.value.Value.{Value}
 use Rattle.jc_running.specs.declared.value.Value.TheVariants.{Whole, Long, Address, Null}
 use Rattle.jc_running.specs.declared.value.Readiness.{Readiness}
 use Rattle.jc_running.specs.declared.value.Readiness.TheVariants.{Untouched, Begun, Ready, Failed}
-use Rattle.jc_running.specs.Outcomes.{Out, Val, Thrown, Exited, Going, Wrong, give, stop, bind, Completion, WithOneUnitMore}
+use Rattle.jc_running.specs.declared.value.Completion.{Completion}
+use Rattle.jc_running.specs.Outcomes.{Out, Val, Thrown, Exited, Going, Wrong, give, stop, bind, WithOneUnitMore}
 use Rattle.jc_running.proofs.Smooth.{Smooth, smooth_less, smooth_node, smooth_first, smooth_stop, node_goes_on}
 use Rattle.jc_heaps.specs.States.{shown_of}
 use Rattle.jc_heaps.specs.Numbers.{whole_of}
@@ -20,10 +21,14 @@ use Rattle.jc_heaps.proofs.Plain.{seq, both}
 use Rattle.jc_heaps.proofs.SmoothHeaps as h
 use Rattle.jc_typed.specs.declared.program.TypedProgram.{TypedProgram}
 use Rattle.jc_typed.specs.Trees.{Expr, Stmt}
-use Rattle.jc_meaning.specs.Kept.{Frame, Read, TypedState, TypedRun, typed_keeping}
+use Rattle.jc_meaning.specs.declared.frame.Frame.{Frame}
+use Rattle.jc_meaning.specs.declared.frame.Read.{Read}
+use Rattle.jc_meaning.specs.Kept.{TypedState, TypedRun, typed_keeping}
 use Rattle.jc_meaning.specs.Programs.{body_of, initialiser_of, method_class}
 use Rattle.jc_meaning.specs.Classes.{set_readiness, if_superclass, superclass_first, run_initialiser, as_error, initialise, use_class, ready_by}
-use Rattle.jc_meaning.specs.Natives.{Native, HashCode, ClassName, Put, ReadByte, Halt, native_of, native_act, address_in}
+use Rattle.jc_meaning.specs.declared.target.Native.{Native}
+use Rattle.jc_meaning.specs.declared.target.Native.TheVariants.{HashCode, ClassName, Put, ReadByte, Halt}
+use Rattle.jc_meaning.specs.Natives.{native_of, native_act, address_in}
 use Rattle.jc_meaning.specs.Meaning.{Meaning, inner_of, written_body, native_or, body_act, meaning, run_static, run_main, argument_strings, outcome, main_outcome, first_state, seen, is_over}
 use Rattle.jc_meaning.proofs.SmoothCalls as c
 use Rattle.jc_meaning.proofs.SmoothExpressions as e

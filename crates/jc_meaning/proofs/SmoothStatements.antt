@@ -7,7 +7,10 @@ use Rattle.jc_types.specs.declared.ids.FieldId.{FieldId}
 use Rattle.jc_types.specs.declared.erased.Erased.{Erased}
 use Rattle.jc_running.specs.declared.value.Value.{Value}
 use Rattle.jc_running.specs.declared.value.Value.TheVariants.{Whole, Long, Address, Null}
-use Rattle.jc_running.specs.Outcomes.{give, throw, bind, Completion, Normal, Broke, Continued, Returned, Turn, turns}
+use Rattle.jc_running.specs.declared.value.Completion.{Completion}
+use Rattle.jc_running.specs.declared.value.Completion.TheVariants.{Normal, Broke, Continued, Returned}
+use Rattle.jc_running.specs.declared.value.Turn.{Turn}
+use Rattle.jc_running.specs.Outcomes.{give, throw, bind, turns}
 use Rattle.jc_running.proofs.Smooth.{Smooth, smooth_less, smooth_next, smooth_instead, smooth_turns, smooth_stop}
 use Rattle.jc_heaps.specs.States.{shown_of}
 use Rattle.jc_heaps.specs.Numbers.{whole_of}
@@ -17,7 +20,9 @@ use Rattle.jc_heaps.proofs.SmoothHeaps as h
 use Rattle.jc_typed.specs.declared.lists.Capture.{Capture}
 use Rattle.jc_typed.specs.declared.program.TypedProgram.{TypedProgram}
 use Rattle.jc_typed.specs.Trees.{Step, Declared, NoDeclared, MoreDeclared, Stmt, stmt, StmtForm, Empty, Block, Locals, Effect, If, Labelled, While, Do, For, ForArray, ForIterable, Switch, Return, Break, Continue, Throw, Try, Construct, Initialise, Arms, NoArms, MoreArms, Catches, NoCatches, MoreCatches}
-use Rattle.jc_meaning.specs.Kept.{Frame, Read, TypedState, TypedRun, typed_keeping}
+use Rattle.jc_meaning.specs.declared.frame.Frame.{Frame}
+use Rattle.jc_meaning.specs.declared.frame.Read.{Read}
+use Rattle.jc_meaning.specs.Kept.{TypedState, TypedRun, typed_keeping}
 use Rattle.jc_meaning.specs.Programs.{stmt_list}
 use Rattle.jc_meaning.specs.Expressions.{Inner}
 use Rattle.jc_meaning.specs.Statements.{run_all, set_first, declare, if_any, after_body, while_turn, do_turn, take_element, is_before, array_turn, iterator_turn, run_from, is_any_of, caught, try, finally, initialise, form_act, stmt_act}

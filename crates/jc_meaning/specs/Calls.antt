@@ -8,12 +8,17 @@ use Rattle.jc_types.specs.Erasing.{erasure}
 use Rattle.jc_running.specs.declared.value.Value.{Value}
 use Rattle.jc_running.specs.declared.value.Value.TheVariants.{Address, Null}
 use Rattle.jc_running.specs.declared.seen.Check.TheVariants.{EntryGuard}
-use Rattle.jc_running.specs.Outcomes.{give, wrong, bind, Completion, Normal, Broke, Continued, Returned}
-use Rattle.jc_heaps.specs.States.{Object, object_at, in_frame}
+use Rattle.jc_running.specs.declared.value.Completion.{Completion}
+use Rattle.jc_running.specs.declared.value.Completion.TheVariants.{Normal, Broke, Continued, Returned}
+use Rattle.jc_running.specs.Outcomes.{give, wrong, bind}
+use Rattle.jc_heaps.specs.declared.state.Object.{Object}
+use Rattle.jc_heaps.specs.States.{object_at, in_frame}
 use Rattle.jc_heaps.specs.Classes.{is_of, same_erased, methods_class}
 use Rattle.jc_heaps.specs.Making.{address_of, checked}
 use Rattle.jc_typed.specs.declared.program.TypedProgram.{TypedProgram}
-use Rattle.jc_meaning.specs.Kept.{Binding, bindings, class_bindings, Frame, TypedRun, unsaid_all, typed_keeping}
+use Rattle.jc_meaning.specs.declared.frame.Binding.{Binding}
+use Rattle.jc_meaning.specs.declared.frame.Frame.{Frame}
+use Rattle.jc_meaning.specs.Kept.{bindings, class_bindings, TypedRun, unsaid_all, typed_keeping}
 use Rattle.jc_meaning.specs.Programs.{captured_of, locals_of, method_class, selected}
 
 -- what runs a method's body in its own variables

@@ -1,13 +1,11 @@
 -- What expressions do (JLS 15).
-use Rattle.std.specs.Prelude.{ℕ, zero, suc, ◌-◌, ℤ, pos, Bool, true, false, List, [], ◌∷◌, ◌++◌, length, replicate, Option, Some, None, slice_get, slice_set, if◌then◌else◌, int_lt, unsigned_abs}
+use Rattle.std.specs.Prelude.{ℕ, zero, suc, ◌-◌, pos, Bool, true, false, List, [], ◌∷◌, ◌++◌, length, replicate, Option, Some, None, slice_get, slice_set, if◌then◌else◌, int_lt, unsigned_abs}
 use Rattle.jc_rules.specs.declared.rule.Place.{Place}
 use Rattle.jc_types.specs.declared.ids.ClassId.{ClassId}
 use Rattle.jc_types.specs.declared.ids.CaptureId.{CaptureId}
 use Rattle.jc_types.specs.declared.ids.FieldId.{FieldId}
 use Rattle.jc_types.specs.declared.ids.MethodId.{MethodId}
 use Rattle.jc_types.specs.declared.form.Ty.{Ty}
-use Rattle.jc_types.specs.declared.form.Primitive.{Primitive}
-use Rattle.jc_types.specs.declared.form.Primitive.TheVariants.{Long as LongType}
 use Rattle.jc_types.specs.declared.constant.Constant.{Constant}
 use Rattle.jc_types.specs.declared.constant.Constant.TheVariants as constant
 use Rattle.jc_types.specs.declared.constant.Op.{Op}
@@ -16,10 +14,11 @@ use Rattle.jc_types.specs.declared.table.Table.{Table}
 use Rattle.jc_types.specs.Arrays.{element}
 use Rattle.jc_types.specs.Erasing.{erasure}
 use Rattle.jc_running.specs.declared.value.Value.{Value}
-use Rattle.jc_running.specs.declared.value.Value.TheVariants.{Whole, Long, Address, Null as NullValue}
+use Rattle.jc_running.specs.declared.value.Value.TheVariants.{Whole, Address, Null as NullValue}
 use Rattle.jc_running.specs.Outcomes.{Val, give, wrong, bind, behind}
-use Rattle.jc_heaps.specs.States.{Object, look, change, some_or_wrong, local, set_local, object_at, set_part}
-use Rattle.jc_heaps.specs.Numbers.{truth, operated, prefixed, stepped, boolean_of, whole_of}
+use Rattle.jc_heaps.specs.declared.state.Object.{Object}
+use Rattle.jc_heaps.specs.States.{look, change, some_or_wrong, local, set_local, object_at, set_part}
+use Rattle.jc_heaps.specs.Numbers.{truth, number_as, operated, prefixed, stepped, boolean_of, whole_of}
 use Rattle.jc_heaps.specs.Classes.{element_of}
 use Rattle.jc_heaps.specs.Layout.{field_class, slot_of, default_erased, new_fields}
 use Rattle.jc_heaps.specs.Making.{Keeping, make, raise, constant_string, address_of, place_of, passes, store, given}
@@ -33,6 +32,8 @@ use Rattle.jc_typed.specs.declared.lists.Capture.{Capture}
 use Rattle.jc_typed.specs.declared.program.Printing.{Printing}
 use Rattle.jc_typed.specs.declared.program.TypedProgram.{TypedProgram}
 use Rattle.jc_typed.specs.Trees.{Step, Expr, NoExpr, expr, Operand, NoOperand, operand, Form, Fixed, Null, Local, This, StaticField, Field, Element, Length, Prefix, Chain, AllOf, AnyOf, InstanceOf, Conditional, Assign, Compound, Change, Call, New, NewArray, ArrayOf, Cast, Variable, LocalVariable, StaticVariable, FieldVariable, ElementVariable, Operands, Links, NoLinks, MoreLinks}
+use Rattle.jc_meaning.specs.declared.target.Target.{Target}
+use Rattle.jc_meaning.specs.declared.target.Target.TheVariants.{ToLocal, ToStatic, ToField, ToElement}
 use Rattle.jc_meaning.specs.Kept.{TypedState, TypedRun, arguments_as, kept_by, kept_array, typed_keeping, closed, closed_in, closed_all, unsaid, set_captured}
 use Rattle.jc_meaning.specs.Programs.{operand_list, captured_of, method_class}
 use Rattle.jc_meaning.specs.Calls.{Bodies, call_static, call_direct, call_virtual}
@@ -43,13 +44,6 @@ pub record Inner : Type 0 where
   pub expr : Expr → TypedRun Value
   pub body : Bodies
   pub ready : Ready
-
--- A variable that is assigned: what its parts gave (JLS 15.26.1)
-pub data Target : Type 0 where
-  ToLocal : (local : ℕ) → Target
-  ToStatic : (field : FieldId) → Target
-  ToField : (of_it : Value) (field : FieldId) → Target
-  ToElement : (array index : Value) → Target
 
 module _ (P : TypedProgram) (r : Inner) where
   abbrev T : Table
@@ -79,12 +73,8 @@ module _ (P : TypedProgram) (r : Inner) where
   if_true v m n = bind (some_or_wrong (boolean_of v)) (λ b. choose b m n)
 
   -- A constant (JLS 15.28): equal strings are one object
-  abbrev pub number_constant : Primitive → ℤ → Value
-  number_constant LongType n = Long n
-  number_constant _ n = Whole n
-
   abbrev pub constant_value : Constant → TypedRun Value
-  constant_value (constant.Whole n of_it) = give (number_constant of_it n)
+  constant_value (constant.Whole n of_it) = give (number_as of_it n)
   constant_value (constant.Text units) = constant_string keeping T P.known units
 
   -- A static field, whose class is initialised first (JLS 12.4.1)

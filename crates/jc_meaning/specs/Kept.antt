@@ -1,13 +1,11 @@
 -- The types that a running program keeps: what objects keep of theirs, and what type variables stand for.
 use Rattle.std.specs.Prelude.{◌==◌, List, [], ◌∷◌, ◌++◌, map, length, replicate, Option, Some, None, slice_set, get_or, if◌then◌else◌}
-use Rattle.jc_rules.specs.declared.rule.Place.{Place}
 use Rattle.jc_types.specs.declared.form.Ty.{Ty, Ty-F, out-Ty, roll-Ty, fold-Ty}
 use Rattle.jc_types.specs.declared.form.Ty.TheVariants.{Class, NullTy, Prim, Array}
 use Rattle.jc_types.specs.declared.form.Arg.{Arg, Arg-F, out-Arg, roll-Arg}
 use Rattle.jc_types.specs.declared.form.Arg.TheVariants.{Exact, Any}
 use Rattle.jc_types.specs.declared.form.Primitive.TheVariants.{Char}
 use Rattle.jc_types.specs.declared.ids.ClassId.{ClassId}
-use Rattle.jc_types.specs.declared.ids.MethodId.{MethodId}
 use Rattle.jc_types.specs.declared.ids.VarId.{VarId}
 use Rattle.jc_types.specs.declared.ids.CaptureId.{CaptureId}
 use Rattle.jc_types.specs.declared.environment.Bounds.{Bounds}
@@ -16,28 +14,13 @@ use Rattle.jc_types.specs.Accessors.{vars_of, lower_bound_of}
 use Rattle.jc_types.specs.Arrays.{array_over}
 use Rattle.jc_types.specs.Erasing.{erasure}
 use Rattle.jc_judge.specs.Views.{view}
-use Rattle.jc_running.specs.declared.value.Value.{Value}
 use Rattle.jc_running.specs.Outcomes.{Run, give}
-use Rattle.jc_heaps.specs.States.{State, change}
+use Rattle.jc_heaps.specs.declared.state.State.{State}
+use Rattle.jc_heaps.specs.States.{change}
+use Rattle.jc_meaning.specs.declared.frame.Binding.{Binding}
+use Rattle.jc_meaning.specs.declared.frame.Frame.{Frame}
+use Rattle.jc_meaning.specs.declared.frame.Read.{Read}
 use Rattle.jc_heaps.specs.Making.{Keeping}
-
--- what a type variable stands for
-pub record Binding : Type 0 where
-  pub variable : VarId
-  pub stands_for : Ty
-
--- of a running method: which one it is, what type variables stand for, and what each captured variable stands for, by its place
-pub record Frame : Type 0 where
-  pub method : MethodId
-  pub variables : List Binding
-  pub captured : List Ty
-
--- a value that was read from a variable, a field, an element or a call, or that a written cast or an assignment gave, where this was,
--- and its static type with what its variables stood for
-pub record Read : Type 0 where
-  pub place : Place
-  pub value : Value
-  pub ty : Ty
 
 abbrev pub TypedState : Type 0
 TypedState = State Ty Frame (List Read)

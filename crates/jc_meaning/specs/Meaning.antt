@@ -16,8 +16,10 @@ use Rattle.jc_running.specs.declared.seen.Ending.{Ending}
 use Rattle.jc_running.specs.declared.seen.Ending.TheVariants.{Going as GoesOn, Ended, Threw, Exited as EndedWith}
 use Rattle.jc_running.specs.declared.value.Readiness.TheVariants.{Untouched}
 use Rattle.jc_running.specs.Shows.{nothing_shown}
-use Rattle.jc_running.specs.Outcomes.{Out, Val, Thrown, Exited, Going, Wrong, give, wrong, stop, bind, behind, node, Completion, Returned}
-use Rattle.jc_heaps.specs.States.{Object}
+use Rattle.jc_running.specs.declared.value.Completion.{Completion}
+use Rattle.jc_running.specs.declared.value.Completion.TheVariants.{Returned}
+use Rattle.jc_running.specs.Outcomes.{Out, Val, Thrown, Exited, Going, Wrong, give, wrong, stop, bind, behind, node}
+use Rattle.jc_heaps.specs.declared.state.Object.{Object}
 use Rattle.jc_heaps.specs.Layout.{default_of}
 use Rattle.jc_heaps.specs.Making.{make, make_string}
 use Rattle.jc_typed.specs.declared.program.TypedProgram.{TypedProgram}
@@ -28,7 +30,8 @@ use Rattle.jc_meaning.specs.Calls.{call_static}
 use Rattle.jc_meaning.specs.Expressions.{Inner, expr_act}
 use Rattle.jc_meaning.specs.Statements.{run_all, stmt_act}
 use Rattle.jc_meaning.specs.Classes.{initialise, ready_by}
-use Rattle.jc_meaning.specs.Natives.{Native, native_of, native_act, name_of}
+use Rattle.jc_meaning.specs.declared.target.Native.{Native}
+use Rattle.jc_meaning.specs.Natives.{native_of, native_act, name_of}
 
 pub record Meaning : Type 0 where
   pub expr : Expr → TypedRun Value

@@ -12,18 +12,14 @@ use Rattle.jc_types.specs.Accessors.{binary_of}
 use Rattle.jc_running.specs.declared.value.Value.{Value}
 use Rattle.jc_running.specs.declared.value.Value.TheVariants.{Address, Null}
 use Rattle.jc_running.specs.Outcomes.{Run, give, wrong, bind, behind}
-use Rattle.jc_heaps.specs.States.{State, some_or_wrong, local, object_at}
+use Rattle.jc_heaps.specs.declared.state.State.{State}
+use Rattle.jc_heaps.specs.States.{some_or_wrong, local, object_at}
 use Rattle.jc_heaps.specs.Numbers.{whole_of}
 use Rattle.jc_heaps.specs.Making.{Keeping, make_string, put_byte, take_byte, exit_with, identity_hash}
 use Rattle.jc_typed.specs.declared.program.Known.{Known}
 use Rattle.jc_typed.specs.declared.program.Natives.{Natives}
-
-pub data Native : Type 0 where
-  HashCode : Native
-  ClassName : Native
-  Put : Native
-  ReadByte : Native
-  Halt : Native
+use Rattle.jc_meaning.specs.declared.target.Native.{Native}
+use Rattle.jc_meaning.specs.declared.target.Native.TheVariants.{HashCode, ClassName, Put, ReadByte, Halt}
 
 -- which native method this is, if it is one
 abbrev pub native_of : Natives → MethodId → Option Native

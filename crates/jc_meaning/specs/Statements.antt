@@ -7,7 +7,11 @@ use Rattle.jc_types.specs.Erasing.{erasure}
 use Rattle.jc_rules.specs.declared.rule.Place.{Place}
 use Rattle.jc_running.specs.declared.value.Value.{Value}
 use Rattle.jc_running.specs.declared.value.Value.TheVariants.{Whole, Address, Null}
-use Rattle.jc_running.specs.Outcomes.{give, throw, wrong, both_ways, bind, behind, Completion, Normal, Broke, Continued, Returned, next, instead, broken, Turn, Again, Last, turns}
+use Rattle.jc_running.specs.declared.value.Completion.{Completion}
+use Rattle.jc_running.specs.declared.value.Completion.TheVariants.{Normal, Broke, Continued, Returned}
+use Rattle.jc_running.specs.declared.value.Turn.{Turn}
+use Rattle.jc_running.specs.declared.value.Turn.TheVariants.{Again, Last}
+use Rattle.jc_running.specs.Outcomes.{give, throw, wrong, both_ways, bind, behind, next, instead, broken, turns}
 use Rattle.jc_heaps.specs.States.{some_or_wrong, local, set_local, object_at}
 use Rattle.jc_heaps.specs.Numbers.{int_eq, whole_of}
 use Rattle.jc_heaps.specs.Classes.{is_of}

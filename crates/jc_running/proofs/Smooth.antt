@@ -2,8 +2,13 @@
 -- shows at most one thing more. `m` and `m'` are a computation and the same one with more room for what is inside it.
 use Rattle.std.proofs.Common.{◌≡◌, ℕ, zero, suc, ◌+◌, ◌≤◌, refl, sym, ap, subst, arith}
 use Rattle.std.specs.Prelude.{ℤ}
-use Rattle.jc_running.specs.Shows.{Shown, AtMostOneMore, nothing_more}
-use Rattle.jc_running.specs.Outcomes.{Out, Val, Thrown, Exited, Going, Wrong, Run, give, throw, exit, wrong, stop, on_both, both_ways, bind, spend, leave, node, Completion, Normal, Broke, Continued, Returned, next, instead, Turn, Again, Last, on_turn, turns, OneMore, WithOneUnitMore}
+use Rattle.jc_running.specs.declared.seen.Shown.{Shown}
+use Rattle.jc_running.specs.Shows.{AtMostOneMore, nothing_more}
+use Rattle.jc_running.specs.declared.value.Completion.{Completion}
+use Rattle.jc_running.specs.declared.value.Completion.TheVariants.{Normal, Broke, Continued, Returned}
+use Rattle.jc_running.specs.declared.value.Turn.{Turn}
+use Rattle.jc_running.specs.declared.value.Turn.TheVariants.{Again, Last}
+use Rattle.jc_running.specs.Outcomes.{Out, Val, Thrown, Exited, Going, Wrong, Run, give, throw, exit, wrong, stop, on_both, both_ways, bind, spend, leave, node, next, instead, on_turn, turns, OneMore, WithOneUnitMore}
 
 module _ (S : Type 0) (shown : S → Shown) where
   -- with no unit nothing is shown, and the program doesn't exit

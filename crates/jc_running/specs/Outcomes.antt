@@ -1,7 +1,11 @@
 -- Computations of a running program: they spend units, change a state, and end with a value or otherwise.
 use Rattle.std.specs.Prelude.{◌≡◌, ℕ, ℤ, zero, suc, ◌==◌, if◌then◌else◌}
-use Rattle.jc_running.specs.declared.value.Value.{Value}
-use Rattle.jc_running.specs.Shows.{Shown, AtMostOneMore}
+use Rattle.jc_running.specs.declared.value.Completion.{Completion}
+use Rattle.jc_running.specs.declared.value.Turn.{Turn}
+use Rattle.jc_running.specs.declared.value.Turn.TheVariants.{Again, Last}
+use Rattle.jc_running.specs.declared.value.Completion.TheVariants.{Normal, Broke, Continued, Returned}
+use Rattle.jc_running.specs.declared.seen.Shown.{Shown}
+use Rattle.jc_running.specs.Shows.{AtMostOneMore}
 
 -- How a computation ends: with a value (JLS 15.6, normal completion), with a thrown object (JLS 11), with the program's own exit,
 -- or it is still going on because the units were spent. `Wrong` is the end of what no checked program does.
@@ -64,14 +68,6 @@ leave o = on_both o (λ a. spend (give a)) (λ address. spend (throw address))
 abbrev pub node : {S A : Type 0} → Run S A → Run S A
 node m = spend (λ u s. leave (m u s))
 
--- how a statement completes where it throws nothing (JLS 14.1): normally, by a jump to the end or to the next turn of a
--- statement, which has a number, or by a return. A return without a value gives null
-pub data Completion : Type 0 where
-  Normal : Completion
-  Broke : (target : ℕ) → Completion
-  Continued : (target : ℕ) → Completion
-  Returned : (value : Value) → Completion
-
 -- the next statement runs where this one completed normally (JLS 14.2)
 abbrev pub next : {S : Type 0} → Completion → Run S Completion → Run S Completion
 next Normal after = after
@@ -90,11 +86,6 @@ instead (Returned v) before = give (Returned v)
 abbrev pub broken : ℕ → Completion → Completion
 broken own (Broke t) = if t == own then Normal else Broke t
 broken own c = c
-
--- how a turn of a loop ends: there is another one, with this, or the loop completes
-pub data Turn (I : Type 0) : Type 0 where
-  Again : (with_this : I) → Turn I
-  Last : (completion : Completion) → Turn I
 
 abbrev pub on_turn : {S I : Type 0} → Turn I → (I → Run S Completion) → Run S Completion
 on_turn (Again i) more = more i

@@ -1,12 +1,7 @@
 -- What a run shows on its way.
-use Rattle.std.specs.Prelude.{◌≡◌, ℕ, ◌+◌, List, [], ◌∷◌, ◌++◌}
+use Rattle.std.specs.Prelude.{◌≡◌, ℕ, ◌+◌, [], ◌∷◌, ◌++◌}
 use Rattle.jc_running.specs.declared.seen.Check.{Check}
-
--- the bytes that went out, how many were taken, and the checks that failed, all in order
-pub record Shown : Type 0 where
-  pub output : List ℕ
-  pub taken : ℕ
-  pub failed : List Check
+use Rattle.jc_running.specs.declared.seen.Shown.{Shown}
 
 abbrev pub nothing_shown : Shown
 nothing_shown = record { output = []; taken = 0; failed = [] }

@@ -5,5 +5,5 @@
 mod seen;
 mod value;
 
-pub use seen::{Check, Ending, Seen};
-pub use value::{Readiness, Value};
+pub use seen::{Check, Ending, Seen, Shown};
+pub use value::{Completion, Readiness, Turn, Value};

@@ -28,3 +28,11 @@ pub struct Seen {
     pub taken: u64,
     pub ending: Ending,
 }
+
+/// What a run has shown so far: the bytes that went out, how many were taken, and the checks that failed, all in order.
+#[derive(Drop)]
+pub struct Shown {
+    pub output: Items<u8>,
+    pub taken: u64,
+    pub failed: Items<Check>,
+}

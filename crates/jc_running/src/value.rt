@@ -18,3 +18,20 @@ pub enum Readiness {
     Ready,
     Failed,
 }
+
+/// How a statement completes where it throws nothing (JLS 14.1): normally, by a jump to the end or to the next turn of a statement,
+/// which has a number, or by a return. A return without a value gives null.
+#[derive(Clone, Copy, Debug, PartialEq, Eq)]
+pub enum Completion {
+    Normal,
+    Broke(u32),
+    Continued(u32),
+    Returned(Value),
+}
+
+/// How a turn of a loop ends: there is another one, with this, or the loop completes.
+#[derive(Drop)]
+pub enum Turn<I> {
+    Again(I),
+    Last(Completion),
+}

@@ -1,3 +1,4 @@
 pub mod Trees
 pub mod Parts
 pub mod Bulk
+pub mod Copies

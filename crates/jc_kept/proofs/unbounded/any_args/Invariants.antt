@@ -1,0 +1,6 @@
+use Rattle.std.proofs.Common.{◌≡◌, replicate}
+use Rattle.jc_types.specs.declared.form.Arg.TheVariants.{Any}
+use Rattle.jc_kept.proofs.unbounded.any_args.Given as goal
+
+abbrev pub invariant-loop-i : goal.invariant-loop-i
+invariant-loop-i l = l.out ≡ replicate l.i Any

@@ -1,0 +1,8 @@
+use Rattle.std.proofs.Common.{◌≤◌, length, arith}
+use Rattle.jc_places.proofs.Beyond.{no_expr}
+use Rattle.jc_places.proofs.nodes.expr_node.Goals as goal
+
+pub returns-else-at-len : goal.returns-else-at-len
+returns-else-at-len c =
+    let past : length c.args.nodes.now ≤ c.args.at = omega arith in
+    no_expr c.args.nodes.now c.args.at past

@@ -1,0 +1,136 @@
+ghost use Rattle.std.specs.Prelude.{◌≡◌, [], IfOk, map, reverse};
+ghost use Rattle.jc_typed.specs.Parts.{stmts_of, stmt_of, operands_of, operand_of, types_of, type_of, steps_of, step_over, parts, captures_of, cases_of, arms_of, catches_of};
+ghost use Rattle.jc_meaning.specs.Programs.{stmt_list, operand_list};
+ghost use Rattle.jc_places.specs.Sorts.{arm_of, arms_before, catch_of, catches_before};
+
+use crate::nodes::{
+    arms_node, captures_node, cases_node, catches_node, operands_node, steps_node, stmts_node,
+    types_node,
+};
+use crate::sorts::{ArmPlaces, CatchPlaces};
+use jc_rules::{Items, WantOfMemory};
+use jc_typed::{
+    ArmsNode, Capture, CapturesNode, Case, CasesNode, CatchesNode, ListNode, Nodes, StepNode,
+    StepsNode,
+};
+use std::alloc::Global;
+
+// The items in their reverse order.
+fn turned<T: Drop>(items: Items<T>) -> Items<T>
+    ensures { result ≡ reverse items }
+{
+    let mut list = items.into_vec();
+    list.reverse();
+    Items::of(list)
+}
+
+#[tactic(auto, using(crate::proofs::Turned::turned))]
+pub fn stmt_places(alloc: Global, nodes: &Nodes, at: u32) -> Result<Items<u32>, WantOfMemory>
+    ensures { IfOk result (λ r. stmt_list (stmts_of nodes.now at) ≡ map (stmt_of nodes.now) r) }
+{
+    let mut out = Items::new(alloc);
+    let mut list = at;
+    while let ListNode::More { before, last } = stmts_node(nodes, list) {
+        out.push(last)?;
+        list = before;
+    }
+    Ok(turned(out))
+}
+
+#[tactic(auto, using(crate::proofs::Turned::turned))]
+pub fn operand_places(alloc: Global, nodes: &Nodes, at: u32) -> Result<Items<u32>, WantOfMemory>
+    ensures { IfOk result (λ r. operand_list (operands_of nodes.now at) ≡ map (operand_of nodes.now) r) }
+{
+    let mut out = Items::new(alloc);
+    let mut list = at;
+    while let ListNode::More { before, last } = operands_node(nodes, list) {
+        out.push(last)?;
+        list = before;
+    }
+    Ok(turned(out))
+}
+
+#[tactic(auto, using(crate::proofs::Turned::turned))]
+pub fn type_list(alloc: Global, nodes: &Nodes, at: u32) -> Result<Items<u32>, WantOfMemory>
+    ensures { IfOk result (λ r. types_of nodes.now at ≡ map (type_of nodes.now) r) }
+{
+    let mut out = Items::new(alloc);
+    let mut list = at;
+    while let ListNode::More { before, last } = types_node(nodes, list) {
+        out.push(last)?;
+        list = before;
+    }
+    Ok(turned(out))
+}
+
+#[tactic(auto, using(crate::proofs::Turned::turned))]
+pub fn step_list(alloc: Global, nodes: &Nodes, at: u32) -> Result<Items<StepNode>, WantOfMemory>
+    ensures { IfOk result (λ r. steps_of nodes.now at ≡ map (step_over (parts nodes.now)) r) }
+{
+    let mut out = Items::new(alloc);
+    let mut list = at;
+    while let StepsNode::More { before, last } = steps_node(nodes, list) {
+        out.push(last)?;
+        list = before;
+    }
+    Ok(turned(out))
+}
+
+#[tactic(auto, using(crate::proofs::Turned::turned))]
+pub fn capture_list(alloc: Global, nodes: &Nodes, at: u32) -> Result<Items<Capture>, WantOfMemory>
+    ensures { IfOk result (λ r. captures_of nodes.now at ≡ r) }
+{
+    let mut out = Items::new(alloc);
+    let mut list = at;
+    while let CapturesNode::More { before, last } = captures_node(nodes, list) {
+        out.push(last)?;
+        list = before;
+    }
+    Ok(turned(out))
+}
+
+#[tactic(auto, using(crate::proofs::Turned::turned))]
+pub fn case_list(alloc: Global, nodes: &Nodes, at: u32) -> Result<Items<Case>, WantOfMemory>
+    ensures { IfOk result (λ r. cases_of nodes.now at ≡ r) }
+{
+    let mut out = Items::new(alloc);
+    let mut list = at;
+    while let CasesNode::More { before, last } = cases_node(nodes, list) {
+        out.push(last)?;
+        list = before;
+    }
+    Ok(turned(out))
+}
+
+#[tactic(auto, using(crate::proofs::Turned::turned))]
+pub fn arm_list(alloc: Global, nodes: &Nodes, at: u32) -> Result<Items<ArmPlaces>, WantOfMemory>
+    ensures { IfOk result (λ r. arms_before (arms_of nodes.now at) [] ≡ map (arm_of nodes.now) r) }
+{
+    let mut out = Items::new(alloc);
+    let mut list = at;
+    while let ArmsNode::More { before, test, then } = arms_node(nodes, list) {
+        out.push(ArmPlaces { test, then })?;
+        list = before;
+    }
+    Ok(turned(out))
+}
+
+#[tactic(auto, using(crate::proofs::Turned::turned))]
+pub fn catch_list(alloc: Global, nodes: &Nodes, at: u32) -> Result<Items<CatchPlaces>, WantOfMemory>
+    ensures { IfOk result (λ r. catches_before (catches_of nodes.now at) [] ≡ map (catch_of nodes.now) r) }
+{
+    let mut out = Items::new(alloc);
+    let mut list = at;
+    while let CatchesNode::More {
+        before,
+        local,
+        types,
+        body,
+        ..
+    } = catches_node(nodes, list)
+    {
+        out.push(CatchPlaces { local, types, body })?;
+        list = before;
+    }
+    Ok(turned(out))
+}
