@@ -442,9 +442,8 @@ def reason(sample, kind, one, other, answer, report):
 
 
 DIMENSIONS = 100000
-# TYPES_PARAMETERS=100000 shows what can't be had yet: a view substitutes in quadratic time
-PARAMETERS = int(os.environ.get("TYPES_PARAMETERS", 2000))
-GENEROUS_SECONDS = 120
+PARAMETERS = 100000
+GENEROUS_SECONDS = 400
 
 
 def large_lines():
@@ -477,15 +476,60 @@ def large_lines():
         (f"formed {exact}", "Yes"),
         (f"faults {exact}", ""),
         (f"view {exact} Up", "Up<" + exact + ">"),
+        (f"view {classes('Over')} Wide", classes("Wide")),
+        (f"view {classes('Turned')} Wide", classes("Wide", reversed)),
+        (f"below {classes('Over')} {classes('Wide')}", "Yes"),
+        (f"below {classes('Turned')} {classes('Wide')}", "No"),
+        (f"below {wild_of('Turned')} {wild}", "Yes"),
+        (f"capture {wild_of('Ring')}", captured_ring()),
+        (f"wellformed {wild_of('Ring')}", "Yes"),
+        (f"formed {wild_of('Ring')}", "Yes"),
+        (f"faults {wild_of('Ring')}", ""),
+    ]
+
+
+def numbers():
+    return range(PARAMETERS)
+
+
+def classes(name, order=iter):
+    """A class of many parameters with other arguments in turn."""
+    return f"{name}<" + ",".join(["Object", "Plain"][number % 2] for number in order(numbers())) + ">"
+
+
+def wild_of(name):
+    return f"{name}<" + ",".join("?" for _ in numbers()) + ">"
+
+
+def captured_ring():
+    """The variable of each parameter is below a type of the next one."""
+    first = PARAMETERS
+    fresh = [f"#{first + number}" for number in numbers()]
+    bounds = [f"Up<{other}>" for other in fresh[1:] + fresh[:1]]
+    return "Ring<" + ",".join(fresh) + ">" + "".join(f" {var}:{bound}" for var, bound in zip(fresh, bounds))
+
+
+def large_heads():
+    """One class with many parameters, and others that name all parameters in their supertype or in their bounds."""
+    params = [f"A{number}" for number in numbers()]
+    over = [f"B{number}" for number in numbers()]
+    turned = [f"C{number}" for number in numbers()]
+    ring = [f"D{number}" for number in numbers()]
+    bounded_ring = " ".join(f"{name}:Up<{other}>" for name, other in zip(ring, ring[1:] + ring[:1]))
+    return [
+        "interface Up U : Object",
+        "class Plain : Object",
+        f"class Wide {' '.join(params)} : Object Up<Wide<{','.join(params)}>>",
+        f"class Over {' '.join(over)} : Wide<{','.join(over)}>",
+        f"class Turned {' '.join(turned)} : Wide<{','.join(reversed(turned))}>",
+        f"class Ring {bounded_ring} : Object",
     ]
 
 
 def large_answers(program):
     """Whether each call on a large type ends with the answer that it has to have."""
-    params = " ".join(f"A{number}" for number in range(PARAMETERS))
-    supertype = "Up<Wide<" + ",".join(f"A{number}" for number in range(PARAMETERS)) + ">>"
     asked_of = large_lines()
-    lines = ["table", "interface Up U : Object", f"class Wide {params} : Object {supertype}"] + [question for question, _ in asked_of]
+    lines = ["table"] + large_heads() + [question for question, _ in asked_of]
     try:
         run = subprocess.run(program, input="\n".join(lines) + "\n", capture_output=True, text=True, timeout=GENEROUS_SECONDS)
     except subprocess.TimeoutExpired:
