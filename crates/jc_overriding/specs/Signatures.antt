@@ -1,0 +1,54 @@
+-- Signatures of methods, and which is a subsignature of which (JLS 8.4.2).
+use Rattle.std.specs.Prelude.{◌==◌, Bool, true, false, ◌&&◌, ◌||◌, List, [], ◌∷◌, map, length}
+use Rattle.std.specs.Str.{bytes_eq}
+use Rattle.jc_types.specs.declared.form.Ty.{Ty}
+use Rattle.jc_types.specs.declared.form.Ty.TheVariants.{Variable}
+use Rattle.jc_types.specs.declared.ids.VarId.{VarId}
+use Rattle.jc_types.specs.declared.table.Table.{Table}
+use Rattle.jc_types.specs.Accessors.{method_name_of}
+use Rattle.jc_types.specs.Sameness.{same}
+use Rattle.jc_types.specs.Substitution.{subst}
+use Rattle.jc_overriding.specs.declared.view.MethodView.{MethodView}
+use Rattle.jc_overriding.specs.Viewing.{plain}
+
+abbrev pub same_all : List Ty → List Ty → Bool
+same_all [] [] = true
+same_all [] (t ∷ ts) = false
+same_all (s ∷ ss) [] = false
+same_all (s ∷ ss) (t ∷ ts) = same s t && same_all ss ts
+
+abbrev pub same_lists : List (List Ty) → List (List Ty) → Bool
+same_lists [] [] = true
+same_lists [] (t ∷ ts) = false
+same_lists (s ∷ ss) [] = false
+same_lists (s ∷ ss) (t ∷ ts) = same_all s t && same_lists ss ts
+
+abbrev pub variables : List VarId → List Ty
+variables vars = map (λ v. Variable v) vars
+
+-- a type of b's signature with a's type parameters for b's
+abbrev pub adapted : MethodView → MethodView → Ty → Ty
+adapted a b t = subst b.vars (variables a.vars) t
+
+abbrev pub same_name : Table → MethodView → MethodView → Bool
+same_name T a b = bytes_eq (method_name_of T a.id) (method_name_of T b.id)
+
+-- the same type parameters, with the same bounds, and the same types of parameters after adapting the type parameters (JLS 8.4.2, 8.4.4)
+abbrev pub same_signature : MethodView → MethodView → Bool
+same_signature a b =
+    (length a.vars == length b.vars) && same_lists a.bounds (map (map (adapted a b)) b.bounds) && same_all a.params (map (adapted a b) b.params)
+
+abbrev pub has_no_variables : MethodView → Bool
+has_no_variables a = length a.vars == 0
+
+-- a's signature is the erasure of b's (JLS 4.6)
+abbrev pub is_erasure : Table → MethodView → MethodView → Bool
+is_erasure T a b = has_no_variables a && same_all a.params (map (plain T) b.params)
+
+-- a's signature is a subsignature of b's
+abbrev pub subsignature : Table → MethodView → MethodView → Bool
+subsignature T a b = same_name T a b && (same_signature a b || is_erasure T a b)
+
+-- one is a subsignature of the other
+abbrev pub override_equivalent : Table → MethodView → MethodView → Bool
+override_equivalent T a b = subsignature T a b || subsignature T b a
