@@ -4,10 +4,8 @@ use crate::types::{read_argument, read_type};
 use crate::words::{put_bounds, put_erased, put_type};
 use crate::{Read, Unreadable};
 use jc_rules::{Items, Stop};
-use jc_sub::{
-    Answer, CaptureFault, as_one, below, capture, classes_meet, contained, glb_parts, view,
-};
-use jc_types::{Arg, Env, Table, Ty, erasure};
+use jc_sub::{Answer, CaptureFault, below, capture, contained, glb, view};
+use jc_types::{Arg, Env, Table, Ty, class_types, element, erasure, reifiable, same_type, size};
 use jc_wellformed::{TypeFault, check_type, class_faults, well_formed};
 use std::alloc::Global;
 
@@ -57,6 +55,11 @@ impl Asker {
             "formed" => self.formed(alloc, first),
             "faults" => self.faults(alloc, first),
             "view" => self.view(alloc, first, second),
+            "size" => self.size(alloc, first),
+            "same" => self.same(alloc, first, second),
+            "reifiable" => self.reifiable(alloc, first),
+            "element" => self.element(alloc, first),
+            "inside" => self.inside(alloc, first),
             _ => Err(Stop::Refused(Unreadable)),
         }
     }
@@ -115,12 +118,13 @@ impl Asker {
                 types.push(self.type_of(alloc, word)?)?;
             }
         }
-        let parts = glb_parts(alloc, &self.table, types.slice())?;
-        if classes_meet(alloc, &self.table, parts.slice())? {
-            return Ok(String::from_str(alloc, "ClassesMeet")?);
+        match glb(alloc, &self.table, types.slice()) {
+            Ok(bound) => self.words_of(alloc, &bound),
+            Err(Stop::Refused(CaptureFault::ClassesMeet { i })) => {
+                Ok(format!(in alloc; "ClassesMeet {i}")?)
+            }
+            Err(Stop::WantOfMemory) => Err(Stop::WantOfMemory),
         }
-        let bound = as_one(alloc, parts);
-        self.words_of(alloc, &bound)
     }
 
     fn erasure(&self, alloc: Global, first: &str) -> Read<String> {
@@ -168,6 +172,42 @@ impl Asker {
             None => Ok(String::from_str(alloc, "none")?),
         }
     }
+
+    fn size(&self, alloc: Global, first: &str) -> Read<String> {
+        let ty = self.type_of(alloc, first)?;
+        let count = size(&ty);
+        Ok(format!(in alloc; "{count}")?)
+    }
+
+    fn same(&self, alloc: Global, first: &str, second: &str) -> Read<String> {
+        let s = self.type_of(alloc, first)?;
+        let t = self.type_of(alloc, second)?;
+        Ok(String::from_str(alloc, yes_or_no(same_type(&s, &t)))?)
+    }
+
+    fn reifiable(&self, alloc: Global, first: &str) -> Read<String> {
+        let ty = self.type_of(alloc, first)?;
+        Ok(String::from_str(alloc, yes_or_no(reifiable(&self.table, &ty)))?)
+    }
+
+    fn element(&self, alloc: Global, first: &str) -> Read<String> {
+        let ty = self.type_of(alloc, first)?;
+        match element(alloc, &ty)? {
+            Some(found) => self.words_of(alloc, &found),
+            None => Ok(String::from_str(alloc, "none")?),
+        }
+    }
+
+    fn inside(&self, alloc: Global, first: &str) -> Read<String> {
+        let ty = self.type_of(alloc, first)?;
+        let types = class_types(alloc, &ty)?;
+        let count = types.len();
+        Ok(format!(in alloc; "{count}")?)
+    }
+}
+
+fn yes_or_no(holds: bool) -> &'static str {
+    if holds { "Yes" } else { "No" }
 }
 
 /// The number of the rule that a fault breaks, and the number of the argument if it is one's.

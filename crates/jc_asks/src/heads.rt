@@ -3,9 +3,10 @@ use crate::names::{Named, Scope};
 use crate::types::{read_bounds, read_type};
 use crate::{Read, Unreadable};
 use jc_rules::{Items, Place, Stop, Text, WantOfMemory};
+use jc_tables::{empty_table, push_class, push_method, push_scope, push_variable};
 use jc_types::{
-    Access, ClassDecl, ClassId, Kind, MethodId, Modifiers, Names, Owner, ScopeId, Table, Ty,
-    TypePlaces, VarId, VariableDecl, WrittenTypes,
+    Access, ClassDecl, ClassId, Kind, MethodDecl, MethodKind, Modifiers, Names, Owner, ScopeId,
+    ScopeOf, Table, Ty, TypePlaces, VarId, VariableDecl, WrittenTypes,
 };
 use std::alloc::Global;
 
@@ -61,15 +62,8 @@ fn add_names(alloc: Global, scope: &mut Scope, line: &str) -> Result<(), WantOfM
 
 /// The table that the lines declare.
 pub fn table_of(alloc: Global, scope: &Scope, lines: &[&str]) -> Read<Table> {
-    let mut table = Table {
-        classes: Items::new(alloc),
-        methods: Items::new(alloc),
-        fields: Items::new(alloc),
-        variables: Items::new(alloc),
-        scopes: Items::new(alloc),
-        uses: Items::new(alloc),
-        index: Names::new(alloc),
-    };
+    let mut table = empty_table(alloc);
+    push_scope(&mut table, only_scope(alloc))?;
     let object = class_decl(
         alloc,
         "Object",
@@ -77,7 +71,7 @@ pub fn table_of(alloc: Global, scope: &Scope, lines: &[&str]) -> Read<Table> {
         Items::new(alloc),
         Items::new(alloc),
     )?;
-    table.classes.push(object)?;
+    push_class(alloc, &mut table, object)?;
     for line in lines {
         if is_head(line) {
             add_head(alloc, scope, &mut table, line)?;
@@ -104,21 +98,20 @@ fn add_head(alloc: Global, scope: &Scope, table: &mut Table, line: &str) -> Read
         } else if is_behind {
             supers.push(read_type(alloc, scope, word)?)?;
         } else {
-            vars.push(VarId(table.variables.len() as u64))?;
-            add_variable(alloc, scope, table, owner, word)?;
+            vars.push(add_variable(alloc, scope, table, owner, word)?)?;
         }
     }
-    table
-        .classes
-        .push(class_decl(alloc, name, kind, vars, supers)?)?;
+    let class = class_decl(alloc, name, kind, vars, supers)?;
+    push_class(alloc, table, class)?;
     Ok(())
 }
 
 /// Type variables of a method.
 fn add_variables(alloc: Global, scope: &Scope, table: &mut Table, line: &str) -> Read<()> {
+    let owner = Owner::Method(push_method(table, method_decl(alloc))?);
     for (i, word) in line.split_whitespace().enumerate() {
         if i > 0 {
-            add_variable(alloc, scope, table, Owner::Method(MethodId(0)), word)?;
+            add_variable(alloc, scope, table, owner, word)?;
         }
     }
     Ok(())
@@ -130,16 +123,16 @@ fn add_variable(
     table: &mut Table,
     owner: Owner,
     word: &str,
-) -> Read<()> {
+) -> Read<VarId> {
     let (name, bound) = parts_of_parameter(word);
     let bounds = read_bounds(alloc, scope, bound.unwrap_or("Object"))?;
-    table.variables.push(VariableDecl {
+    let variable = VariableDecl {
         place: NOWHERE,
         name: Text::of(String::from_str(alloc, name)?),
         owner,
         bounds: implied(alloc, bounds)?,
-    })?;
-    Ok(())
+    };
+    Ok(push_variable(table, variable)?)
 }
 
 /// Types that nothing writes.
@@ -152,6 +145,55 @@ fn implied(alloc: Global, types: Items<Ty>) -> Result<WrittenTypes, WantOfMemory
         })?;
     }
     Ok(WrittenTypes { types, places })
+}
+
+const MODIFIERS: Modifiers = Modifiers {
+    access: Access::Public,
+    is_abstract: false,
+    is_static: false,
+    is_final: false,
+    is_native: false,
+    is_transient: false,
+    is_volatile: false,
+    says_override: false,
+};
+
+/// The scope of all classes.
+fn only_scope(alloc: Global) -> jc_types::Scope {
+    jc_types::Scope {
+        outer: None,
+        of: ScopeOf::Unit {
+            own: Names::new(alloc),
+            package: Text::of(String::new(alloc)),
+            demands: Items::new(alloc),
+        },
+    }
+}
+
+/// A method of `Object`, for the variables of methods.
+fn method_decl(alloc: Global) -> MethodDecl {
+    MethodDecl {
+        place: NOWHERE,
+        class: ClassId(0),
+        name: Text::of(String::new(alloc)),
+        kind: MethodKind::Method,
+        modifiers: MODIFIERS,
+        scope: ScopeId(0),
+        vars: Items::new(alloc),
+        params: nothing(alloc),
+        param_names: Items::new(alloc),
+        result: None,
+        thrown: nothing(alloc),
+        is_variable_arity: false,
+        has_body: true,
+    }
+}
+
+fn nothing(alloc: Global) -> WrittenTypes {
+    WrittenTypes {
+        types: Items::new(alloc),
+        places: Items::new(alloc),
+    }
 }
 
 fn class_decl(
@@ -169,16 +211,7 @@ fn class_decl(
         outer: None,
         members: Items::new(alloc),
         scope: ScopeId(0),
-        modifiers: Modifiers {
-            access: Access::Public,
-            is_abstract: false,
-            is_static: false,
-            is_final: false,
-            is_native: false,
-            is_transient: false,
-            is_volatile: false,
-            says_override: false,
-        },
+        modifiers: MODIFIERS,
         kind,
         vars,
         supers: implied(alloc, supers)?,

@@ -13,6 +13,8 @@
 //!     below TYPE TYPE        contained ARGUMENT ARGUMENT      view TYPE CLASS
 //!     capture TYPE           glb TYPE ..                      erasure TYPE
 //!     wellformed TYPE        formed TYPE                      faults TYPE
+//!     size TYPE              same TYPE TYPE                   reifiable TYPE
+//!     element TYPE           inside TYPE
 //!
 //! Types have no spaces. `+T` is `? extends T`, `-T` is `? super T`, `{A&B}` an intersection, `#0` the first variable that a
 //! capture of this table made, and `null` the null type.
