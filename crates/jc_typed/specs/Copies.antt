@@ -20,13 +20,13 @@ abbrev mutual
   pub exits_of : List ℕ → StmtForm → ℕ
   exits_of inside Empty = 0
   exits_of inside (Block ss) = exits_of_stmts inside ss
-  exits_of inside (Locals declared) = 0
+  exits_of inside (Locals variables) = 0
   exits_of inside (Effect of_it) = 0
   exits_of inside (If arms other) = exits_of_arms inside arms + exits_of_stmts inside other
   exits_of inside (Labelled target body) = exits_of_stmt (target ∷ inside) body
   exits_of inside (While target test body) = exits_of_stmt (target ∷ inside) body
   exits_of inside (Do target body test) = exits_of_stmt (target ∷ inside) body
-  exits_of inside (For target declared before test update body) = exits_of_stmt (target ∷ inside) body
+  exits_of inside (For target variables before test update body) = exits_of_stmt (target ∷ inside) body
   exits_of inside (ForArray target of_it ty captures steps local body) = exits_of_stmt (target ∷ inside) body
   exits_of inside (ForIterable target of_it ty captures steps local body) = exits_of_stmt (target ∷ inside) body
   exits_of inside (Switch target of_it cases ss) = exits_of_stmts (target ∷ inside) ss
@@ -62,13 +62,13 @@ abbrev mutual
   pub FormCopiesRight : StmtForm → Type 0
   FormCopiesRight Empty = Unit {0}
   FormCopiesRight (Block ss) = AllCopiesRight ss
-  FormCopiesRight (Locals declared) = Unit {0}
+  FormCopiesRight (Locals variables) = Unit {0}
   FormCopiesRight (Effect of_it) = Unit {0}
   FormCopiesRight (If arms other) = ArmCopiesRight arms × AllCopiesRight other
   FormCopiesRight (Labelled target body) = CopiesRight body
   FormCopiesRight (While target test body) = CopiesRight body
   FormCopiesRight (Do target body test) = CopiesRight body
-  FormCopiesRight (For target declared before test update body) = CopiesRight body
+  FormCopiesRight (For target variables before test update body) = CopiesRight body
   FormCopiesRight (ForArray target of_it ty captures steps local body) = CopiesRight body
   FormCopiesRight (ForIterable target of_it ty captures steps local body) = CopiesRight body
   FormCopiesRight (Switch target of_it cases ss) = AllCopiesRight ss
