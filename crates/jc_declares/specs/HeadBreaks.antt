@@ -1,6 +1,7 @@
 -- The broken rules of names that the heads of the declarations tell: types, fields and type parameters that are declared twice (301, 307), cycles (304),
 -- wrong kinds of supertypes (305), imports (306, 310) and packages (308), each with the node at which it stands.
 use Rattle.std.specs.Prelude.{ℕ, suc, ◌≡◌, ◌==◌, Bool, true, false, cond, not, ◌&&◌, ◌||◌, List, [], ◌∷◌, ◌++◌, codes, take, Option, Some, None, slice_get}
+use Rattle.std.specs.List.{starts_with}
 use Rattle.std.specs.Str.{bytes_eq}
 use Rattle.jc_rules.specs.declared.rule.Refusal.{Refusal}
 use Rattle.jc_types.specs.declared.declarations.Owner.{Owner}
@@ -15,7 +16,7 @@ use Rattle.jc_declares.specs.declared.heads.UnitHead.{UnitHead}
 use Rattle.jc_declares.specs.declared.heads.VariableHead.{VariableHead}
 use Rattle.jc_declares.specs.Heads.{unit_package, imports_of, name_of, is_top, is_interface, is_final, owner_of, same_owner}
 use Rattle.jc_declares.specs.Looking.{AClass, AVariable, Look, Knowledge, Found, InPackage, AtClass, Nowhere, imported, next_part, single_of, all_accessible, head_asker, is_own, has}
-use Rattle.jc_declares.specs.Knowing.{meant_in_head, Needs, passed_by}
+use Rattle.jc_declares.specs.Knowing.{meant_in_head, meant_class, Needs, passed_by}
 
 abbrev pub broken_at : ℕ → ℕ → ℕ → List Refusal
 broken_at rule file at = record { rule = rule; place = record { file = file; at = at }; have = 0 } ∷ []
@@ -100,8 +101,8 @@ abbrev pub is_nameable : Heads → Knowledge → ℕ → Path → Bool
 is_nameable H K c p = all_accessible H (head_asker H c) (passed_by H K c p)
 
 abbrev pub class_meant : Look → List ℕ
-class_meant (Some (AClass c ∷ [])) = c ∷ []
-class_meant _ = []
+class_meant None = []
+class_meant (Some ms) = meant_class ms
 
 abbrev pub superclass_breaks : Heads → Knowledge → ℕ → ClassHead → List Path → List Refusal
 superclass_breaks H K c s [] = []
@@ -118,14 +119,9 @@ super_breaks H K c s = superclass_breaks H K c s s.superclass ++ interface_break
 
 -- ---- 306 and 310: imports (JLS 7.5)
 
-abbrev pub begins_with : List ℕ → List ℕ → Bool
-begins_with [] q = true
-begins_with (a ∷ p) [] = false
-begins_with (a ∷ p) (b ∷ q) = (a == b) && begins_with p q
-
 -- a package's name is this, or longer by further parts (JLS 7.1)
 abbrev pub is_within_package : List ℕ → List ℕ → Bool
-is_within_package p q = bytes_eq p q || begins_with (p ++ codes ".") q
+is_within_package p q = bytes_eq p q || starts_with (λ a b. a == b) q (p ++ codes ".")
 
 -- a package is one that a unit is of, or one that such a package lies in (JLS 7.4.3)
 abbrev pub is_package : Heads → List ℕ → Bool

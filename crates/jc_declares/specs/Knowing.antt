@@ -1,7 +1,6 @@
 -- The supertypes of each class and the member types that it inherits (JLS 8.1.4, 8.1.5, 8.5, 9.1.3): a class is settled once all classes that it needs
 -- are, in rounds; what no number of rounds settles needs itself, or needs what needs itself.
 use Rattle.std.specs.Prelude.{ℕ, zero, suc, ◌≡◌, ◌==◌, Bool, true, false, cond, not, ◌&&◌, ◌||◌, List, [], ◌∷◌, ◌++◌, codes, length, Option, Some, None, slice_get}
-use Rattle.std.specs.Str.{bytes_eq}
 use Rattle.jc_types.specs.Names.{named}
 use Rattle.jc_declares.specs.declared.heads.Heads.{Heads}
 use Rattle.jc_declares.specs.declared.heads.Path.{Path}
@@ -33,9 +32,9 @@ written_supers H K c (t ∷ ts) = and_class (meant_in_head H K c t) (written_sup
 abbrev pub is_inheritable : Heads → ℕ → ℕ → Bool
 is_inheritable H c m = not (is_private (access_of H m)) && is_accessible H (body_asker H c) m
 
-abbrev pub has_name : List ℕ → Named → Bool
-has_name n [] = false
-has_name n (e ∷ es) = bytes_eq n e.0 || has_name n es
+abbrev pub is_some : {X : Type 0} → Option X → Bool
+is_some None = false
+is_some (Some x) = true
 
 abbrev pub has_class : ℕ → Named → Bool
 has_class c [] = false
@@ -45,7 +44,7 @@ has_class c (e ∷ es) = (c == e.1) || has_class c es
 abbrev pub inherited_of : Heads → ℕ → Named → Named → Named
 inherited_of H c found [] = found
 inherited_of H c found (e ∷ es) =
-    inherited_of H c (cond (has_name e.0 (declared_of H c) || has_class e.1 found || not (is_inheritable H c e.1)) found (found ++ e ∷ [])) es
+    inherited_of H c (cond (is_some (named e.0 (declared_of H c)) || has_class e.1 found || not (is_inheritable H c e.1)) found (found ++ e ∷ [])) es
 
 abbrev pub with_inherited : Heads → ℕ → ℕ → Option Named → Named → Option Named
 with_inherited H c s None found = None
@@ -95,10 +94,6 @@ abbrev pub needs : Heads → Knowledge → ℕ → List ℕ
 needs H K c = round_of H c ++ passed_by_all H K c (supers_of H c)
 
 -- ---- rounds
-
-abbrev pub is_some : {X : Type 0} → Option X → Bool
-is_some None = false
-is_some (Some x) = true
 
 abbrev pub all_known : Knowledge → List ℕ → Bool
 all_known K [] = true

@@ -41,6 +41,7 @@ use Rattle.jc_types.specs.declared.scopes.Use.{Use}
 use Rattle.jc_types.specs.declared.scopes.UseKind.{UseKind}
 use Rattle.jc_types.specs.declared.scopes.UseKind.TheVariants as use_kind
 use Rattle.jc_types.specs.declared.table.Table.{Table}
+use Rattle.jc_types.specs.Names.{named}
 use Rattle.jc_declares.specs.Words.{says, says_static}
 use Rattle.jc_declares.specs.declared.heads.ClassHead.{ClassHead}
 use Rattle.jc_declares.specs.declared.heads.FieldHead.{FieldHead}
@@ -55,7 +56,7 @@ use Rattle.jc_declares.specs.Sites.{Sites, ClassSite, MethodSite, FieldSite, Var
 use Rattle.jc_declares.specs.Heads.{Named, heads_of, name_in_head, modifiers_in_head, kind_of_head, superclass_trees, interface_trees, access_of, name_of, package_of, round_of, binary_of, is_top, is_interface, declared_of, types_of_unit, unit_package, imports_of, class_variables, method_variables}
 use Rattle.jc_declares.specs.Modifiers.{written_modifiers, class_modifiers, field_modifiers, method_modifiers, last_is_variable}
 use Rattle.jc_declares.specs.Looking.{Knowledge, Found, InPackage, AtClass, Nowhere, imported, singles}
-use Rattle.jc_declares.specs.Knowing.{known, has_name}
+use Rattle.jc_declares.specs.Knowing.{known, is_some}
 use Rattle.jc_declares.specs.Writing.{Reading, Wrote, wrote_class, wrote_type, with_dims}
 use Rattle.jc_declares.specs.Readings.{head_reading, body_reading, method_reading, wrote_in_use}
 use Rattle.jc_declares.specs.Constants.{constant_of}
@@ -267,7 +268,7 @@ variable_decl H K k v =
 -- each name once, where it stands first
 abbrev pub first_names : Named → Named → Named
 first_names found [] = found
-first_names found (e ∷ es) = first_names (cond (has_name e.0 found) found (found ++ e ∷ [])) es
+first_names found (e ∷ es) = first_names (cond (is_some (named e.0 found)) found (found ++ e ∷ [])) es
 
 abbrev pub demand_by : ℕ → ImportHead → Found → List Demand
 demand_by file i (InPackage p) = cond i.on_demand (demand.Package (place_at file i.at) p ∷ []) []

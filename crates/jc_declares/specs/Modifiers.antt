@@ -1,6 +1,6 @@
 -- The modifiers of declarations: those that are written, those that are implied, and those that a declaration can't have (JLS 8.1.1, 8.3.1, 8.4.1, 8.4.3,
 -- 8.5.1, 8.8.3, 9.1.1, 9.3, 9.4, 9.5, 9.6.3, 9.7, 14.4).
-use Rattle.std.specs.Prelude.{ℕ, Bool, true, false, not, ◌&&◌, ◌||◌, List, [], ◌∷◌, codes, Option, Some, None}
+use Rattle.std.specs.Prelude.{ℕ, Bool, true, false, not, ◌&&◌, ◌||◌, List, [], ◌∷◌, ◌++◌, codes, Option, Some, None}
 use Rattle.std.specs.Str.{bytes_eq}
 use Rattle.jc_tree.specs.declared.statement.Formal.{Formal}
 use Rattle.jc_tree.specs.declared.statement.MethodHead.{MethodHead}
@@ -112,14 +112,10 @@ abbrev pub kind_words : Bool → List ModifierWord
 kind_words true = word_of.Abstract ∷ []
 kind_words false = word_of.Abstract ∷ word_of.Final ∷ []
 
-abbrev pub joined_words : List ModifierWord → List ModifierWord → List ModifierWord
-joined_words [] ws = ws
-joined_words (v ∷ vs) ws = v ∷ joined_words vs ws
-
 -- a type (JLS 8.1.1, 8.5.1, 9.1.1, 9.5)
 abbrev pub class_modifiers_fit : Bool → Bool → Bool → List Modifier → Bool
 class_modifiers_fit is_interface is_member of_interface ms =
-    only_words (joined_words (place_words is_member of_interface) (kind_words is_interface)) ms && is_consistent ms && not (both word_of.Abstract word_of.Final ms) && no_override ms
+    only_words (place_words is_member of_interface ++ kind_words is_interface) ms && is_consistent ms && not (both word_of.Abstract word_of.Final ms) && no_override ms
     && no_safe_varargs ms
 
 -- a field (JLS 8.3.1, 9.3)

@@ -1,3 +1,4 @@
+pub mod Padded
 pub mod SpacesNoted
-pub mod Indexed
+pub mod Picked
 pub mod Packaged

@@ -1,5 +1,5 @@
 -- What is noted under the number of a package is what the package declares.
-use Rattle.std.proofs.Common.{◌≡◌, ◌<◌, ◌≤◌, ◌+◌, ◌++◌, ℕ, suc, zero, Bool, true, false, List, [], ◌∷◌, Option, Some, None, length, slice_get, replicate, subst, refl, sym, ap, ◌∙◌, arith}
+use Rattle.std.proofs.Common.{◌≡◌, ◌≤◌, ◌++◌, ℕ, suc, zero, Bool, true, false, List, [], ◌∷◌, Option, Some, None, slice_get, replicate, subst, refl, sym, ap, ◌∙◌, arith}
 use Rattle.std.specs.Prelude.{cond, ◌==◌, ◌&&◌, if◌then◌else◌}
 use Rattle.std.specs.Str.{bytes_eq}
 use Rattle.std.proofs.lemmas.Grind.{common_steps}
@@ -11,7 +11,7 @@ use Rattle.jc_declares.specs.declared.heads.UnitHead.{UnitHead}
 use Rattle.jc_declares.specs.Heads.{Named, named_classes, is_top, is_of_package, types_of_package}
 use Rattle.jc_name_index.specs.Spaces.{space_named, noted_all, picked, picked_as}
 use Rattle.jc_name_index.specs.Index.{as_package, package_number, in_numbered, in_unit_package, outside_in_package, as_packaged, numbered_named}
-use Rattle.jc_name_index.proofs.Indexed.{noted_from_empty}
+use Rattle.jc_name_index.proofs.Picked.{noted_from_empty}
 
 same_bytes : (xs ys : List ℕ) → bytes_eq xs ys ≡ true → xs ≡ ys
 same_bytes xs ys e = (bytes_eq-Decides xs ys).0 e
@@ -52,14 +52,6 @@ number_from_at false q j k us h e = let s : suc j ≤ k = h e in omega arith
 number_from : (q : List ℕ) (j k : ℕ) (us : List UnitHead) → num q j us ≡ Some k → j ≤ k
 number_from q j k [] e = absurd (none_is_some e)
 number_from q j k (u ∷ us) e = number_from_at (bytes_eq q u.«package») q j k us (number_from q (suc j) k us) e
-
-number_within_at : (b : Bool) (q : List ℕ) (j k : ℕ) (us : List UnitHead) → ((e : num q (suc j) us ≡ Some k) → k < suc j + length us) → (if b then Some j else num q (suc j) us) ≡ Some k → k < j + suc (length us)
-number_within_at true q j k us h e = let s : j ≡ k = some_same e in omega arith
-number_within_at false q j k us h e = let s : k < suc j + length us = h e in omega arith
-
-number_within : (q : List ℕ) (j k : ℕ) (us : List UnitHead) → num q j us ≡ Some k → k < j + length us
-number_within q j k [] e = absurd (none_is_some e)
-number_within q j k (u ∷ us) e = number_within_at (bytes_eq q u.«package») q j k us (number_within q (suc j) k us) e
 
 number_tells_at : (a b : Bool) (p q : List ℕ) (i k : ℕ) (u : UnitHead) (us : List UnitHead) → bytes_eq p u.«package» ≡ a → bytes_eq q u.«package» ≡ b
     → ((e : num p (suc i) us ≡ Some k) (f : num q (suc i) us ≡ Some k) → p ≡ q)
@@ -169,19 +161,15 @@ no_classes H p i (c ∷ cs) ep =
 
 -- ---- both
 
-found_at : (m : Option ℕ) (H : Heads) (empty all : List Named) (xs : List ClassHead) (len : ℕ) → len ≡ length H.units → xs ≡ H.classes → empty ≡ replicate len [] → all ≡ noted_all (as_packaged H) 0 xs empty
+found_at : (m : Option ℕ) (H : Heads) (empty all : List Named) (xs : List ClassHead) (len : ℕ) → xs ≡ H.classes → empty ≡ replicate len [] → all ≡ noted_all (as_packaged H) 0 xs empty
     → (p n : List ℕ) → package_number H p ≡ m → numbered_named all m n ≡ named n (types_of_package H p)
-found_at None H empty all xs len el ex ee ea p n ep = sym (ap (named n) (no_classes H p 0 H.classes ep))
-found_at (Some k) H empty all xs len el ex ee ea p n ep =
-    noted_from_empty (as_packaged H) xs H.classes empty all len (length H.units) el ex ee ea k n (within p k ep)
-    ∙ ap (named n) (classes_packaged H p k 0 H.classes ep)
-  where
-    within : (p : List ℕ) (k : ℕ) → package_number H p ≡ Some k → k < length H.units
-    within p k e = let l : k < 0 + length H.units = number_within p 0 k H.units e in omega arith
+found_at None H empty all xs len ex ee ea p n ep = sym (ap (named n) (no_classes H p 0 H.classes ep))
+found_at (Some k) H empty all xs len ex ee ea p n ep =
+    noted_from_empty (as_packaged H) xs H.classes empty all len ex ee ea k n ∙ ap (named n) (classes_packaged H p k 0 H.classes ep)
 
-pub packages_named : (H : Heads) (packages empty all : List Named) (xs : List ClassHead) (len : ℕ) → ((p : List ℕ) → space_named packages 0 p ≡ package_number H p) → len ≡ length H.units → xs ≡ H.classes
+pub packages_named : (H : Heads) (packages empty all : List Named) (xs : List ClassHead) (len : ℕ) → ((p : List ℕ) → space_named packages 0 p ≡ package_number H p) → xs ≡ H.classes
     → empty ≡ replicate len []
     → all ≡ noted_all (as_packaged H) 0 xs empty
     → (p n : List ℕ) → numbered_named all (space_named packages 0 p) n ≡ named n (types_of_package H p)
-packages_named H packages empty all xs len eq el ex ee ea p n =
-    ap (λ m. numbered_named all m n) (eq p) ∙ found_at (package_number H p) H empty all xs len el ex ee ea p n refl
+packages_named H packages empty all xs len eq ex ee ea p n =
+    ap (λ m. numbered_named all m n) (eq p) ∙ found_at (package_number H p) H empty all xs len ex ee ea p n refl

@@ -1,5 +1,5 @@
 -- An index of the heads of declarations: the member types of classes, the types of units, and the type parameters of classes and methods.
-use Rattle.std.specs.Prelude.{◌≡◌, ◌<◌, ℕ, List, [], ◌∷◌, length, slice_get, Option, Some, None}
+use Rattle.std.specs.Prelude.{◌≡◌, ℕ, List, [], ◌∷◌, slice_get, Option, Some, None}
 use Rattle.jc_types.specs.declared.declarations.Owner.{Owner}
 use Rattle.jc_types.specs.declared.declarations.Owner.TheVariants as owner
 use Rattle.jc_types.specs.Names.{named}
@@ -73,8 +73,8 @@ as_method_variable v = of_method v.owner v.name
 
 -- ---- what an index promises: in each space the first of each name
 pub record IsIndex (H : Heads) (I : Index) : Type 0 where
-  pub members : (c : ℕ) (n : List ℕ) → c < length H.classes → space_named I.members c n ≡ named n (declared_of H c)
-  pub tops : (u : ℕ) (n : List ℕ) → u < length H.units → space_named I.tops u n ≡ named n (types_of_unit H u)
+  pub members : (c : ℕ) (n : List ℕ) → space_named I.members c n ≡ named n (declared_of H c)
+  pub tops : (u : ℕ) (n : List ℕ) → space_named I.tops u n ≡ named n (types_of_unit H u)
   pub packages : (p n : List ℕ) → numbered_named I.package_types (space_named I.packages 0 p) n ≡ named n (types_of_package H p)
-  pub class_variables : (c : ℕ) (n : List ℕ) → c < length H.classes → space_named I.class_variables c n ≡ named n (class_variables H c)
-  pub method_variables : (m : ℕ) (n : List ℕ) → m < length H.methods → space_named I.method_variables m n ≡ named n (method_variables H m)
+  pub class_variables : (c : ℕ) (n : List ℕ) → space_named I.class_variables c n ≡ named n (class_variables H c)
+  pub method_variables : (m : ℕ) (n : List ℕ) → space_named I.method_variables m n ≡ named n (method_variables H m)

@@ -1,5 +1,5 @@
 -- Names in numbered spaces, each with its first place there.
-use Rattle.std.specs.Prelude.{ℕ, suc, ◌==◌, List, [], ◌∷◌, ◌++◌, cond, Option, Some, None, slice_get, slice_set}
+use Rattle.std.specs.Prelude.{ℕ, suc, ◌-◌, ◌==◌, List, [], ◌∷◌, ◌++◌, cond, length, replicate, Option, Some, None, slice_get, slice_set}
 use Rattle.jc_types.specs.Names.{named}
 
 abbrev pub Named : Type 0
@@ -25,9 +25,13 @@ abbrev pub noted_in : ℕ → List ℕ → ℕ → List Named → Option Named �
 noted_in s n p spaces None = spaces
 noted_in s n p spaces (Some names) = slice_set spaces s (with_first n p names)
 
+-- with spaces without a name behind them, so that space s is among them
+abbrev pub padded : ℕ → List Named → List Named
+padded s spaces = spaces ++ replicate (suc s - length spaces) []
+
 -- with a name in a space, unless it is there
 abbrev pub noted : ℕ → List ℕ → ℕ → List Named → List Named
-noted s n p spaces = noted_in s n p spaces (slice_get spaces s)
+noted s n p spaces = noted_in s n p (padded s spaces) (slice_get (padded s spaces) s)
 
 -- ---- all of a list
 

@@ -3,7 +3,9 @@
 #![tactic(auto)]
 
 mod index;
+mod indexed;
 mod spaces;
 
 pub use index::{Index, index_of};
+pub use indexed::Indexed;
 pub use spaces::Spaces;

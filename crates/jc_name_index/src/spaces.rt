@@ -1,7 +1,7 @@
 //! Names in numbered spaces.
 ghost use Rattle.std.specs.Prelude.{◌≡◌, ◌∷◌, [], ℕ, IfOk, OnOk, replicate};
 ghost use Rattle.jc_types.specs.Names.{named};
-ghost use Rattle.jc_name_index.specs.Spaces.{space_named, noted, with_first};
+ghost use Rattle.jc_name_index.specs.Spaces.{space_named, padded, noted, with_first};
 
 use jc_rules::{Text, WantOfMemory};
 use jc_types::Names;
@@ -35,6 +35,17 @@ fn add_first(alloc: Global, names: &mut Names, name: &Text, place: u64) -> Resul
     names.add(String::from_str(alloc, name.str())?, place)
 }
 
+/// Makes spaces without a name until there is this one.
+#[tactic(auto, using(crate::proofs::Padded::padded_push))]
+fn make(alloc: Global, spaces: &mut Vec<Names>, space: u64) -> Result<(), WantOfMemory>
+    ensures { OnOk result (spaces.new.items ≡ padded space spaces.old.items) }
+{
+    'spaces: while spaces.len() as u64 <= space {
+        spaces.push(Names::new(alloc))?;
+    }
+    Ok(())
+}
+
 impl Spaces {
     /// So many spaces without a name.
     pub fn new(alloc: Global, count: usize) -> Result<Spaces, WantOfMemory>
@@ -57,7 +68,7 @@ impl Spaces {
         }
     }
 
-    /// Notes a name in a space, unless it is there. No space is made.
+    /// Notes a name in a space, unless it is there.
     pub fn note(
         &mut self,
         alloc: Global,
@@ -67,6 +78,7 @@ impl Spaces {
     ) -> Result<(), WantOfMemory>
         ensures { OnOk result (self.new ≡ noted space name.now place self.old) }
     {
+        make(alloc, &mut self.spaces, space)?;
         match self.spaces.get_mut(space as usize) {
             Some(names) => add_first(alloc, names, name, place),
             None => Ok(()),

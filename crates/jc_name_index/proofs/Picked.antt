@@ -1,7 +1,6 @@
 -- What is picked for a space is what the declarations name there.
-use Rattle.std.proofs.Common.{◌≡◌, ◌<◌, ◌++◌, ℕ, suc, zero, List, [], ◌∷◌, None, length, slice_get, replicate, subst, refl, sym, ap, ◌∙◌, arith}
+use Rattle.std.proofs.Common.{◌≡◌, ◌++◌, ℕ, suc, List, [], ◌∷◌, replicate, refl, ap, ◌∙◌}
 use Rattle.std.specs.Prelude.{cond, ◌==◌}
-use Rattle.std.proofs.lemmas.Grind.{common_steps}
 use Rattle.jc_types.specs.declared.declarations.Owner.{Owner}
 use Rattle.jc_types.specs.declared.declarations.Owner.TheVariants as owner
 use Rattle.jc_types.specs.Names.{named}
@@ -9,9 +8,9 @@ use Rattle.jc_declares.specs.declared.heads.ClassHead.{ClassHead}
 use Rattle.jc_declares.specs.declared.heads.VariableHead.{VariableHead}
 use Rattle.jc_declares.specs.Heads.{Named, named_classes, is_inside, is_top, same_owner, named_variables}
 use Rattle.std.specs.Prelude.{◌&&◌}
-use Rattle.jc_name_index.specs.Spaces.{Noting, space_named, named_in, noted_all, picked, picked_as}
+use Rattle.jc_name_index.specs.Spaces.{Noting, space_named, noted_all, picked, picked_as}
 use Rattle.jc_name_index.specs.Index.{inside_first, as_member, outside_all, as_top, of_class, of_method, as_class_variable, as_method_variable}
-use Rattle.jc_name_index.proofs.SpacesNoted.{or_next, all_named}
+use Rattle.jc_name_index.proofs.SpacesNoted.{or_next, all_named, empty_space}
 
 member_picked : (c i : ℕ) (round name : List ℕ) → picked_as c (inside_first round name) i ≡ cond (is_inside c round) ((name, i) ∷ []) []
 member_picked c i [] name = refl
@@ -55,21 +54,11 @@ method_variables_picked m i (v ∷ vs) =
 
 -- ---- from spaces without a name
 
-empty_space : (k s : ℕ) (n : List ℕ) → named_in n (slice_get (replicate k (let l : Named = [] in l)) s) ≡ None
-empty_space zero s n = refl
-empty_space (suc k) zero n = refl
-empty_space (suc k) (suc s) n = empty_space k s n
-
-empty_length : (k : ℕ) → length (replicate k (let l : Named = [] in l)) ≡ k
-empty_length k = grind (arith, common_steps)
-
-pub from_empty : {X : Type 0} (f : Noting X) (xs : List X) (k s : ℕ) (n : List ℕ) → s < k → space_named (noted_all f 0 xs (replicate k [])) s n ≡ named n (picked f s 0 xs)
-from_empty f xs k s n l =
-    let m : s < length (replicate k (let e : Named = [] in e)) = subst (λ j. s < j) (sym (empty_length k)) l in
-    all_named f xs 0 (replicate k []) s n m ∙ ap (λ o. or_next o (named n (picked f s 0 xs))) (empty_space k s n)
+pub from_empty : {X : Type 0} (f : Noting X) (xs : List X) (k s : ℕ) (n : List ℕ) → space_named (noted_all f 0 xs (replicate k [])) s n ≡ named n (picked f s 0 xs)
+from_empty f xs k s n = all_named f xs 0 (replicate k []) s n ∙ ap (λ o. or_next o (named n (picked f s 0 xs))) (empty_space k s n)
 
 -- in spaces that began without a name and are noted so
-pub noted_from_empty : {X : Type 0} (f : Noting X) (xs ys : List X) (empty all : List Named) (k j : ℕ) → k ≡ j → xs ≡ ys → empty ≡ replicate k [] → all ≡ noted_all f 0 xs empty → (s : ℕ) (n : List ℕ) → s < j
+pub noted_from_empty : {X : Type 0} (f : Noting X) (xs ys : List X) (empty all : List Named) (k : ℕ) → xs ≡ ys → empty ≡ replicate k [] → all ≡ noted_all f 0 xs empty → (s : ℕ) (n : List ℕ)
     → space_named all s n ≡ named n (picked f s 0 ys)
-noted_from_empty f xs ys empty all k j ek ex ee ea s n l =
-    ap (λ t. space_named t s n) (ea ∙ ap (noted_all f 0 xs) ee) ∙ from_empty f xs k s n (subst (λ i. s < i) (sym ek) l) ∙ ap (λ zs. named n (picked f s 0 zs)) ex
+noted_from_empty f xs ys empty all k ex ee ea s n =
+    ap (λ t. space_named t s n) (ea ∙ ap (noted_all f 0 xs) ee) ∙ from_empty f xs k s n ∙ ap (λ zs. named n (picked f s 0 zs)) ex
