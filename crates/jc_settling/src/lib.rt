@@ -1,0 +1,2 @@
+//! What is known of each class.
+#![tactic(auto)]
