@@ -1,0 +1,9 @@
+use Rattle.std.proofs.Common.{◌≡◌, drop, string_bytes}
+use Rattle.jc_looking.specs.Members.{known_in}
+use Rattle.jc_looking.specs.Sights.{packages_seen}
+use Rattle.jc_looking.proofs.names.in_packages.Given as goal
+
+abbrev pub invariant-loop-at : goal.invariant-loop-at
+invariant-loop-at l =
+    packages_seen l.scene.declared.heads.now (known_in l.scene.known.now) (string_bytes l.«package») (drop l.at l.more)
+    ≡ packages_seen l.scene.declared.heads.now (known_in l.scene.known.now) l.first l.more

@@ -1,0 +1,4 @@
+pub mod Sights
+pub mod Members
+pub mod Standings
+pub mod Scenes
