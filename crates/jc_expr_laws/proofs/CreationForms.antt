@@ -134,9 +134,6 @@ module _ (h : ℕ) (expr : Run Expr) (array : Run ArrayInit) (below : Below h ex
   abbrev pub creation_fits : Creation → Bool
   creation_fits c = nat_le (creation_height c) h && (creation_shape c).good
 
-  abbrev pub creation_starts : List ℕ
-  creation_starts = word_code ∷ primitive_codes
-
   abbrev pub creation_coded : Coded Creation
   creation_coded = record { tell = creation_tokens; fits = creation_fits; run = creation_run h expr array; starts = primitive_codes ++ (word_code ∷ []); goes = Sides.goes; empties = false }
 

@@ -1,5 +1,5 @@
 -- All is read as it is to be, at each height.
-use Rattle.std.proofs.Common.{◌≡◌, ℕ, zero, suc, refl, inl, inr, arith}
+use Rattle.std.proofs.Common.{ℕ, zero, suc, refl, inl, inr, arith}
 use Rattle.std.proofs.lemmas.Bool.{and_left}
 use Rattle.std.specs.Prelude.{nat_le}
 use Rattle.jc_tree.specs.declared.expression.ArrayInit.{ArrayInit}

@@ -15,7 +15,7 @@ use Rattle.jc_tree.specs.declared.expression.PrefixSign.{PrefixSign}
 use Rattle.jc_tree.specs.declared.expression.PrefixSign.TheVariants as prefix_of
 use Rattle.jc_tree.specs.Heights.{most, expr_height, operand_height}
 use Rattle.jc_tree.proofs.HeightsOfExpressions.{operand_height-Binary}
-use Rattle.jc_grammar.specs.Shapes.{Shape, CreationShape, OperandShape, stands, of_level, longest_types, expr_shape, creation_shape, operand_shape, is_init, is_array, expr_shape_step, operand_shape_step, prefix_level, binary_level, is_less}
+use Rattle.jc_grammar.specs.Shapes.{Shape, CreationShape, OperandShape, stands, of_level, longest_types, expr_shape, creation_shape, operand_shape, is_init, is_array, expr_shape_step, operand_shape_step, prefix_level, binary_level}
 use Rattle.jc_grammar.proofs.ShapesOfExpressions.{expr_shape-out, operand_shape-out, operand_shape-Binary}
 use Rattle.jc_reading.proofs.Lists.{fits_all}
 use Rattle.jc_reading.proofs.Rooms.{room_above, room_max}
@@ -87,9 +87,6 @@ pub record Operands (level h : ℕ) (list : List (BinaryOp × Expr)) : Type 0 wh
   pub shapes : list_all (of_level level) (map operand_shape (map operand_made list)) ≡ true
   pub heights : nat_le (most (map operand_height (map operand_made list))) h ≡ true
   pub longest : (o : OperandShape) → o.bare ≡ false → longest_types o (map operand_shape (map operand_made list)) ≡ true
-
-made_shape : (q : BinaryOp × Expr) → OperandShape
-made_shape q = record { level = binary_level q.0; good = stands (binary_level q.0 + 1) (expr_shape q.1); bare = false; less = is_less q.0 }
 
 pub operands_made : (level h : ℕ) (list : List (BinaryOp × Expr)) → operands_fit level h list ≡ true → Operands level h list
 operands_made level h [] g = record { shapes = refl; heights = room_above h; longest = λ o b. refl }

@@ -240,9 +240,6 @@ module _ (h : ℕ) (expr : Run Expr) (array : Run ArrayInit) (below : Below h ex
   abbrev pub plain_fits : Expr → Bool
   plain_fits e = is_plain e && prime_fits h e
 
-  abbrev pub plain_codes : List ℕ
-  plain_codes = Plains.starts
-
   abbrev pub plain_coded : Coded Expr
   plain_coded = record { tell = expr_tokens; fits = plain_fits; run = plain_run h expr array; starts = Plains.starts; goes = Plains.goes; empties = false }
 

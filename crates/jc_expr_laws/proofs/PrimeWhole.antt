@@ -160,9 +160,6 @@ module _ (h : ℕ) (expr : Run Expr) (array : Run ArrayInit) (below : Below h ex
   primes_laws : Lawful (Either (Expr × List Selector) (Expr × List Selector)) (formed Primes)
   primes_laws = preferred_laws (Expr × List Selector) (Expr × List Selector) prime_goes (special_grown h expr array below) (plain_grown h expr array below) (special_grown_laws h expr array below) (plain_grown_laws h expr array below) (prefer_special h expr array below)
 
-  abbrev pub prime_starts : List ℕ
-  prime_starts = Primes.starts
-
   -- a primary of height at most one more than h
   abbrev pub prime_coded : Coded Expr
   prime_coded = record { tell = expr_tokens; fits = prime_fits h; run = prime_run h expr array; starts = Primes.starts; goes = prime_goes; empties = false }

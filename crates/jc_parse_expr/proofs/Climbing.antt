@@ -1,5 +1,5 @@
 -- Level after level of binary operators, the tightest first: a level whose operators cannot begin behind an operand adds nothing to it.
-use Rattle.std.proofs.Common.{◌≡◌, ℕ, ◌-◌, ◌+◌, ◌<◌, ◌≤◌, ◌^◌, min, Bool, true, false, cond, ◌==◌, ◌||◌, map, List, [], ◌∷◌, length, Result, Ok, Err, refl, sym, ap, ◌∙◌, subst, ⊎_elim, arith}
+use Rattle.std.proofs.Common.{◌≡◌, ℕ, ◌-◌, ◌+◌, ◌<◌, ◌≤◌, ◌^◌, min, false, cond, ◌==◌, ◌||◌, map, List, [], ◌∷◌, length, Result, Ok, Err, refl, sym, ap, ◌∙◌, ⊎_elim, arith}
 use Rattle.std.specs.Prelude.{IfOk}
 use Rattle.std.proofs.lemmas.Bool.{cases_lt, or_parts}
 use Rattle.jc_lexer.specs.declared.token.Key.TheVariants as key_of
@@ -16,7 +16,7 @@ use Rattle.jc_reading.specs.Further.{preferring}
 use Rattle.jc_reading.specs.Growing.{one_then}
 use Rattle.jc_parse_type.specs.TypeReading.{type_run}
 use Rattle.jc_expr_laws.specs.CompareReading.{Comparison, behind_part, compared_operand, comparisons_run, links, next_comparison_run, touched_before}
-use Rattle.jc_expr_laws.specs.LevelReading.{Levels, and_also_op, and_also_run, and_op, and_run, equal_op, equal_run, less_op, less_run, operand_made, or_else_op, or_else_run, or_op, or_run, plus_op, plus_run, shift_op, shift_run, times_op, times_run, touching_run, xor_op, xor_run}
+use Rattle.jc_expr_laws.specs.LevelReading.{and_also_op, and_also_run, and_op, and_run, equal_op, equal_run, less_op, less_run, operand_made, or_else_op, or_else_run, or_op, or_run, plus_op, plus_run, shift_op, shift_run, times_op, times_run, touching_run, xor_op, xor_run}
 use Rattle.jc_parse_expr.specs.declared.measured.Measured.{Measured}
 use Rattle.jc_parse_expr.specs.declared.operators.Level.{Level}
 use Rattle.jc_parse_expr.specs.declared.operators.Level.TheVariants as level_of

@@ -18,16 +18,15 @@ use Rattle.jc_reading.specs.Kinds.{sign_code}
 use Rattle.jc_reading.specs.Reading.{Read, becoming, found, in_turn, any_number, of_kind, at_kind}
 use Rattle.jc_reading.specs.Reading as reading
 use Rattle.jc_parse_expr.specs.declared.measured.Measured.{Measured}
-use Rattle.jc_parse_expr.specs.Measuring.{measured, measured_operands}
+use Rattle.jc_parse_expr.specs.Measuring.{measured}
 use Rattle.jc_expr_laws.specs.LevelReading.{assign_run, cast_run, operand_for, picks_prefix, prefix_op_run}
-use Rattle.jc_parse_expr.specs.Nodes.{binary_node, cast_node, chain_node, prefix_node}
-use Rattle.jc_parse_expr.specs.After.{After, Built, Joined, assign_right, pair_of}
+use Rattle.jc_parse_expr.specs.Nodes.{binary_node, cast_node, prefix_node}
+use Rattle.jc_parse_expr.specs.After.{After, Joined, assign_right, pair_of}
 use Rattle.jc_parse_expr.specs.declared.operators.Level.{Level}
-use Rattle.jc_parse_expr.specs.BinaryLevels.{levels_at, level_run, tighter_run, operator_run, operand_run, operands_run, measured_right, measured_operand, prefixed_run, cast_type_run, cast_made}
+use Rattle.jc_parse_expr.specs.BinaryLevels.{levels_at, operator_run, operand_run, measured_right, measured_operand, prefixed_run, cast_type_run, cast_made}
 use Rattle.jc_parse_expr.proofs.CodeFacts.{rest_within}
 use Rattle.jc_parse_expr.proofs.Picks.{picking_steps, within_many}
 use Rattle.jc_parse_expr.proofs.RungSteps.{expr_alone, expr_assigns}
-use Rattle.jc_parse_expr.proofs.BinarySteps.{binary_chain}
 use Rattle.jc_parse_expr.proofs.LevelCode.{assigned_found, assigned_stops}
 use Rattle.jc_parse_expr.proofs.OperandCode.{operand_found, operand_stops}
 use Rattle.jc_parse_expr.proofs.PrefixCode.{prefixed_found, prefixed_stops}

@@ -1,5 +1,5 @@
 -- A name that is a whole operand, as each level down to primaries reads it (JLS 15.14.1).
-use Rattle.std.proofs.Common.{◌≡◌, ℕ, zero, suc, ◌-◌, ◌<◌, min, Bool, true, false, not, ◌==◌, ◌||◌, ◌&&◌, nat_le, map, List, [], ◌∷◌, length, None, refl, sym, ap, ◌∙◌, subst, arith}
+use Rattle.std.proofs.Common.{◌≡◌, ℕ, zero, suc, ◌-◌, ◌<◌, min, Bool, true, false, not, ◌==◌, ◌||◌, nat_le, map, List, [], ◌∷◌, length, None, refl, sym, ap, ◌∙◌, arith}
 use Rattle.std.proofs.lemmas.Bool.{and_parts, cond-false, false≢true, or_parts}
 use Rattle.jc_lexer.specs.declared.token.Sign.{Sign}
 use Rattle.jc_lexer.specs.declared.token.Sign.TheVariants as sign_of
@@ -9,25 +9,21 @@ use Rattle.jc_lexer.specs.declared.token.TokenKind.TheVariants as kind_of
 use Rattle.jc_tree.specs.declared.name.Ident.{Ident}
 use Rattle.jc_tree.specs.declared.expression.Expr.{Expr}
 use Rattle.jc_tree.specs.declared.expression.Expr.TheVariants as expr_of
-use Rattle.jc_tree.specs.declared.expression.PostfixOp.{PostfixOp}
-use Rattle.jc_tree.specs.Heights.{capped, expr_height}
+use Rattle.jc_tree.specs.Heights.{expr_height}
 use Rattle.jc_grammar.specs.Shapes.{expr_shape}
 use Rattle.jc_reading.specs.Kinds.{front_code, is_in, kind_code, one_of, sign_code, word_code}
-use Rattle.jc_reading.specs.Reading.{Read, Found, Stopped, Run, found, noting, becoming, as_new, in_turn, on_pick, picking, of_kind, an_ident_at, ident_of_kind, behind_it, That}
+use Rattle.jc_reading.specs.Reading.{Read, Found, Stopped, found, becoming, as_new, in_turn, on_pick, of_kind, an_ident_at, ident_of_kind, behind_it, That}
 use Rattle.jc_reading.proofs.Steps.{within_becoming}
 use Rattle.jc_reading.proofs.Turns.{noting_far}
 use Rattle.jc_parse_type.specs.TypeReading.{primitive_codes}
 use Rattle.jc_part_laws.specs.PartReading.{more_names_run}
-use Rattle.jc_expr_laws.specs.ExprReading.{readers}
 use Rattle.jc_expr_laws.specs.LevelReading.{prefix_codes}
 use Rattle.jc_expr_laws.specs.PostReading.{changed, op_of_kind, op_of_sign, op_run, ops_run}
-use Rattle.jc_expr_laws.specs.PrimeReading.{actuals_run, dotted_run, selector_run}
+use Rattle.jc_expr_laws.specs.PrimeReading.{dotted_run, selector_run}
 use Rattle.jc_expr_laws.specs.StartReading.{plain_run, prime_run, special_run}
-use Rattle.jc_parse_expr.specs.declared.measured.Measured.{Measured}
-use Rattle.jc_parse_expr.specs.declared.parts.SelectorTree.{SelectorTree}
 use Rattle.jc_parse_expr.specs.BinaryLevels.{is_lone_name, is_name, levels_at, post_at, takes_more}
 use Rattle.jc_parse_expr.specs.Measuring.{measured}
-use Rattle.jc_parse_expr.specs.PrimeCode.{array_in, changed_on, expr_in, index_tree, of_selector, pointed_tree, selected_on, selector_at, selector_tree, special_tail_run}
+use Rattle.jc_parse_expr.specs.PrimeCode.{array_in, changed_on, expr_in, of_selector, pointed_tree, selected_on, selector_at, selector_tree, special_tail_run}
 use Rattle.jc_parse_expr.specs.SpecialCode.{forgetting, tail_of}
 use Rattle.jc_parse_expr.proofs.CastCode.{bare_low, bare_post, cast_first}
 use Rattle.jc_parse_expr.proofs.Grows.{grows_first, grows_stop}

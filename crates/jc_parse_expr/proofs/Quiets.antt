@@ -4,7 +4,7 @@ use Rattle.std.proofs.lemmas.Bool.{cases_Bool, cond-false, false≢true, or_left
 use Rattle.jc_lexer.specs.declared.token.Sign.TheVariants as sign_of
 use Rattle.jc_lexer.specs.declared.token.Token.{Token}
 use Rattle.jc_reading.specs.Kinds.{kind_code, one_of, sign_code}
-use Rattle.jc_reading.specs.Reading.{Read, Found, Stopped, Run, found, noting, becoming, one_more, times, any_number, Either, This, That, either, on_pick, of_kind, at_kind}
+use Rattle.jc_reading.specs.Reading.{Read, Stopped, Run, found, noting, becoming, one_more, times, any_number, This, That, either, on_pick, of_kind, at_kind}
 use Rattle.jc_reading.specs.Further.{or_else, preferring}
 use Rattle.jc_expr_laws.specs.LevelReading.{touching_run}
 

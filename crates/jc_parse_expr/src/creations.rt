@@ -19,7 +19,7 @@ use crate::shapes::ends_bare;
 use crate::skips::body;
 use jc_lexer::{Sign, Token};
 use jc_parse_type::{class_within, dims, primitive};
-use jc_reading::{Found, Halt, behind_sign};
+use jc_reading::{Found, Halt, behind_sign, pushed, without};
 use jc_rules::{Items, WantOfMemory};
 use jc_tree::{BaseTree, ClassTree, Creation, Expr};
 use std::alloc::Global;
@@ -41,7 +41,10 @@ pub fn index(
             rest,
             left: index.left.min(rest.len()),
         }),
-        None => Err(Halt::Stopped(index.left.min(index.rest.len()))),
+        None => {
+            let left = index.left.min(index.rest.len());
+            Err(without(index, Halt::Stopped(left)))
+        }
     }
 }
 
@@ -82,7 +85,7 @@ fn lengths(
             Ok(found) => {
                 let value = found.value;
                 most = most.max(value.height);
-                list.push(value.tree)?;
+                list = pushed(list, value.tree)?;
                 left = left.min(found.left);
                 rest = found.rest;
             }
@@ -96,7 +99,7 @@ fn lengths(
                     left: left.min(reach),
                 });
             }
-            Err(Halt::WantOfMemory) => return Err(WantOfMemory),
+            Err(Halt::WantOfMemory) => return Err(without(list, WantOfMemory)),
         }
     }
 }
@@ -119,8 +122,8 @@ fn with_lengths(
             let more = lengths(alloc, first.rest, height);
             sized_with(alloc, element, first, more)
         }
-        Err(Halt::Stopped(left)) => Err(Halt::Stopped(left)),
-        Err(Halt::WantOfMemory) => Err(Halt::WantOfMemory),
+        Err(Halt::Stopped(left)) => Err(without(element, Halt::Stopped(left))),
+        Err(Halt::WantOfMemory) => Err(without(element, Halt::WantOfMemory)),
     }
 }
 
@@ -143,8 +146,11 @@ fn initial(
             rest: array.rest,
             left: dims.left.min(array.left),
         }),
-        Err(Halt::Stopped(left)) => Err(Halt::Stopped(dims.left.min(left))),
-        Err(Halt::WantOfMemory) => Err(Halt::WantOfMemory),
+        Err(Halt::Stopped(left)) => {
+            let left = dims.left.min(left);
+            Err(without(element, Halt::Stopped(left)))
+        }
+        Err(Halt::WantOfMemory) => Err(without(element, Halt::WantOfMemory)),
     }
 }
 
@@ -161,10 +167,10 @@ fn array_tail(
     ensures { Measures creation_height result (as_new (array_creation element) (array_tail_run height (expr_in height) (array_in height)) tokens.now) }
 {
     if height == 0 {
-        return Err(Halt::Stopped(tokens.len()));
+        return Err(without(element, Halt::Stopped(tokens.len())));
     }
     let Some(inside) = behind_sign(Sign::LeftBracket, tokens) else {
-        return Err(Halt::Stopped(tokens.len()));
+        return Err(without(element, Halt::Stopped(tokens.len())));
     };
     match behind_sign(Sign::RightBracket, inside) {
         Some(after) => initial(alloc, element, after, height),
@@ -190,8 +196,8 @@ fn object_parts(
             let body = body(alloc, actuals.rest, height);
             object_with(class, diamond, actuals, body)
         }
-        Err(Halt::Stopped(left)) => Err(Halt::Stopped(left)),
-        Err(Halt::WantOfMemory) => Err(Halt::WantOfMemory),
+        Err(Halt::Stopped(left)) => Err(without(class, Halt::Stopped(left))),
+        Err(Halt::WantOfMemory) => Err(without(class, Halt::WantOfMemory)),
     }
 }
 

@@ -18,7 +18,7 @@ use crate::operators::{Level, assign_op, looser_level, may_operate, operator, ti
 use crate::shapes::may_be_target;
 use crate::unaries::unary;
 use jc_lexer::{Key, Sign, Token};
-use jc_reading::{Found, Halt, behind_key, behind_sign};
+use jc_reading::{Found, Halt, behind_key, behind_sign, pushed, without};
 use jc_rules::{Items, WantOfMemory};
 use jc_tree::{AssignOp, Expr, Operand};
 use std::alloc::Global;
@@ -107,7 +107,7 @@ fn with_choice<'a>(
             with_branches(alloc, test, chosen, other)
         }
         Err(Halt::Stopped(left)) => Ok(alone(test, left)),
-        Err(Halt::WantOfMemory) => Err(Halt::WantOfMemory),
+        Err(Halt::WantOfMemory) => Err(without(test, Halt::WantOfMemory)),
     }
 }
 
@@ -243,7 +243,7 @@ fn same_operands(
             Ok(found) => {
                 let value = found.value;
                 most = most.max(value.height);
-                list.push(value.tree)?;
+                list = pushed(list, value.tree)?;
                 left = left.min(found.left);
                 rest = found.rest;
             }
@@ -257,7 +257,7 @@ fn same_operands(
                     left: left.min(reach),
                 });
             }
-            Err(Halt::WantOfMemory) => return Err(WantOfMemory),
+            Err(Halt::WantOfMemory) => return Err(without(list, WantOfMemory)),
         }
     }
 }
@@ -301,7 +301,7 @@ fn comparisons(
                 opened = ends_open(&value.tree);
                 touched = touched_before(rest, found.rest.len());
                 most = most.max(value.height);
-                list.push(value.tree)?;
+                list = pushed(list, value.tree)?;
                 left = left.min(found.left);
                 rest = found.rest;
             }
@@ -315,7 +315,7 @@ fn comparisons(
                     left: left.min(reach),
                 });
             }
-            Err(Halt::WantOfMemory) => return Err(WantOfMemory),
+            Err(Halt::WantOfMemory) => return Err(without(list, WantOfMemory)),
         }
     }
 }

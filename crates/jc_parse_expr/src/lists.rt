@@ -17,7 +17,7 @@ use crate::parts::Row;
 use crate::pieces::{closing, ends_row, is_at};
 use crate::primary_nodes::{array_node, nested_init, value_init};
 use jc_lexer::{Sign, Token};
-use jc_reading::{Found, Halt, behind_sign, place_of_sign};
+use jc_reading::{Found, Halt, behind_sign, place_of_sign, pushed, without};
 use jc_rules::{Items, WantOfMemory};
 use jc_tree::{ArrayInit, Expr, Init};
 use std::alloc::Global;
@@ -68,14 +68,13 @@ fn exprs(
     let mut left = first.left;
     let value = first.value;
     let mut most = value.height;
-    let mut list = Items::new(alloc);
-    list.push(value.tree)?;
+    let mut list = pushed(Items::new(alloc), value.tree)?;
     'commas: loop {
         match comma_expr(alloc, rest, height) {
             Ok(found) => {
                 let value = found.value;
                 most = most.max(value.height);
-                list.push(value.tree)?;
+                list = pushed(list, value.tree)?;
                 left = left.min(found.left);
                 rest = found.rest;
             }
@@ -89,7 +88,7 @@ fn exprs(
                     left: left.min(reach),
                 });
             }
-            Err(Halt::WantOfMemory) => return Err(Halt::WantOfMemory),
+            Err(Halt::WantOfMemory) => return Err(without(list, Halt::WantOfMemory)),
         }
     }
 }
@@ -139,7 +138,10 @@ pub fn actuals(
             rest,
             left: inside.len().min(list.left.min(rest.len())),
         }),
-        None => Err(Halt::Stopped(inside.len().min(list.left.min(list.rest.len())))),
+        None => {
+            let left = inside.len().min(list.left.min(list.rest.len()));
+            Err(without(list, Halt::Stopped(left)))
+        }
     }
 }
 
@@ -198,14 +200,13 @@ fn inits(
     let mut left = first.left;
     let value = first.value;
     let mut most = value.height;
-    let mut list = Items::new(alloc);
-    list.push(value.tree)?;
+    let mut list = pushed(Items::new(alloc), value.tree)?;
     'commas: loop {
         match comma_init(alloc, rest, height) {
             Ok(found) => {
                 let value = found.value;
                 most = most.max(value.height);
-                list.push(value.tree)?;
+                list = pushed(list, value.tree)?;
                 left = left.min(found.left);
                 rest = found.rest;
             }
@@ -219,7 +220,7 @@ fn inits(
                     left: left.min(reach),
                 });
             }
-            Err(Halt::WantOfMemory) => return Err(Halt::WantOfMemory),
+            Err(Halt::WantOfMemory) => return Err(without(list, Halt::WantOfMemory)),
         }
     }
 }
@@ -241,7 +242,10 @@ fn row(alloc: Global, tokens: &[Token], height: u32) -> Result<Found<'_, Measure
             rest,
             left: list.left.min(rest.len()),
         }),
-        Err(left) => Err(Halt::Stopped(list.left.min(left))),
+        Err(left) => {
+            let left = list.left.min(left);
+            Err(without(list, Halt::Stopped(left)))
+        }
     }
 }
 

@@ -19,7 +19,7 @@ use crate::primary_nodes::{index_part, member_part, new_part, super_node};
 use crate::shapes::is_sized;
 use jc_lexer::{Key, Sign, Token};
 use jc_parse_type::more_args;
-use jc_reading::{Found, Halt, behind_key, behind_sign, identifier};
+use jc_reading::{Found, Halt, behind_key, behind_sign, identifier, without};
 use jc_rules::{Items, WantOfMemory};
 use jc_tree::{Expr, TypeArg};
 use std::alloc::Global;
@@ -44,7 +44,10 @@ fn some_args(
             rest,
             left: args.left.min(rest.len()),
         }),
-        None => Err(Halt::Stopped(args.left.min(args.rest.len()))),
+        None => {
+            let left = args.left.min(args.rest.len());
+            Err(without(args, Halt::Stopped(left)))
+        }
     }
 }
 
@@ -307,7 +310,7 @@ pub fn selectors<'a>(
                     left: value.left.min(reach),
                 });
             }
-            Err(Halt::WantOfMemory) => return Err(WantOfMemory),
+            Err(Halt::WantOfMemory) => return Err(without(value, WantOfMemory)),
         }
     }
 }

@@ -7,7 +7,7 @@ use crate::measured::Measured;
 use crate::operator_nodes::{
     assign_node, binary_node, cast_node, chain_node, conditional_node, prefix_node,
 };
-use jc_reading::{Found, Halt};
+use jc_reading::{Found, Halt, without};
 use jc_rules::{Items, WantOfMemory};
 use jc_tree::{AssignOp, BinaryOp, Expr, Operand, PrefixOp, TypeTree};
 use std::alloc::Global;
@@ -34,7 +34,7 @@ pub fn with_value<'a>(
     match more {
         Ok(more) => assigning(alloc, target, more),
         Err(Halt::Stopped(left)) => Ok(alone(target, left)),
-        Err(Halt::WantOfMemory) => Err(Halt::WantOfMemory),
+        Err(Halt::WantOfMemory) => Err(without(target, Halt::WantOfMemory)),
     }
 }
 
@@ -115,12 +115,12 @@ fn left_alone<'a>(
 {
     match halt {
         Halt::Stopped(left) => Ok(alone(test, reach.min(left))),
-        Halt::WantOfMemory => Err(Halt::WantOfMemory),
+        Halt::WantOfMemory => Err(without(test, Halt::WantOfMemory)),
     }
 }
 
 /// How far a value was read that is left out.
-fn reach_of(found: Found<'_, Measured<Expr>>) -> usize
+fn reach_of<T: Drop>(found: Found<'_, T>) -> usize
     ensures { result ≡ found.entry.left }
 {
     found.left
@@ -171,8 +171,11 @@ pub fn with_prefixes<'a>(
 {
     match more {
         Ok(more) => prefixing(alloc, first, ops, more),
-        Err(Halt::Stopped(left)) => Err(Halt::Stopped(ops.left.min(left))),
-        Err(Halt::WantOfMemory) => Err(Halt::WantOfMemory),
+        Err(Halt::Stopped(left)) => {
+            let left = ops.left.min(left);
+            Err(without(ops, Halt::Stopped(left)))
+        }
+        Err(Halt::WantOfMemory) => Err(without(ops, Halt::WantOfMemory)),
     }
 }
 
@@ -204,8 +207,11 @@ pub fn with_type<'a>(
 {
     match more {
         Ok(more) => casting(alloc, at, ty, more),
-        Err(Halt::Stopped(left)) => Err(Halt::Stopped(ty.left.min(left))),
-        Err(Halt::WantOfMemory) => Err(Halt::WantOfMemory),
+        Err(Halt::Stopped(left)) => {
+            let left = ty.left.min(left);
+            Err(without(ty, Halt::Stopped(left)))
+        }
+        Err(Halt::WantOfMemory) => Err(without(ty, Halt::WantOfMemory)),
     }
 }
 

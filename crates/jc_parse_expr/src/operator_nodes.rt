@@ -6,7 +6,8 @@ ghost use Rattle.jc_tree.specs.declared.expression.Operand.TheVariants as operan
 ghost use Rattle.jc_parse_expr.specs.Nodes.{assign_node, binary_node, cast_node, chain_node, conditional_node, prefix_node};
 
 use crate::measured::Measured;
-use jc_rules::{Boxed, Items, WantOfMemory};
+use jc_reading::{boxed_beside, three_boxed, two_boxed, without};
+use jc_rules::{Items, WantOfMemory};
 use jc_tree::{AssignOp, BinaryOp, Expr, Operand, PrefixOp, TypeTree, type_height};
 use std::alloc::Global;
 
@@ -20,44 +21,9 @@ pub fn assign_node(
     ensures { IfOk result (λ node. node ≡ assign_node target op value) }
 {
     let height = target.height.max(value.height).saturating_add(1);
-    let target = Boxed::new(alloc, target.tree)?;
-    let value = Boxed::new(alloc, value.tree)?;
+    let (target, value) = two_boxed(alloc, target.tree, value.tree)?;
     Ok(Measured {
         tree: Expr::Assign { target, op, value },
-        height,
-    })
-}
-
-/// The branches of a conditional.
-#[derive(Drop)]
-struct Branches {
-    then: Boxed<Expr>,
-    otherwise: Boxed<Expr>,
-}
-
-fn both_boxed(alloc: Global, then: Expr, otherwise: Expr) -> Result<Branches, WantOfMemory>
-    ensures { IfOk result (λ made. (made.then ≡ then) × (made.otherwise ≡ otherwise)) }
-{
-    let then = Boxed::new(alloc, then)?;
-    let otherwise = Boxed::new(alloc, otherwise)?;
-    Ok(Branches { then, otherwise })
-}
-
-fn with_test(
-    alloc: Global,
-    test: Expr,
-    branches: Branches,
-    height: u32,
-) -> Result<Measured<Expr>, WantOfMemory>
-    ensures { IfOk result (λ node. (node.tree ≡ expr_of.Conditional test branches.then branches.otherwise) × (node.height ≡ height)) }
-{
-    let test = Boxed::new(alloc, test)?;
-    Ok(Measured {
-        tree: Expr::Conditional {
-            test,
-            then: branches.then,
-            otherwise: branches.otherwise,
-        },
         height,
     })
 }
@@ -72,10 +38,15 @@ pub fn conditional_node(
     ensures { IfOk result (λ node. node ≡ conditional_node test then otherwise) }
 {
     let height = test.height.max(then.height).max(otherwise.height);
-    match both_boxed(alloc, then.tree, otherwise.tree) {
-        Ok(made) => with_test(alloc, test.tree, made, height.saturating_add(1)),
-        Err(fault) => Err(fault),
-    }
+    let (test, then, otherwise) = three_boxed(alloc, test.tree, then.tree, otherwise.tree)?;
+    Ok(Measured {
+        tree: Expr::Conditional {
+            test,
+            then,
+            otherwise,
+        },
+        height: height.saturating_add(1),
+    })
 }
 
 /// A first operand alone, or a chain of operators (JLS 15.17 to 15.24).
@@ -87,15 +58,12 @@ pub fn chain_node(
     ensures { IfOk result (λ node. node ≡ chain_node first rest) }
 {
     if rest.tree.is_empty() {
-        return Ok(first);
+        return Ok(without(rest, first));
     }
     let height = first.height.max(rest.height).saturating_add(1);
-    let first = Boxed::new(alloc, first.tree)?;
+    let (first, rest) = boxed_beside(alloc, first.tree, rest.tree)?;
     Ok(Measured {
-        tree: Expr::Chain {
-            first,
-            rest: rest.tree,
-        },
+        tree: Expr::Chain { first, rest },
         height,
     })
 }
@@ -110,7 +78,7 @@ pub fn prefix_node(
     ensures { IfOk result (λ node. node ≡ prefix_node first more operand) }
 {
     let height = operand.height.saturating_add(1);
-    let operand = Boxed::new(alloc, operand.tree)?;
+    let (operand, more) = boxed_beside(alloc, operand.tree, more)?;
     Ok(Measured {
         tree: Expr::Prefix {
             first,
@@ -131,7 +99,7 @@ pub fn cast_node(
     ensures { IfOk result (λ node. node ≡ cast_node at ty operand) }
 {
     let height = type_height(&ty).max(operand.height).saturating_add(1);
-    let operand = Boxed::new(alloc, operand.tree)?;
+    let (operand, ty) = boxed_beside(alloc, operand.tree, ty)?;
     Ok(Measured {
         tree: Expr::Cast { at, ty, operand },
         height,

@@ -11,7 +11,7 @@ use crate::measured::Measured;
 use crate::operators::prefix_op;
 use jc_lexer::{Sign, Token};
 use jc_parse_type::type_within;
-use jc_reading::{Found, Halt, behind_sign};
+use jc_reading::{Found, Halt, behind_sign, without};
 use jc_rules::{Items, WantOfMemory};
 use jc_tree::{Expr, PrefixOp, TypeTree};
 use std::alloc::Global;
@@ -56,7 +56,10 @@ pub fn cast_type(alloc: Global, tokens: &[Token], height: u32) -> Result<Found<'
             rest,
             left: ty.left.min(rest.len()),
         }),
-        None => Err(Halt::Stopped(ty.left.min(ty.rest.len()))),
+        None => {
+            let left = ty.left.min(ty.rest.len());
+            Err(without(ty, Halt::Stopped(left)))
+        }
     }
 }
 

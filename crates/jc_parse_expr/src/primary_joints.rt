@@ -17,7 +17,7 @@ use crate::primary_nodes::{
     call_part, field_part, invoke_node, name_node, object_node, selected_node, sized_node,
 };
 use jc_parse_type::dims;
-use jc_reading::{Found, Halt};
+use jc_reading::{Found, Halt, without};
 use jc_rules::{Items, WantOfMemory};
 use jc_tree::{BaseTree, ClassTree, Creation, Expr, Ident, Skip, TypeArg};
 use std::alloc::Global;
@@ -81,7 +81,7 @@ pub fn sized_with<'a>(
 {
     match more {
         Ok(more) => sized_of(alloc, element, first, more),
-        Err(WantOfMemory) => Err(Halt::WantOfMemory),
+        Err(WantOfMemory) => Err(without((element, first), Halt::WantOfMemory)),
     }
 }
 
@@ -119,7 +119,7 @@ pub fn object_with<'a>(
 {
     match body {
         Ok(body) => Ok(object_of(class, diamond, actuals, body)),
-        Err(WantOfMemory) => Err(Halt::WantOfMemory),
+        Err(WantOfMemory) => Err(without((class, actuals), Halt::WantOfMemory)),
     }
 }
 
@@ -162,8 +162,11 @@ pub fn called_with<'a>(
                 left,
             })
         }
-        Err(Halt::Stopped(left)) => Err(Halt::Stopped(name.left.min(left))),
-        Err(Halt::WantOfMemory) => Err(Halt::WantOfMemory),
+        Err(Halt::Stopped(left)) => {
+            let left = name.left.min(left);
+            Err(without((type_args, name), Halt::Stopped(left)))
+        }
+        Err(Halt::WantOfMemory) => Err(without((type_args, name), Halt::WantOfMemory)),
     }
 }
 

@@ -12,6 +12,7 @@ ghost use Rattle.jc_parse_expr.specs.declared.parts.SelectorTree.TheVariants as 
 
 use crate::measured::Measured;
 use crate::parts::{MemberTree, Row, SelectorTree};
+use jc_reading::boxed_beside;
 use jc_rules::{Boxed, Items, WantOfMemory};
 use jc_tree::{
     ArrayInit, BaseTree, ClassTree, Creation, Expr, Ident, Init, PostfixOp, Skip, TypeArg,
@@ -246,18 +247,16 @@ pub fn sized_node(
     ensures height { IsMeasured expr_height first → IsMeasured exprs_height more → IfOk result (λ r. IsMeasured creation_height r) }
 {
     let height = base_height(&element).max(first.height).max(more.height);
-    match Boxed::new(alloc, first.tree) {
-        Ok(first) => Ok(Measured {
-            tree: Creation::Sized {
-                element,
-                first,
-                more: more.tree,
-                dims,
-            },
-            height,
-        }),
-        Err(fault) => Err(fault),
-    }
+    let (first, (element, more)) = boxed_beside(alloc, first.tree, (element, more.tree))?;
+    Ok(Measured {
+        tree: Creation::Sized {
+            element,
+            first,
+            more,
+            dims,
+        },
+        height,
+    })
 }
 
 /// An object of a class.
@@ -390,8 +389,8 @@ fn selected_of(alloc: Global, of: Boxed<Expr>, selector: SelectorTree) -> Result
 fn selected_tree(alloc: Global, value: Expr, selector: SelectorTree) -> Result<Expr, WantOfMemory>
     ensures { IfOk result (λ r. r ≡ of_selector value selector) }
 {
-    match Boxed::new(alloc, value) {
-        Ok(of) => selected_of(alloc, of, selector),
+    match boxed_beside(alloc, value, selector) {
+        Ok((of, selector)) => selected_of(alloc, of, selector),
         Err(fault) => Err(fault),
     }
 }

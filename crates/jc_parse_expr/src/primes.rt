@@ -24,7 +24,7 @@ use crate::primary_joints::noting_start;
 use crate::primary_nodes::{changed_node, paren_node, this_node, void_node};
 use crate::specials::special;
 use jc_lexer::{Key, Sign, Token};
-use jc_reading::{Found, Halt, behind_sign, place_of_key, place_of_sign};
+use jc_reading::{Found, Halt, behind_sign, place_of_key, place_of_sign, without};
 use jc_rules::WantOfMemory;
 use jc_tree::{Expr, PostfixOp};
 use std::alloc::Global;
@@ -82,7 +82,10 @@ fn closed(
             value: paren_node(alloc, at, value.value)?,
             rest,
         }),
-        None => Err(Halt::Stopped(value.left.min(value.rest.len()))),
+        None => {
+            let left = value.left.min(value.rest.len());
+            Err(without(value, Halt::Stopped(left)))
+        }
     }
 }
 

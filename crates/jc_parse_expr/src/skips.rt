@@ -11,7 +11,7 @@ ghost use Rattle.jc_parse_expr.specs.PrimeCode.{IsMeasured, Measures, Reads, ski
 use crate::measured::Measured;
 use crate::pieces::{copy_units, is_at};
 use jc_lexer::{Sign, Token, TokenKind};
-use jc_reading::{Found, Halt, behind_sign};
+use jc_reading::{Found, Halt, behind_sign, pushed, without};
 use jc_rules::{Items, WantOfMemory};
 use jc_tree::{Skip, SkipPart, copy_text};
 use std::alloc::Global;
@@ -127,7 +127,7 @@ fn skip_parts(
             Ok(found) => {
                 let value = found.value;
                 most = most.max(value.height);
-                parts.push(value.tree)?;
+                parts = pushed(parts, value.tree)?;
                 left = left.min(found.left);
                 rest = found.rest;
             }
@@ -141,7 +141,7 @@ fn skip_parts(
                     left: left.min(reach),
                 });
             }
-            Err(Halt::WantOfMemory) => return Err(WantOfMemory),
+            Err(Halt::WantOfMemory) => return Err(without(parts, WantOfMemory)),
         }
     }
 }
@@ -165,7 +165,10 @@ pub fn skip(alloc: Global, tokens: &[Token], height: u32) -> Result<Found<'_, Me
             rest,
             left: inside.len().min(parts.left.min(rest.len())),
         }),
-        None => Err(Halt::Stopped(inside.len().min(parts.left.min(parts.rest.len())))),
+        None => {
+            let left = inside.len().min(parts.left.min(parts.rest.len()));
+            Err(without(parts, Halt::Stopped(left)))
+        }
     }
 }
 
@@ -200,14 +203,12 @@ pub fn body(
 ) -> Result<Found<'_, Measured<Items<Skip>>>, WantOfMemory>
     ensures { IfOk result (λ f. Reads skips_height f (body_run height tokens.now)) }
 {
-    let mut bodies = Items::new(alloc);
     match skip(alloc, tokens, height) {
         Ok(skip) => {
             let value = skip.value;
-            bodies.push(value.tree)?;
             Ok(Found {
                 value: Measured {
-                    tree: bodies,
+                    tree: pushed(Items::new(alloc), value.tree)?,
                     height: value.height,
                 },
                 rest: skip.rest,
@@ -216,7 +217,7 @@ pub fn body(
         }
         Err(Halt::Stopped(left)) => Ok(Found {
             value: Measured {
-                tree: bodies,
+                tree: Items::new(alloc),
                 height: 0,
             },
             rest: tokens,

@@ -18,7 +18,7 @@ use crate::pieces::{dot_class, is_at};
 use crate::primary_nodes::{class_node, outer_node};
 use jc_lexer::{Key, Sign, Token, TokenKind};
 use jc_parse_type::{dims, primitive};
-use jc_reading::{Found, Halt, behind_key, behind_sign, identifier};
+use jc_reading::{Found, Halt, behind_key, behind_sign, identifier, pushed, without};
 use jc_rules::{Items, WantOfMemory};
 use jc_tree::{BaseTree, ClassTree, Expr, Ident, PrimitiveWord, TypePart, TypeTree, copy_ident};
 use std::alloc::Global;
@@ -204,8 +204,10 @@ fn bare_parts(alloc: Global, names: &[Ident]) -> Result<Items<TypePart>, WantOfM
 {
     let mut parts = Items::new(alloc);
     for i in 0..names.len() {
-        let name = copy_ident(alloc, &names[i])?;
-        parts.push(bare_part(alloc, name))?;
+        match copy_ident(alloc, &names[i]) {
+            Ok(name) => parts = pushed(parts, bare_part(alloc, name))?,
+            Err(fault) => return Err(without(parts, fault)),
+        }
     }
     Ok(parts)
 }

@@ -23,7 +23,7 @@ use crate::primes::post;
 use crate::shapes::is_effect;
 use crate::unaries::prefixed;
 use jc_lexer::{Sign, Token};
-use jc_reading::{Found, Halt};
+use jc_reading::{Found, Halt, without};
 use jc_tree::{AssignOp, Expr, Init};
 use std::alloc::Global;
 
@@ -110,7 +110,7 @@ fn changing(alloc: Global, tokens: &[Token], height: u32) -> Result<Found<'_, Ex
     match assigned(alloc, value.rest, height) {
         Ok(more) => changed(alloc, value, more),
         Err(Halt::Stopped(left)) => effect_alone(value, left),
-        Err(Halt::WantOfMemory) => Err(Halt::WantOfMemory),
+        Err(Halt::WantOfMemory) => Err(without(value, Halt::WantOfMemory)),
     }
 }
 
@@ -140,7 +140,7 @@ fn effect_alone<'a>(value: Found<'a, Measured<Expr>>, left: usize) -> Result<Fou
 {
     let left = value.left.min(left);
     if !is_effect(&value.value.tree) {
-        return Err(Halt::Stopped(left));
+        return Err(without(value, Halt::Stopped(left)));
     }
     Ok(Found {
         value: value.value.tree,

@@ -17,7 +17,7 @@ use crate::names::{more_names, name, past_sign, past_sign_at};
 use crate::trees::ValueRow;
 use jc_lexer::{Key, Sign, Token, TokenKind};
 use jc_parse_expr::conditional_within;
-use jc_reading::{Found, Halt};
+use jc_reading::{Found, Halt, without};
 use jc_rules::{Items, WantOfMemory};
 use jc_tree::{Annotation, AnnotationValue, Modifier, ModifierWord, Pair};
 use std::alloc::Global;
@@ -85,8 +85,11 @@ fn row_of(values: Found<'_, Items<AnnotationValue>>) -> Result<Found<'_, ValueRo
             rest: end.rest,
             left: values.left.min(end.left),
         }),
-        Err(Halt::Stopped(left)) => Err(Halt::Stopped(values.left.min(left))),
-        Err(Halt::WantOfMemory) => Err(Halt::WantOfMemory),
+        Err(Halt::Stopped(left)) => {
+            let left = values.left.min(left);
+            Err(without(values, Halt::Stopped(left)))
+        }
+        Err(Halt::WantOfMemory) => Err(without(values, Halt::WantOfMemory)),
     }
 }
 
@@ -304,7 +307,10 @@ fn pairs_within(
             rest,
             left: least!(inside.len(), pairs.left, rest.len()),
         }),
-        None => Err(Halt::Stopped(least!(inside.len(), pairs.left, pairs.rest.len()))),
+        None => {
+            let left = least!(inside.len(), pairs.left, pairs.rest.len());
+            Err(without(pairs, Halt::Stopped(left)))
+        }
     }
 }
 

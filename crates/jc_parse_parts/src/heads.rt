@@ -11,7 +11,7 @@ use crate::names::{name, past_sign_at, past_word, past_word_at};
 use crate::params::{keyed_within, params_within};
 use crate::trees::{HeadTree, SuperTrees};
 use jc_lexer::{Key, Sign, Token};
-use jc_reading::{Found, Halt};
+use jc_reading::{Found, Halt, without};
 use jc_rules::{Items, WantOfMemory};
 use jc_tree::{ClassTree, DeclarationHead, Modifier};
 use std::alloc::Global;
@@ -63,7 +63,9 @@ fn supers(
     ensures shorter { IfOk result (λ f. length f.rest.now ≤ length tokens.now) }
 {
     let extends = extended(alloc, tokens, height)?;
-    let implements = keyed_within(alloc, Key::Implements, extends.rest, height)?;
+    let Ok(implements) = keyed_within(alloc, Key::Implements, extends.rest, height) else {
+        return Err(without(extends, WantOfMemory));
+    };
     Ok(Found {
         value: SuperTrees {
             extends: extends.value,
@@ -86,7 +88,9 @@ fn class_head(alloc: Global, tokens: &[Token], height: u32) -> Result<Found<'_, 
     };
     let name = after!(name(alloc, after), after.len());
     let params = params_within(alloc, name.rest, height)?;
-    let supers = supers(alloc, params.rest, height)?;
+    let Ok(supers) = supers(alloc, params.rest, height) else {
+        return Err(without(params, Halt::WantOfMemory));
+    };
     let types = supers.value;
     Ok(Found {
         value: HeadTree::Class {
@@ -113,7 +117,9 @@ fn interface_head(alloc: Global, tokens: &[Token], height: u32) -> Result<Found<
     };
     let name = after!(name(alloc, after), after.len());
     let params = params_within(alloc, name.rest, height)?;
-    let extends = keyed_within(alloc, Key::Extends, params.rest, height)?;
+    let Ok(extends) = keyed_within(alloc, Key::Extends, params.rest, height) else {
+        return Err(without(params, Halt::WantOfMemory));
+    };
     Ok(Found {
         value: HeadTree::Interface {
             at,

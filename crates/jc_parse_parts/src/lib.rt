@@ -20,6 +20,20 @@ macro_rules! after {
     };
 }
 
+/// The same, where a value is held, which is let go where nothing is read.
+macro_rules! after_holding {
+    ($held:expr, $read:expr, $($left:expr),+) => {
+        match $read {
+            Ok(found) => found,
+            Err(Halt::Stopped(reach)) => {
+                let left = least!($($left),+, reach);
+                return Err(without($held, Halt::Stopped(left)));
+            }
+            Err(Halt::WantOfMemory) => return Err(without($held, Halt::WantOfMemory)),
+        }
+    };
+}
+
 mod annotations;
 mod heads;
 mod kinds;

@@ -11,7 +11,7 @@ use crate::kinds::class_within;
 use crate::lists::{each, no_list, separated};
 use crate::names::{name, past_sign, past_sign_at, past_word};
 use jc_lexer::{Key, Sign, Token};
-use jc_reading::{Found, Halt};
+use jc_reading::{Found, Halt, without};
 use jc_rules::{Items, WantOfMemory};
 use jc_tree::{ClassTree, TypeParam, TypeParams};
 use std::alloc::Global;
@@ -164,11 +164,10 @@ pub fn params_within(
                 rest,
                 left: least!(inside.len(), found.left, rest.len()),
             }),
-            None => Ok(no_list(
-                alloc,
-                tokens,
-                least!(inside.len(), found.left, found.rest.len()),
-            )),
+            None => {
+                let left = least!(inside.len(), found.left, found.rest.len());
+                Ok(without(found, no_list(alloc, tokens, left)))
+            }
         },
         Err(Halt::Stopped(left)) => Ok(no_list(alloc, tokens, inside.len().min(left))),
         Err(Halt::WantOfMemory) => Err(WantOfMemory),
@@ -190,7 +189,9 @@ pub fn params_of_within(
         return Err(Halt::Stopped(tokens.len()));
     };
     let first = after!(param_within(alloc, inside, height), inside.len());
-    let more = more_params(alloc, first.rest, height)?;
+    let Ok(more) = more_params(alloc, first.rest, height) else {
+        return Err(without(first, Halt::WantOfMemory));
+    };
     match past_sign(Sign::Greater, more.rest) {
         Some(rest) => Ok(Found {
             value: TypeParams {
@@ -201,10 +202,11 @@ pub fn params_of_within(
             rest,
             left: inside.len().min(first.left.min(more.left).min(rest.len())),
         }),
-        None => Err(Halt::Stopped(
-            inside
+        None => {
+            let left = inside
                 .len()
-                .min(first.left.min(more.left).min(more.rest.len())),
-        )),
+                .min(first.left.min(more.left).min(more.rest.len()));
+            Err(without((first, more), Halt::Stopped(left)))
+        }
     }
 }

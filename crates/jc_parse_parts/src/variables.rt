@@ -16,7 +16,7 @@ use crate::names::{name, past_sign, past_word_at};
 use crate::trees::{FormalTail, Vars};
 use jc_lexer::{Key, Sign, Token};
 use jc_parse_expr::init_within;
-use jc_reading::{Found, Halt};
+use jc_reading::{Found, Halt, pushed, without};
 use jc_rules::{Items, WantOfMemory};
 use jc_tree::{Formal, Init, Modifier, ResultType, Var};
 use std::alloc::Global;
@@ -49,7 +49,7 @@ fn formal_tail(alloc: Global, tokens: &[Token], height: u32) -> Result<Found<'_,
 {
     let ty = type_within(alloc, tokens, height)?;
     let arity = arity(ty.rest);
-    let name = after!(name(alloc, arity.rest), ty.left, arity.left);
+    let name = after_holding!(ty, name(alloc, arity.rest), ty.left, arity.left);
     let dims = dims(name.rest);
     Ok(Found {
         value: FormalTail {
@@ -86,8 +86,11 @@ fn formal_of<'a>(
                 left: modifiers.left.min(found.left),
             })
         }
-        Err(Halt::Stopped(left)) => Err(Halt::Stopped(modifiers.left.min(left))),
-        Err(Halt::WantOfMemory) => Err(Halt::WantOfMemory),
+        Err(Halt::Stopped(left)) => {
+            let left = modifiers.left.min(left);
+            Err(without(modifiers, Halt::Stopped(left)))
+        }
+        Err(Halt::WantOfMemory) => Err(without(modifiers, Halt::WantOfMemory)),
     }
 }
 
@@ -138,8 +141,7 @@ fn some_formals(
 {
     let first = formal_within(alloc, tokens, height)?;
     let mut last = first.value.variable_arity;
-    let mut formals = Items::new(alloc);
-    formals.push(first.value)?;
+    let mut formals = pushed(Items::new(alloc), first.value)?;
     let mut rest = first.rest;
     let mut left = first.left;
     'commas: loop {
@@ -153,7 +155,7 @@ fn some_formals(
         match comma_formal(alloc, rest, height) {
             Ok(found) => {
                 last = found.value.variable_arity;
-                formals.push(found.value)?;
+                formals = pushed(formals, found.value)?;
                 left = left.min(found.left);
                 rest = found.rest;
             }
@@ -164,7 +166,7 @@ fn some_formals(
                     left: left.min(reach),
                 });
             }
-            Err(Halt::WantOfMemory) => return Err(Halt::WantOfMemory),
+            Err(Halt::WantOfMemory) => return Err(without(formals, Halt::WantOfMemory)),
         }
     }
 }
@@ -207,7 +209,10 @@ pub fn formals_within(
             rest,
             left: least!(inside.len(), formals.left, rest.len()),
         }),
-        None => Err(Halt::Stopped(least!(inside.len(), formals.left, formals.rest.len()))),
+        None => {
+            let left = least!(inside.len(), formals.left, formals.rest.len());
+            Err(without(formals, Halt::Stopped(left)))
+        }
     }
 }
 
@@ -297,7 +302,9 @@ pub fn vars_within(alloc: Global, tokens: &[Token], height: u32) -> Result<Found
     ensures shorter { IfOk result (λ f. length f.rest.now ≤ length tokens.now) }
 {
     let first = var_within(alloc, tokens, height)?;
-    let more = more_vars_within(alloc, first.rest, height)?;
+    let Ok(more) = more_vars_within(alloc, first.rest, height) else {
+        return Err(without(first, Halt::WantOfMemory));
+    };
     Ok(Found {
         value: Vars {
             first: first.value,

@@ -16,14 +16,6 @@ use Rattle.jc_reading.proofs.Turns.{Advances, lawful_advances, as_advances, time
 use Rattle.jc_parse_type.specs.TypeReading.{Bound, bound_run, wildcard, arg_made, arg_run, or_none, args_run, part_run, type_run, base_run}
 use Rattle.jc_parse_type.proofs.TypeForms.{type_laws, arg_laws, arg_form, part_form, part_laws, base_laws, row_laws}
 
-pub arg_at : ℕ → Run TypeArg
-arg_at h = arg_run h (type_run h)
-
--- a reach that is far enough is not noted again
-near : {A B : Type 0} (f : A → B) (k : ℕ) (m : Read A) → Within k m → becoming f (noting k m) ≡ becoming f m
-near f k (Found a r l) w = let e : min k l ≡ l = omega (arith, w.0, w.1) in ap (λ j. Found (f a) r j) e
-near f k (Stopped l) w = let e : min k l ≡ l = omega (arith, w) in ap (λ j. Stopped j) e
-
 joined_behind : {A : Type 0} (k : ℕ) (m : Read A) → Within k m → becoming behind_it (noting k (becoming (joined {A = Unit {0}} tt) m)) ≡ m
 joined_behind k (Found a r l) w = let e : min k l ≡ l = omega (arith, w.0, w.1) in ap (λ j. Found a r j) e
 joined_behind k (Stopped l) w = let e : min k l ≡ l = omega (arith, w) in ap (λ j. Stopped j) e

@@ -38,10 +38,6 @@ use Rattle.jc_reading.proofs.Signs.{a_sign, a_sign_at, a_key, an_ident, sign_law
 use Rattle.jc_reading.proofs.Rooms.{room_none, room_above, room_suc, room_max, room_all}
 use Rattle.jc_parse_type.specs.TypeReading.{dims_run, word_of_key, word_of_kind, at_its_place, picks_word, primitive_codes, Bound, arg_made, arg_run, or_none, args_run, part_made, part_run, class_made, class_run_of, base_made, base_run_of, type_made, type_run_of, type_run, class_run, base_run}
 
--- a test of nothing
-nothing : List Token → Bool
-nothing ts = false
-
 -- {"[" "]"}
 
 abbrev pub Bracket : Form (Unit {0} × Unit {0})

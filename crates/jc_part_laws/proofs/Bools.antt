@@ -5,6 +5,3 @@ use Rattle.std.proofs.lemmas.Grind.{common_steps}
 
 pub swap_four : (a b c d : Bool) → ((a && b) && (c && d)) ≡ ((a && c) && (b && d))
 swap_four a b c d = grind (arith, common_steps)
-
-pub shuffle : (a b c m t f r : Bool) → ((a && b && c) && (((m && t) && f) && r)) ≡ ((a && m) && (t && ((b && f) && (c && r))))
-shuffle a b c m t f r = grind (arith, common_steps)

@@ -4,7 +4,6 @@ use Rattle.std.proofs.Math.Bool.{and-true}
 use Rattle.std.proofs.lemmas.Bool.{false≢true, and_parts, and_from, and_left, and_right}
 use Rattle.std.proofs.lemmas.Grind.{common_steps}
 use Rattle.std.specs.Prelude.{◌&&◌, ◌||◌, not, nat_le}
-use Rattle.jc_lexer.specs.declared.token.Key.TheVariants as key_of
 use Rattle.jc_lexer.specs.declared.token.Sign.TheVariants as sign_of
 use Rattle.jc_lexer.specs.declared.token.Token.{Token}
 use Rattle.jc_tree.specs.declared.name.Ident.{Ident}
@@ -12,29 +11,27 @@ use Rattle.jc_tree.specs.declared.types.TypeTree.{TypeTree}
 use Rattle.jc_tree.specs.declared.expression.Init.{Init}
 use Rattle.jc_tree.specs.declared.statement.Formal.{Formal}
 use Rattle.jc_tree.specs.declared.statement.Modifier.{Modifier}
-use Rattle.jc_tree.specs.declared.statement.ResultType.{ResultType}
-use Rattle.jc_tree.specs.declared.statement.ResultType.TheVariants as result_of
 use Rattle.jc_tree.specs.declared.statement.Var.{Var}
-use Rattle.jc_tree.specs.Heights.{most, type_height, init_height, modifier_height, formal_height, var_height, result_height}
+use Rattle.jc_tree.specs.Heights.{most, type_height, init_height, modifier_height, formal_height, var_height}
 use Rattle.jc_grammar.specs.Told.{Told, sign, commas, after_commas}
-use Rattle.jc_grammar.specs.Parts.{formal_tokens, var_tokens, result_tokens}
+use Rattle.jc_grammar.specs.Parts.{formal_tokens, var_tokens}
 use Rattle.jc_grammar.specs.Shapes.{is_init}
 use Rattle.jc_grammar.specs.Units.{are_modifiers, are_formals, is_var}
-use Rattle.jc_reading.specs.Kinds.{kind_code, sign_code, key_code, word_code, is_in, front_code, one_of}
-use Rattle.jc_reading.specs.Reading.{Read, Run, found, becoming, joined, of_kind, perhaps_from, ◌>>=◌, Either, This, That, Takes}
+use Rattle.jc_reading.specs.Kinds.{kind_code, sign_code, word_code, is_in, front_code, one_of}
+use Rattle.jc_reading.specs.Reading.{Read, Run, found, becoming, joined, of_kind, perhaps_from, ◌>>=◌, Takes}
 use Rattle.jc_reading.proofs.Steps.{Good, takes_length}
 use Rattle.jc_reading.proofs.Forms.{Lawful}
-use Rattle.jc_reading.proofs.Signs.{sign_laws, key_at_laws, ident_laws, apart_sets}
+use Rattle.jc_reading.proofs.Signs.{sign_laws, ident_laws, apart_sets}
 use Rattle.jc_reading.proofs.Rooms.{room_above, room_max}
 use Rattle.jc_parse_type.proofs.TypeForms.{dims_laws}
 use Rattle.jc_reading.specs.Further.{unless, followed}
-use Rattle.jc_part_laws.specs.PartReading.{Exprs, formal_made, formal_run, is_variable, or_no_formals, formals_tail_run, formals_made, formals_run, var_made, var_run, result_made, result_run}
-use Rattle.jc_reading.proofs.Coded.{Coded, formed, in_order, in_order_laws, optional, optional_laws, one_or, made, made_laws, same_makes, widened_laws}
+use Rattle.jc_part_laws.specs.PartReading.{Exprs, formal_made, formal_run, is_variable, or_no_formals, formals_tail_run, formals_made, formals_run, var_made, var_run}
+use Rattle.jc_reading.proofs.Coded.{Coded, formed, in_order, in_order_laws, optional, optional_laws, made, made_laws, same_makes, widened_laws}
 use Rattle.jc_part_laws.proofs.ExprForms.{ExprLaws, init_coded, init_tall}
 use Rattle.jc_reading.proofs.Followed.{following, Follow, following_laws}
-use Rattle.jc_reading.proofs.Lowest.{Law, optional_law, roomy, roomy_law, one_or_law, made_law, idle_laws, never_second}
+use Rattle.jc_reading.proofs.Lowest.{Law, optional_law, roomy, roomy_law, idle_laws, never_second}
 use Rattle.jc_part_laws.proofs.ModifierForms.{modifiers_coded, modifiers_coded_laws}
-use Rattle.jc_part_laws.proofs.PartForms.{sign_form, key_at_form, ident_form, dims_coded, type_coded, type_coded_laws, type_law, type_never, behind_each, behind_each_laws}
+use Rattle.jc_part_laws.proofs.PartForms.{sign_form, ident_form, dims_coded, type_coded, type_coded_laws, type_never, behind_each, behind_each_laws}
 use Rattle.jc_reading.proofs.Unbounded.{Grows, unbounded, sized, unbounded_laws, takes_some, bind_same, good_more}
 
 formal_bits : (m t a : Bool) → ((m && t) && a) ≡ ((m && a) && (t && true))
@@ -362,35 +359,3 @@ module _ (x : Exprs) where
 
     pub vars_laws : ExprLaws x → Lawful (Var × List (Unit {0} × Var)) (formed vars_coded)
     vars_laws lx = in_order_laws Var (List (Unit {0} × Var)) var_coded (behind_each sign_of.Comma var_coded) (var_laws lx) (behind_each_laws Var sign_of.Comma var_coded (var_laws lx) refl refl) refl
-
--- a type or "void"
-
-module _ (h : ℕ) where
-  abbrev Results : Coded (Either ℕ TypeTree)
-  Results = one_or (key_code key_of.Void ∷ []) (key_at_form key_of.Void) (type_coded h)
-
-  abbrev pub result_fits : ResultType → Bool
-  result_fits r = nat_le (result_height r) h
-
-  abbrev pub result_coded : Coded ResultType
-  result_coded = record { tell = result_tokens; fits = result_fits; run = result_run h; starts = Results.starts; goes = Results.goes; empties = false }
-
-  told_result : (o : Either ℕ TypeTree) (r : List Told) → result_tokens (result_made o) r ≡ Results.tell o r
-  told_result (This at) r = refl
-  told_result (That ty) r = refl
-
-  fit_result : (o : Either ℕ TypeTree) → result_fits (result_made o) ≡ Results.fits o
-  fit_result (This at) = room_above h
-  fit_result (That ty) = refl
-
-  back_result : (r : ResultType) → (o : Either ℕ TypeTree) × (result_made o ≡ r)
-  back_result (result_of.Void at) = (This at, refl)
-  back_result (result_of.Type ty) = (That ty, refl)
-
-  pub result_laws : Lawful ResultType (formed result_coded)
-  unfolding result_run
-  result_laws =
-      ⊎_elim (λ (l : Lawful ResultType (formed result_coded)). l) (λ v. absurd (false≢true (sym (v.never (result_of.Void 0)) ∙ room_above h)))
-      (made_law (Either ℕ TypeTree) ResultType Results result_made result_tokens result_fits
-      (one_or_law ℕ TypeTree (key_code key_of.Void ∷ []) (key_at_form key_of.Void) (type_coded h) (record { solid = refl; solid' = refl; this = refl; that = refl }) (inl (key_at_laws key_of.Void)) (type_law h))
-      (same_makes (Either ℕ TypeTree) ResultType Results result_made result_tokens result_fits (record { told = told_result; fit = fit_result; back = back_result })))

@@ -77,9 +77,6 @@ at_interface ts = one_of (sign_code sign_of.At ∷ []) ts && one_of (key_code ke
 abbrev pub head_starts : List Token → Bool
 head_starts ts = one_of (key_code key_of.Class ∷ []) ts || (one_of (key_code key_of.Interface ∷ []) ts || at_interface ts)
 
-abbrev pub head_codes : List ℕ
-head_codes = key_code key_of.Class ∷ key_code key_of.Interface ∷ sign_code sign_of.At ∷ []
-
 abbrev pub head_goes : List ℕ
 head_goes = key_code key_of.Extends ∷ key_code key_of.Implements ∷ sign_code sign_of.Comma ∷ sign_code sign_of.Less ∷ sign_code sign_of.Dot ∷ []
 

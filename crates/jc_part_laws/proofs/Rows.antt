@@ -56,10 +56,6 @@ module _ (between end : Sign) (differ : none_common (sign_code end ∷ []) (sign
   told_closing (This p) r = refl
   told_closing (That u) r = refl
 
-  fit_closing : (o : Either (Unit {0} × Unit {0}) (Unit {0})) → true ≡ Ends.fits o
-  fit_closing (This p) = refl
-  fit_closing (That u) = refl
-
   back_closing : (b : Bool) → (o : Either (Unit {0} × Unit {0}) (Unit {0})) × (which o ≡ b) × (Ends.fits o ≡ true)
   back_closing true = (This (tt, tt), refl, refl)
   back_closing false = (That tt, refl, refl)

@@ -196,7 +196,3 @@ module _ (A T : Type 0) (closes : A → Bool) (none : T) (nothing : T → Bool) 
     begins = λ ts. begins_on ts (ca.run ts) (la.begins ts) (la.sound ts);
     least = record { value = (la.least.value, none); tokens = la.least.tokens; spelled = λ z. join_none (la.least.tokens ++ z) z la.least.value (la.least.spelled z) };
   }
-
-  -- where more is found whatever follows, so is the whole
-  pub followed_whole : (ts : List Token) (p : A × T) (r : List Token) → Stands Both ts p r → nothing p.1 ≡ false → ((m : List Token) → Stands ct m p.1 r → IsFound p.1 r (ct.run m)) → IsFound p r (Both.run ts)
-  followed_whole ts p r s n f = let c = cut ts p r s in found_more ts p r c n (f c.m c.second)

@@ -20,10 +20,6 @@ pub or_false : (b : Bool) → (b || false) ≡ true → b ≡ true
 or_false true e = refl
 or_false false e = e
 
-pub false_or : (b : Bool) → b ≡ true → (b || false) ≡ true
-false_or true e = refl
-false_or false e = e
-
 module _ (A : Type 0) (s : Sign) (fa : Form A) where
   -- the sign, and then what may begin the form
   abbrev pub led_starts : List Token → Bool
@@ -142,14 +138,6 @@ module _ (A : Type 0) (fa : Form A) (la : Lawful A fa) (solid : fa.empties ≡ f
   row_starts : (ts : List Token) (e : Bool) → e ≡ false → (fa.starts ts || (e && comma_starts A fa ts)) ≡ true → fa.starts ts ≡ true
   row_starts ts true q h = absurd (false≢true (sym q))
   row_starts ts false q h = or_false (fa.starts ts) h
-
-  row_goes : (b c : Bool) → (b || c) ≡ true → ((b || c) || (true && c)) ≡ true
-  row_goes true c e = refl
-  row_goes false true e = refl
-  row_goes false false e = e
-
-  pub commas_solid : (fa.empties && true) ≡ false
-  commas_solid = ap (λ b. b && true) solid
 
   pub commas_laws : Lawful (List A) (commas_form A fa)
   commas_laws = alike_laws (A × List (Unit {0} × A)) (List A) Row first_and_more (λ list r. commas (map fa.tell list) r) (fits_some_of fa.fits) fa.starts (λ ts. comma_starts A fa ts || fa.goes_on ts) row_laws

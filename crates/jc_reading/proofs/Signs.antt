@@ -38,9 +38,6 @@ module _ (k : TokenKind) (is_kind : (j : TokenKind) → kind_code j ≡ kind_cod
   coded_test : (j : TokenKind) → j ≡ k → is_in (code ∷ []) (kind_code j) ≡ true
   coded_test j e = or_left (code == kind_code j) false (eq-eqb code (kind_code j) (ap kind_code (sym e)))
 
-  abbrev plain_form : Form (Unit {0})
-  plain_form = token (Unit {0}) (code ∷ []) (picks code) (λ u. told k None)
-
   plain_picks : Picks (Unit {0}) (code ∷ []) (picks code) (λ u. told k None)
   unfolding a_token
   plain_picks = record {

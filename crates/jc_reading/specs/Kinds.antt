@@ -124,11 +124,6 @@ abbrev pub front_code : List Token → ℕ
 front_code [] = 999
 front_code (t ∷ ts) = kind_code t.kind
 
--- what stands behind the first token
-abbrev pub second_code : List Token → ℕ
-second_code [] = 999
-second_code (t ∷ ts) = front_code ts
-
 abbrev pub is_in : List ℕ → ℕ → Bool
 is_in [] n = false
 is_in (c ∷ codes) n = (c == n) || is_in codes n

@@ -105,11 +105,6 @@ of_kind code = picking (picks code)
 abbrev pub at_kind : ℕ → Run ℕ
 at_kind code = picking (picks_at code)
 
--- the tokens behind one of a kind
-abbrev pub behind : ℕ → List Token → Option (List Token)
-behind code [] = None
-behind code (t ∷ ts) = cond (kind_code t.kind == code) (Some ts) None
-
 -- the identifier of a word
 abbrev pub ident_of_kind : TokenKind → ℕ → Option Ident
 ident_of_kind (kind_of.Word text) at = Some (record { at = at; text = text })

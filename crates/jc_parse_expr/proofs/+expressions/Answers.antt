@@ -368,9 +368,9 @@ levels::same_operands-operands-preserved t c =
     let lt = row_shorter level height rest found.rest.now found.value found.left c.in-Ok.ensures in
     let kept = measured_found operand_height (operand_run level (tighter_run level (levels_at height)) rest) found.value found.rest.now found.left c.in-Ok.ensures in
     let top : c.max-most.result ≡ max c.operands.most found.value.height = grind (arith, nat_tests) in
-    let held : c.push.new.self ≡ c.operands.list ++ found.value.tree ∷ [] = c.in_ok-push-in-Ok.ensures.ok in record {
-      read = row_next level height _ c.operands.list c.push.new.self c.operands.left c.min-left.result rest found.rest.now found.value found.left c.operands.invariant.read c.in-Ok.ensures held c.min-left.ensures;
-      high = more_tall c.operands.most found.value.height c.max-most.result c.operands.list c.push.new.self found.value.tree c.operands.invariant.high kept.1 top held;
+    let held : c.in_ok-list-in-Ok.list ≡ c.operands.list ++ found.value.tree ∷ [] = c.in_ok-list-in-Ok.ensures in record {
+      read = row_next level height _ c.operands.list c.in_ok-list-in-Ok.list c.operands.left c.min-left.result rest found.rest.now found.value found.left c.operands.invariant.read c.in-Ok.ensures held c.min-left.ensures;
+      high = more_tall c.operands.most found.value.height c.max-most.result c.operands.list c.in_ok-list-in-Ok.list found.value.tree c.operands.invariant.high kept.1 top held;
       few = omega (arith, lt, c.operands.invariant.few);
     }
 
@@ -404,9 +404,9 @@ levels::comparisons-links-preserved t c =
     let lt = link_shorter height opened touched rest found.rest.now found.value found.left c.in-Ok.ensures in
     let kept = measured_found operand_height (next_operand_run height (levels_at height).shift opened touched rest) found.value found.rest.now found.left c.in-Ok.ensures in
     let top : c.max-most.result ≡ max c.links.most found.value.height = grind (arith, nat_tests) in
-    let held : c.push.new.self ≡ c.links.list ++ found.value.tree ∷ [] = c.in_ok-push-in-Ok.ensures.ok in record {
-      read = link_turn height _ c.links.list c.push.new.self c.links.left c.min-left.result opened touched c.ends_open-opened.result c.touched_before-touched.result rest found.rest.now found.value found.left c.links.invariant.read c.in-Ok.ensures held c.min-left.ensures c.ends_open-opened.ensures c.touched_before-touched.ensures;
-      high = more_tall c.links.most found.value.height c.max-most.result c.links.list c.push.new.self found.value.tree c.links.invariant.high kept.1 top held;
+    let held : c.in_ok-list-in-Ok.list ≡ c.links.list ++ found.value.tree ∷ [] = c.in_ok-list-in-Ok.ensures in record {
+      read = link_turn height _ c.links.list c.in_ok-list-in-Ok.list c.links.left c.min-left.result opened touched c.ends_open-opened.result c.touched_before-touched.result rest found.rest.now found.value found.left c.links.invariant.read c.in-Ok.ensures held c.min-left.ensures c.ends_open-opened.ensures c.touched_before-touched.ensures;
+      high = more_tall c.links.most found.value.height c.max-most.result c.links.list c.in_ok-list-in-Ok.list found.value.tree c.links.invariant.high kept.1 top held;
       few = omega (arith, lt, c.links.invariant.few);
     }
 
@@ -424,9 +424,9 @@ lists::exprs-commas-init t c =
     let first = c.in_ok-first.first in
     let one : run c.args.tokens.now ≡ Found first.value.tree first.rest.now first.left = c.in_ok-first.ensures.0 in
     let lt = rest_expr c.args.height c.args.tokens.now first.rest.now first.value.tree first.left one in
-    let held : c.push.new.self ≡ first.value.tree ∷ [] = one_pushed c.new-list.result c.push.new.self first.value.tree c.in_ok-push.ensures.ok c.new-list.ensures in (
-      commas_begin run c.args.tokens.now first.rest.now first.value.tree first.left c.push.new.self one held,
-      one_top expr_height first.value.tree c.push.new.self first.value.height c.in_ok-first.ensures.1 held,
+    let held : c.in_ok-list.list ≡ first.value.tree ∷ [] = one_pushed c.new.result c.in_ok-list.list first.value.tree c.in_ok-list.ensures c.new.ensures in (
+      commas_begin run c.args.tokens.now first.rest.now first.value.tree first.left c.in_ok-list.list one held,
+      one_top expr_height first.value.tree c.in_ok-list.list first.value.height c.in_ok-first.ensures.1 held,
       omega (arith, lt),
     )
 
@@ -446,9 +446,9 @@ lists::exprs-commas-preserved t c =
     let lt = loop_shorter Expr m (comma_exprs c.args.height) c.commas.rest.now found.rest.now found.value.tree found.left next in
     let s = loop_next Expr m (comma_exprs c.args.height) whole c.commas.list c.commas.left c.commas.rest.now found.rest.now found.value.tree found.left c.commas.invariant.0 next in
     let top : c.max-most.result ≡ max c.commas.most found.value.height = grind (arith, nat_tests) in
-    let held : c.push-in-Ok.new.self ≡ c.commas.list ++ found.value.tree ∷ [] = c.in_ok-push-in-Ok.ensures.ok in (
-      resumes_same whole (c.commas.list ++ found.value.tree ∷ []) c.push-in-Ok.new.self (min c.commas.left found.left) c.min-left.result m found.rest.now s held c.min-left.ensures,
-      more_top expr_height c.commas.list c.push-in-Ok.new.self found.value.tree c.commas.most found.value.height c.max-most.result c.commas.invariant.1 c.in-Ok.ensures.1 top held,
+    let held : c.in_ok-list-in-Ok.list ≡ c.commas.list ++ found.value.tree ∷ [] = c.in_ok-list-in-Ok.ensures in (
+      resumes_same whole (c.commas.list ++ found.value.tree ∷ []) c.in_ok-list-in-Ok.list (min c.commas.left found.left) c.min-left.result m found.rest.now s held c.min-left.ensures,
+      more_top expr_height c.commas.list c.in_ok-list-in-Ok.list found.value.tree c.commas.most found.value.height c.max-most.result c.commas.invariant.1 c.in-Ok.ensures.1 top held,
       omega (arith, lt, c.commas.invariant.2),
     )
 
@@ -468,9 +468,9 @@ lists::inits-commas-init t c =
     let first = c.in_ok-first.first in
     let one : run c.args.tokens.now ≡ Found first.value.tree first.rest.now first.left = c.in_ok-first.ensures.0 in
     let lt = rest_init c.args.height c.args.tokens.now first.rest.now first.value.tree first.left one in
-    let held : c.push.new.self ≡ first.value.tree ∷ [] = one_pushed c.new-list.result c.push.new.self first.value.tree c.in_ok-push.ensures.ok c.new-list.ensures in (
-      commas_begin run c.args.tokens.now first.rest.now first.value.tree first.left c.push.new.self one held,
-      one_top init_height first.value.tree c.push.new.self first.value.height c.in_ok-first.ensures.1 held,
+    let held : c.in_ok-list.list ≡ first.value.tree ∷ [] = one_pushed c.new.result c.in_ok-list.list first.value.tree c.in_ok-list.ensures c.new.ensures in (
+      commas_begin run c.args.tokens.now first.rest.now first.value.tree first.left c.in_ok-list.list one held,
+      one_top init_height first.value.tree c.in_ok-list.list first.value.height c.in_ok-first.ensures.1 held,
       omega (arith, lt),
     )
 
@@ -490,9 +490,9 @@ lists::inits-commas-preserved t c =
     let lt = loop_shorter Init m (comma_inits c.args.height) c.commas.rest.now found.rest.now found.value.tree found.left next in
     let s = loop_next Init m (comma_inits c.args.height) whole c.commas.list c.commas.left c.commas.rest.now found.rest.now found.value.tree found.left c.commas.invariant.0 next in
     let top : c.max-most.result ≡ max c.commas.most found.value.height = grind (arith, nat_tests) in
-    let held : c.push-in-Ok.new.self ≡ c.commas.list ++ found.value.tree ∷ [] = c.in_ok-push-in-Ok.ensures.ok in (
-      resumes_same whole (c.commas.list ++ found.value.tree ∷ []) c.push-in-Ok.new.self (min c.commas.left found.left) c.min-left.result m found.rest.now s held c.min-left.ensures,
-      more_top init_height c.commas.list c.push-in-Ok.new.self found.value.tree c.commas.most found.value.height c.max-most.result c.commas.invariant.1 c.in-Ok.ensures.1 top held,
+    let held : c.in_ok-list-in-Ok.list ≡ c.commas.list ++ found.value.tree ∷ [] = c.in_ok-list-in-Ok.ensures in (
+      resumes_same whole (c.commas.list ++ found.value.tree ∷ []) c.in_ok-list-in-Ok.list (min c.commas.left found.left) c.min-left.result m found.rest.now s held c.min-left.ensures,
+      more_top init_height c.commas.list c.in_ok-list-in-Ok.list found.value.tree c.commas.most found.value.height c.max-most.result c.commas.invariant.1 c.in-Ok.ensures.1 top held,
       omega (arith, lt, c.commas.invariant.2),
     )
 
@@ -530,9 +530,9 @@ creations::lengths-lengths-preserved t c =
     let lt = loop_shorter Expr m (length_steps c.args.height) c.lengths.rest.now found.rest.now found.value.tree found.left next in
     let s = loop_next Expr m (length_steps c.args.height) whole c.lengths.list c.lengths.left c.lengths.rest.now found.rest.now found.value.tree found.left c.lengths.invariant.0 next in
     let top : c.max-most.result ≡ max c.lengths.most found.value.height = grind (arith, nat_tests) in
-    let held : c.push.new.self ≡ c.lengths.list ++ found.value.tree ∷ [] = c.in_ok-push-in-Ok.ensures.ok in (
-      resumes_same whole (c.lengths.list ++ found.value.tree ∷ []) c.push.new.self (min c.lengths.left found.left) c.min-left.result m found.rest.now s held c.min-left.ensures,
-      more_top expr_height c.lengths.list c.push.new.self found.value.tree c.lengths.most found.value.height c.max-most.result c.lengths.invariant.1 c.in-Ok.ensures.1 top held,
+    let held : c.in_ok-list-in-Ok.list ≡ c.lengths.list ++ found.value.tree ∷ [] = c.in_ok-list-in-Ok.ensures in (
+      resumes_same whole (c.lengths.list ++ found.value.tree ∷ []) c.in_ok-list-in-Ok.list (min c.lengths.left found.left) c.min-left.result m found.rest.now s held c.min-left.ensures,
+      more_top expr_height c.lengths.list c.in_ok-list-in-Ok.list found.value.tree c.lengths.most found.value.height c.max-most.result c.lengths.invariant.1 c.in-Ok.ensures.1 top held,
       omega (arith, lt, c.lengths.invariant.2),
     )
 
@@ -588,10 +588,16 @@ members::selectors-returns-in-Err-Stopped t c =
     )
 
 pub creations::array_tail-returns-then-height-eq0 : goal.creations::array_tail-returns-then-height-eq0
-creations::array_tail-returns-then-height-eq0 t c = tail_low c.args.height c.args.element c.args.tokens.now (omega arith)
+creations::array_tail-returns-then-height-eq0 t c =
+    let h = c.args.height in
+    let read = as_new (array_creation c.args.element) (array_tail_run h (expr_in h) (array_in h)) c.args.tokens.now in
+    subst (λ (halt : Halt). Halts halt read) (sym c.without.ensures) (tail_low h c.args.element c.args.tokens.now (omega arith))
 
 pub creations::array_tail-returns-in_default : goal.creations::array_tail-returns-in_default
-creations::array_tail-returns-in_default t c = tail_open c.args.height c.args.element c.args.tokens.now (omega arith) c.in_default.ensures.read
+creations::array_tail-returns-in_default t c =
+    let h = c.args.height in
+    let read = as_new (array_creation c.args.element) (array_tail_run h (expr_in h) (array_in h)) c.args.tokens.now in
+    subst (λ (halt : Halt). Halts halt read) (sym c.without-in_default.ensures) (tail_open h c.args.element c.args.tokens.now (omega arith) c.in_default.ensures.read)
 
 pub creations::array_tail-returns-in-None : goal.creations::array_tail-returns-in-None
 creations::array_tail-returns-in-None t c =

@@ -33,7 +33,7 @@ skip_parts-parts-preserved t c =
     let next : m c.parts.rest.now ≡ Found found.value.tree found.rest.now found.left = c.in-Ok.ensures.0 in
     let s = loop_next SkipPart m (skip_steps c.args.height) whole c.parts.parts c.parts.left c.parts.rest.now found.rest.now found.value.tree found.left c.parts.invariant.0 next in
     let top : c.max-most.result ≡ max c.parts.most found.value.height = grind (arith, nat_tests) in
-    let held : c.push.new.self ≡ c.parts.parts ++ found.value.tree ∷ [] = c.in_ok-push-in-Ok.ensures.ok in (
+    let held : c.in_ok-parts-in-Ok.parts ≡ c.parts.parts ++ found.value.tree ∷ [] = c.in_ok-parts-in-Ok.ensures in (
       subst (λ (l : List SkipPart). Resumes whole l c.min-left.result m found.rest.now) (sym held) (subst (λ j. Resumes whole (c.parts.parts ++ found.value.tree ∷ []) j m found.rest.now) (sym c.min-left.ensures) s),
       top ∙ ap (λ n. max n found.value.height) c.parts.invariant.1 ∙ ap (λ n. max (capped (skip_parts_height c.parts.parts)) n) c.in-Ok.ensures.1
           ∙ sym (ap (λ (l : List SkipPart). capped (skip_parts_height l)) held ∙ pushed skip_part_height c.parts.parts found.value.tree),

@@ -21,7 +21,7 @@ comma_formal_reach h ts l e = subst (λ (v : Read Formal). Ahead ts v) e (behind
 pub commas-init : goal.commas-init
 commas-init c =
     let first = c.in_ok-first.first in
-    let held : c.push.new.self ≡ first.value ∷ [] = c.in_ok-push.ensures.ok ∙ ap (λ (l : List Formal). l ++ first.value ∷ []) c.new-formals.ensures in (
+    let held : c.in_ok-formals.formals ≡ first.value ∷ [] = c.in_ok-formals.ensures ∙ ap (λ (l : List Formal). l ++ first.value ∷ []) c.new.ensures in (
       subst (λ (l : List Formal). Continues first.value.variable_arity (formal_run exprs c.args.height) (some_formals_run c.args.height c.args.tokens.now) l first.left first.rest.now) (sym held)
           (formals_first c.args.height c.args.tokens.now first.rest.now first.value first.left c.in_ok-first.ensures.read),
       c.in_ok-first.ensures.shorter,
@@ -40,7 +40,7 @@ commas-preserved c =
     let whole = some_formals_run c.args.height c.args.tokens.now in
     let lt = ahead_less (as_new behind_it (in_turn (of_kind (sign_code sign_of.Comma)) formal)) c.commas.rest.now found.rest.now found.value found.left (behind_ahead (sign_code sign_of.Comma) formal (formal_inside c.args.height)) c.in-Ok.ensures.read in
     let s = formals_next c.commas.last formal whole c.commas.formals c.commas.left c.commas.rest.now found.rest.now found.value found.left c.if-last.false c.commas.invariant.0 c.in-Ok.ensures.read lt in
-    let held : c.push-in-Ok.new.self ≡ c.commas.formals ++ found.value ∷ [] = c.in_ok-push-in-Ok.ensures.ok in (
+    let held : c.in_ok-formals-in-Ok.formals ≡ c.commas.formals ++ found.value ∷ [] = c.in_ok-formals-in-Ok.ensures in (
       subst (λ (l : List Formal). Continues found.value.variable_arity formal whole l c.min-left.result found.rest.now) (sym held)
           (subst (λ j. Continues found.value.variable_arity formal whole (c.commas.formals ++ found.value ∷ []) j found.rest.now) (sym c.min-left.ensures) s),
       omega (arith, lt, c.commas.invariant.1),
