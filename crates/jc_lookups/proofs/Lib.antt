@@ -1,2 +1,4 @@
 pub mod Depths
 pub mod FieldLines
+pub mod ParameterSorts
+pub mod SlotLines

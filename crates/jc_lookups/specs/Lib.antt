@@ -1,2 +1,3 @@
 pub mod Deepened
+pub mod FieldMarks
 pub mod Interfaces

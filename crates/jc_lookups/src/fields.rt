@@ -9,13 +9,15 @@ use jc_class_out::{ClassModel, FieldModel};
 use jc_heap::{class_named, has_flag, superclass};
 use jc_rules::Items;
 
-fn is_named(name: &[u16], descriptor: &[u16], field: &FieldModel) -> bool
+/// Whether a field has a name and a descriptor.
+pub fn is_named(name: &[u16], descriptor: &[u16], field: &FieldModel) -> bool
     ensures { result ≡ is_field name.now descriptor.now field.now }
 {
     field.name.slice() == name && field.descriptor.slice() == descriptor
 }
 
-fn fields_in(classes: &[ClassModel], class: u64) -> &[FieldModel]
+/// The fields of a class.
+pub fn fields_in(classes: &[ClassModel], class: u64) -> &[FieldModel]
     ensures { result.now ≡ fields_of classes.now class }
 {
     match classes.get(class as usize) {

@@ -1,8 +1,10 @@
 ghost use Rattle.std.specs.Prelude.{◌≡◌, codes};
-ghost use Rattle.jc_jvm.specs.Calls.{is_native_of, native_by};
+ghost use Rattle.jc_jvm.specs.Calls.{is_native_of, native_by, native_at};
 
-use jc_class_out::MethodModel;
-use jc_heap::spells;
+use crate::names::name_of_class;
+use jc_calls::method_of;
+use jc_class_out::{ClassModel, MethodModel};
+use jc_heap::{has_flag, spells};
 use jc_jvm::Native;
 
 fn is_native(class: &[u16], method: &MethodModel, of: &str, name: &str, descriptor: &str) -> bool
@@ -43,5 +45,21 @@ pub fn native_by_name(class: &[u16], method: &MethodModel) -> Option<Native>
         Some(Native::Put)
     } else {
         None
+    }
+}
+
+/// The native method of the library that the method of that number in the class of that number is.
+pub fn find_native(classes: &[ClassModel], class: u64, method: u64) -> Option<Native>
+    ensures { result ≡ native_at classes.now (class, method) }
+{
+    match method_of(classes, class, method) {
+        Some(found) => {
+            if has_flag(256, found.flags) {
+                native_by_name(name_of_class(classes, class), found)
+            } else {
+                None
+            }
+        }
+        None => None,
     }
 }

@@ -2,6 +2,7 @@ ghost use Rattle.std.specs.Prelude.{◌≡◌, ◌-◌, IfSome, length, take};
 ghost use Rattle.std.specs.Option.{option_map};
 ghost use Rattle.jc_jvm.specs.Classes.{class_named as class_by_name};
 ghost use Rattle.jc_jvm.specs.Types.{primitive_of, shape_of_class, based, shape_of_descriptor, shape_named};
+ghost use Rattle.jc_jvm.specs.Table.{type_of_code};
 ghost use Rattle.jc_lookups.specs.Deepened.{deepened, bare_shape};
 
 use jc_class_out::ClassModel;
@@ -117,5 +118,20 @@ pub fn shape_by_name(classes: &[ClassModel], name: &[u16]) -> Option<Shape>
                 class_shape(classes, name)
             }
         }
+    }
+}
+
+/// The type of newarray's elements, by its code.
+pub fn shape_by_code(code: i32) -> Option<Shape>
+    ensures { result ≡ option_map based (type_of_code code) }
+{
+    match code {
+        4 => plain_shape(Some(Base::Boolean)),
+        5 => plain_shape(Some(Base::Char)),
+        8 => plain_shape(Some(Base::Byte)),
+        9 => plain_shape(Some(Base::Short)),
+        10 => plain_shape(Some(Base::Int)),
+        11 => plain_shape(Some(Base::Long)),
+        _ => None,
     }
 }

@@ -1,0 +1,75 @@
+-- Lists of classes and marks of their fields, as loops make them.
+use Rattle.std.proofs.Common.{◌≡◌, ℕ, zero, suc, ◌+◌, ◌-◌, ◌<◌, ◌==◌, ◌&&◌, List, [], ◌∷◌, ◌++◌, Bool, cond, nat_lt, map, filter, position, length, not, refl, sym, ap, ◌∙◌, arith, append_assoc}
+use Rattle.std.proofs.lemmas.List.{append-nil, length-map}
+use Rattle.std.specs.List.{flat_map, position_or_len}
+use Rattle.std.specs.declared.option.Option.{Option}
+use Rattle.std.specs.declared.option.Option.TheVariants.{Some, None}
+use Rattle.jc_class_out.specs.declared.model.ClassModel.{ClassModel}
+use Rattle.jc_class_out.specs.declared.model.FieldModel.{FieldModel}
+use Rattle.jc_jvm.specs.Classes.{line_on, super_of, own_fields, fields_of, is_field, is_static_field}
+use Rattle.jc_lookups.specs.FieldMarks.{own_marks}
+
+line_on-none : (classes : List ClassModel) (n : ℕ) → line_on classes n None ≡ []
+unfolding line_on
+line_on-none classes zero = refl
+line_on-none classes (suc n) = refl
+
+line_on-zero : (classes : List ClassModel) (here : Option ℕ) → line_on classes 0 here ≡ []
+unfolding line_on
+line_on-zero classes None = refl
+line_on-zero classes (Some k) = refl
+
+line_on-suc : (classes : List ClassModel) (n k : ℕ) → line_on classes (suc n) (Some k) ≡ k ∷ line_on classes n (super_of classes k)
+unfolding line_on
+line_on-suc classes n k = refl
+
+line_on-at : (classes : List ClassModel) (m n k : ℕ) → m ≡ suc n → line_on classes m (Some k) ≡ k ∷ line_on classes n (super_of classes k)
+line_on-at classes m n k e = rw e (line_on-suc classes n k)
+
+-- one class more of a line
+pub line_on-more : (classes : List ClassModel) (found : List ℕ) (n i k : ℕ) → i < n → (found ++ k ∷ []) ++ line_on classes (n - (i + 1)) (super_of classes k) ≡ found ++ line_on classes (n - i) (Some k)
+line_on-more classes found n i k below =
+    rw append_assoc (ap (λ rest. found ++ rest) (sym (line_on-at classes (n - i) (n - (i + 1)) k (omega arith))))
+
+pub ruleset line_rules = (line_on-more)
+
+-- where a line ends
+pub line_done : (classes : List ClassModel) (found whole : List ℕ) (m : ℕ) (here : Option ℕ) → here ≡ None → found ++ line_on classes m here ≡ whole → found ≡ whole
+line_done classes found whole m here none e =
+    sym (append-nil found) ∙ ap (λ (rest : List ℕ). found ++ rest) (sym (line_on-none classes m)) ∙ ap (λ (h : Option ℕ). found ++ line_on classes m h) (sym none) ∙ e
+
+pub line_over : (classes : List ClassModel) (found whole : List ℕ) (m : ℕ) (here : Option ℕ) → m ≡ 0 → found ++ line_on classes m here ≡ whole → found ≡ whole
+line_over classes found whole m here none e =
+    sym (append-nil found) ∙ ap (λ (rest : List ℕ). found ++ rest) (sym (line_on-zero classes here)) ∙ ap (λ (n : ℕ). found ++ line_on classes n here) (sym none) ∙ e
+
+-- ---- marks of instance fields
+
+own-marks : (class : ℕ) (name descriptor : List ℕ) (k : ℕ) (fields : List FieldModel) (rest : List (ℕ × FieldModel)) →
+    map (λ (s : ℕ × FieldModel). (s.0 == class) && is_field name descriptor s.1) (map (λ (f : FieldModel). (k, f)) fields ++ rest)
+    ≡ map (λ (f : FieldModel). (k == class) && is_field name descriptor f) fields ++ map (λ (s : ℕ × FieldModel). (s.0 == class) && is_field name descriptor s.1) rest
+own-marks class name descriptor k [] rest = refl
+own-marks class name descriptor k (f ∷ fs) rest = ap (λ (more : List Bool). ((k == class) && is_field name descriptor f) ∷ more) (own-marks class name descriptor k fs rest)
+
+marks-flat : (classes : List ClassModel) (class : ℕ) (name descriptor : List ℕ) (ks : List ℕ) →
+    flat_map (λ k. own_marks (k == class) name descriptor (fields_of classes k)) ks ≡ map (λ (s : ℕ × FieldModel). (s.0 == class) && is_field name descriptor s.1) (flat_map (own_fields classes) ks)
+marks-flat classes class name descriptor [] = refl
+marks-flat classes class name descriptor (k ∷ ks) =
+    ap (λ (more : List Bool). own_marks (k == class) name descriptor (fields_of classes k) ++ more) (marks-flat classes class name descriptor ks)
+    ∙ sym (own-marks class name descriptor k (filter (λ f. not (is_static_field f)) (fields_of classes k)) (flat_map (own_fields classes) ks))
+
+marks-place : {A : Type 0} (f : A → Bool) (xs : List A) → position_or_len (λ (b : Bool). b) (map f xs) ≡ position_or_len f xs
+marks-place f [] = refl
+marks-place f (x ∷ xs) = ap (λ (n : ℕ). cond (not (f x)) (1 + n) 0) (marks-place f xs)
+
+position-by : {A : Type 0} (f : A → Bool) (xs : List A) → position (λ (b : Bool). b) (map f xs) ≡ position f xs
+position-by f xs =
+    ap (λ (n : ℕ). cond (nat_lt n (length (map f xs))) (Some n) None) (marks-place f xs)
+    ∙ ap (λ (n : ℕ). cond (nat_lt (position_or_len f xs) n) (Some (position_or_len f xs)) None) (length-map xs f)
+
+-- the first mark is where the field stands
+pub marks_flat : (classes : List ClassModel) (class : ℕ) (name descriptor : List ℕ) (ks : List ℕ) →
+    position (λ (b : Bool). b) (flat_map (λ k. own_marks (k == class) name descriptor (fields_of classes k)) ks)
+    ≡ position (λ (s : ℕ × FieldModel). (s.0 == class) && is_field name descriptor s.1) (flat_map (own_fields classes) ks)
+marks_flat classes class name descriptor ks =
+    ap (λ (marks : List Bool). position (λ (b : Bool). b) marks) (marks-flat classes class name descriptor ks)
+    ∙ position-by (λ (s : ℕ × FieldModel). (s.0 == class) && is_field name descriptor s.1) (flat_map (own_fields classes) ks)

@@ -1,0 +1,12 @@
+use jc_jvm::Frame;
+use jc_waiting::Onward;
+
+/// What a step does.
+#[derive(Debug, Drop)]
+pub enum Did {
+    Moves(Onward),
+    /// A byte goes out.
+    Puts { byte: u8, on: Onward },
+    /// It asks for a byte of the input. The frame goes on behind its call, at `next`, with the byte, or with -1 at the input's end.
+    Asks { now: Frame, next: u32 },
+}
