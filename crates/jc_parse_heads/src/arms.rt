@@ -13,8 +13,8 @@ ghost use Rattle.jc_parse_heads.specs.declared.pieces.Branch.TheVariants as bran
 
 use crate::pieces::Branch;
 use jc_lexer::Token;
-use jc_reading::{Found, Halt};
-use jc_rules::Items;
+use jc_reading::{Found, Halt, pushed, without};
+use jc_rules::{Items, WantOfMemory};
 use jc_tree::{Clause, ClauseHead, Stmt};
 use std::alloc::Global;
 
@@ -145,13 +145,14 @@ pub fn if_else_of<'a>(
     ensures ok { IfOk result (λ f. (f.value ≡ stmt_of.If arms (last ∷ [])) × (f.rest.now ≡ rest.now) × (f.left ≡ left)) }
     ensures err { IfErr result (λ e. e ≡ halt_of.WantOfMemory) }
 {
-    let mut otherwise = Items::new(alloc);
-    otherwise.push(last)?;
-    Ok(Found {
-        value: Stmt::If { arms, otherwise },
-        rest,
-        left,
-    })
+    match pushed(Items::new(alloc), last) {
+        Ok(otherwise) => Ok(Found {
+            value: Stmt::If { arms, otherwise },
+            rest,
+            left,
+        }),
+        Err(WantOfMemory) => Err(without(arms, Halt::WantOfMemory)),
+    }
 }
 
 /// Clauses, with a last one or none.
@@ -161,21 +162,17 @@ pub fn with_last<'a>(
 ) -> Result<Found<'a, Items<Clause>>, Halt>
     ensures { (m : Read Clause) → Gives last.entry m → Gives result (noting first.entry.left (becoming (λ o. first.entry.value ++ or_none o) (perhaps_from first.entry.rest.now m))) }
 {
-    let mut clauses = first.value;
     match last {
-        Ok(last) => {
-            clauses.push(last.value)?;
-            Ok(Found {
-                value: clauses,
-                rest: last.rest,
-                left: first.left.min(last.left),
-            })
-        }
+        Ok(last) => Ok(Found {
+            value: pushed(first.value, last.value)?,
+            rest: last.rest,
+            left: first.left.min(last.left),
+        }),
         Err(Halt::Stopped(left)) => Ok(Found {
-            value: clauses,
+            value: first.value,
             rest: first.rest,
             left: first.left.min(left),
         }),
-        Err(Halt::WantOfMemory) => Err(Halt::WantOfMemory),
+        Err(Halt::WantOfMemory) => Err(without(first, Halt::WantOfMemory)),
     }
 }
