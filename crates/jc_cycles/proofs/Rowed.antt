@@ -1,13 +1,15 @@
 -- What is reached over the rows of what classes need, they need.
-use Rattle.std.proofs.Common.{◌≡◌, ◌⊎◌, inl, inr, ◌<◌, ◌≤◌, ◌+◌, ℕ, zero, suc, add-one, Bool, true, false, nat_lt, List, [], ◌∷◌, ◌++◌, Option, Some, None, length, slice_get, refl, sym, ap, subst, ◌∙◌, arith}
+use Rattle.std.proofs.Common.{◌≡◌, ◌⊎◌, inl, inr, ◌<◌, ◌≤◌, ◌+◌, ℕ, zero, suc, add-one, Bool, true, false, nat_lt, List, [], ◌∷◌, ◌++◌, Option, Some, None, length, slice_get, IsTrue, ◌↔◌, refl, sym, ap, subst, ◌∙◌, arith}
 use Rattle.std.specs.Prelude.{cond, ◌==◌, ◌||◌}
 use Rattle.std.proofs.lemmas.Grind.{common_steps}
 use Rattle.std.proofs.lemmas.Option.{slice_get_within, slice_get_past}
 use Rattle.jc_declares.specs.declared.heads.Heads.{Heads}
 use Rattle.jc_declares.specs.Looking.{Knowledge, has}
-use Rattle.jc_declares.specs.Knowing.{known, needs, Needs, needed, further}
+use Rattle.jc_declares.specs.Heads.{Named}
+use Rattle.jc_declares.specs.Knowing.{is_some, known, needs, Needs, needed, further}
+use Rattle.jc_cycles.proofs.Ranked.{known_apart, known_needs}
 use Rattle.jc_cycles.specs.Reach.{IsIn, row, listed, Reach, one, on, IsClosed}
-use Rattle.jc_cycles.specs.Cycles.{places, rows_below, or_false, is_marked, AreCyclic}
+use Rattle.jc_cycles.specs.Cycles.{places, places_unless, is_bare, rows_below, or_false, is_marked, AreCyclic}
 
 -- ---- numbers in lists
 
@@ -88,20 +90,20 @@ module _ (H : Heads) (K : Knowledge) (n : ℕ) where
   rows_count zero = refl
   rows_count (suc k) = let h = rows_count k in grind (arith, common_steps)
 
-  row_at : (k c : ℕ) → c < k → slice_get (rows_below H K n k) c ≡ Some (places n (needs H K c))
+  row_at : (k c : ℕ) → c < k → slice_get (rows_below H K n k) c ≡ Some (places_unless (K c) n (needs H K c))
   row_at zero c l = absurd (omega arith)
   row_at (suc k) c l = by_order (order c k l) (row_at k c)
     where
       order : (c k : ℕ) → c < suc k → (c < k) ⊎ (c ≡ k)
       order c k l = grind arith
 
-      by_order : (c < k) ⊎ (c ≡ k) → (c < k → slice_get (rows_below H K n k) c ≡ Some (places n (needs H K c))) → slice_get (rows_below H K n (suc k)) c ≡ Some (places n (needs H K c))
+      by_order : (c < k) ⊎ (c ≡ k) → (c < k → slice_get (rows_below H K n k) c ≡ Some (places_unless (K c) n (needs H K c))) → slice_get (rows_below H K n (suc k)) c ≡ Some (places_unless (K c) n (needs H K c))
       by_order (inl m) f = first_of (rows_below H K n k) _ c (let e = rows_count k in omega arith) ∙ f m
-      by_order (inr e) f = let at = last_of (rows_below H K n k) (places n (needs H K k)) in let m = rows_count k in
-          subst (λ c. slice_get (rows_below H K n (suc k)) c ≡ Some (places n (needs H K c))) (sym e)
-          (subst (λ m. slice_get (rows_below H K n k ++ places n (needs H K k) ∷ []) m ≡ Some (places n (needs H K k))) m at)
+      by_order (inr e) f = let at = last_of (rows_below H K n k) (places_unless (K k) n (needs H K k)) in let m = rows_count k in
+          subst (λ c. slice_get (rows_below H K n (suc k)) c ≡ Some (places_unless (K c) n (needs H K c))) (sym e)
+          (subst (λ m. slice_get (rows_below H K n k ++ places_unless (K k) n (needs H K k) ∷ []) m ≡ Some (places_unless (K k) n (needs H K k))) m at)
 
-  row_is : (c : ℕ) → c < n → row (rows_below H K n n) c ≡ places n (needs H K c)
+  row_is : (c : ℕ) → c < n → row (rows_below H K n n) c ≡ places_unless (K c) n (needs H K c)
   row_is c l = ap listed (row_at n c l)
 
   row_starts : (a b : ℕ) → IsIn b (row (rows_below H K n n) a) → a < n
@@ -112,15 +114,19 @@ module _ (H : Heads) (K : Knowledge) (n : ℕ) where
       by None e m = absurd m
 
   in_row : (a b : ℕ) → IsIn b (row (rows_below H K n n) a) → IsIn b (needs H K a) × (b < n)
-  in_row a b m = in_places n b (needs H K a) (subst (IsIn b) (row_is a (row_starts a b m)) m)
+  in_row a b m = in_unless (K a) (needs H K a) (subst (IsIn b) (row_is a (row_starts a b m)) m)
+    where
+      in_unless : (o : Option Named) (cs : List ℕ) → IsIn b (places_unless o n cs) → IsIn b cs × (b < n)
+      in_unless (Some es) cs m = absurd m
+      in_unless None cs m = in_places n b cs m
 
   pub rows_closed : IsClosed (rows_below H K n n)
   rows_closed a b m = let p = in_row a b m in let s = rows_count n in omega (arith, p.1)
 
-rows_step : (H : Heads) (K : Knowledge) (n k : ℕ) → rows_below H K n (k + 1) ≡ rows_below H K n k ++ places n (needs H K k) ∷ []
+rows_step : (H : Heads) (K : Knowledge) (n k : ℕ) → rows_below H K n (k + 1) ≡ rows_below H K n k ++ places_unless (K k) n (needs H K k) ∷ []
 rows_step H K n k = rw add-one refl
 
-pub row_pushed : (H : Heads) (K : Knowledge) (n k : ℕ) (rows : List (List ℕ)) (r : List ℕ) → rows ≡ rows_below H K n k → r ≡ places n (needs H K k)
+pub row_pushed : (H : Heads) (K : Knowledge) (n k : ℕ) (rows : List (List ℕ)) (r : List ℕ) → rows ≡ rows_below H K n k → r ≡ places_unless (K k) n (needs H K k)
     → rows ++ r ∷ [] ≡ rows_below H K n (k + 1)
 row_pushed H K n k rows r e f = ap (λ (rs : List (List ℕ)). rs ++ r ∷ []) e ∙ ap (λ (x : List ℕ). rows_below H K n k ++ x ∷ []) f ∙ sym (rows_step H K n k)
 
@@ -148,15 +154,51 @@ module _ (H : Heads) where
       by_order (inl l) = l
       by_order (inr l) = none_has (subst (λ (cs : List ℕ). has e cs ≡ true) (no_needs d l) h)
 
-  in_rows : (c d : ℕ) → c < length H.classes → has d (needs H (known H) c) ≡ true → d < length H.classes → IsIn d (row Rows c)
+  in_rows : (c d : ℕ) → c < length H.classes → is_some (known H c) ≡ false → has d (needs H (known H) c) ≡ true → d < length H.classes → IsIn d (row Rows c)
   unfolding Rows
-  in_rows c d lc h l = subst (IsIn d) (sym (row_is H (known H) (length H.classes) c lc)) (placed_in (length H.classes) d _ (has_in d _ h) l)
+  in_rows c d lc u h l =
+      subst (IsIn d) (sym (row_is H (known H) (length H.classes) c lc ∙ ap (λ (o : Option Named). places_unless o (length H.classes) (needs H (known H) c)) (unknown (known H c) u)))
+      (placed_in (length H.classes) d _ (has_in d _ h) l)
+    where
+      unknown : (o : Option Named) → is_some o ≡ false → o ≡ None
+      unknown None e = refl
+      unknown (Some es) e = cc
 
-  needed_reached : (c d : ℕ) → Needs H c d → d < length H.classes → Reach Rows c d
-  needed_reached c d (needed e h) l = one e (in_rows c e (needs_something c e h) h l)
-  needed_reached c d (further b e p h) l =
+  -- what needs a class that isn't known, isn't known either
+  unknown_before : (b e : ℕ) → is_some (known H e) ≡ false → has e (needs H (known H) b) ≡ true → is_some (known H b) ≡ false
+  unknown_before b e u h = by (is_some (known H b)) refl
+    where
+      by : (k : Bool) → is_some (known H b) ≡ k → is_some (known H b) ≡ false
+      by false s = s
+      by true s = let t : is_some (known H e) ≡ true = known_needs H b e s h in cc
+
+  needed_reached : (c d : ℕ) → Needs H c d → is_some (known H d) ≡ false → d < length H.classes → Reach Rows c d
+  needed_reached c d (needed e h) u l = one e (in_rows c e (needs_something c e h) (unknown_before c e u h) h l)
+  needed_reached c d (further b e p h) u l =
       let lb : b < length H.classes = needs_something b e h in
-      on b e (needed_reached c b p lb) (in_rows b e lb h l)
+      let ub : is_some (known H b) ≡ false = unknown_before b e u h in
+      on b e (needed_reached c b p ub lb) (in_rows b e lb ub h l)
+
+  cycle_reached : (c : ℕ) → Needs H c c → c < length H.classes → Reach Rows c c
+  cycle_reached c n l = needed_reached c c n (by (is_some (known H c)) refl) l
+    where
+      by : (k : Bool) → is_some (known H c) ≡ k → is_some (known H c) ≡ false
+      by false s = s
+      by true s = absurd (known_apart H c s n)
+
+reach_starts : (rows : List (List ℕ)) (a b : ℕ) → row rows a ≡ [] → Reach rows a b → ⊥
+reach_starts rows a b e (one c i) = let m : IsIn c [] = subst (IsIn c) e i in m
+reach_starts rows a b e (on c d r i) = reach_starts rows a c e r
+
+bare_is : (xs : List ℕ) → is_bare xs ≡ true → xs ≡ []
+bare_is [] e = refl
+bare_is (x ∷ xs) e = cc
+
+pub nothing_reached : (rows : List (List ℕ)) (a : ℕ) → is_bare (row rows a) ≡ true → IsTrue false ↔ Reach rows a a
+nothing_reached rows a e = (λ t. absurd_true t, λ r. absurd (reach_starts rows a a (bare_is (row rows a) e) r))
+  where
+    absurd_true : {A : Type 0} → IsTrue false → A
+    absurd_true t = cc
 
 -- ---- marks
 
@@ -197,7 +239,7 @@ pub all_told : (H : Heads) (rows : List (List ℕ)) (marks : List Bool) → rows
 unfolding Rows
 all_told H rows marks e a = record {
   cyclic = λ c m. reached_needed H c c (subst (λ rs. Reach rs c c) e ((a.told c (place c m)).0 m));
-  marked = λ c s at n. (a.told c (slice_get_within H.classes c s at)).1 (subst (λ rs. Reach rs c c) (sym e) (needed_reached H c c n (slice_get_within H.classes c s at)));
+  marked = λ c s at n. (a.told c (slice_get_within H.classes c s at)).1 (subst (λ rs. Reach rs c c) (sym e) (cycle_reached H c n (slice_get_within H.classes c s at)));
 }
   where
     within : (c : ℕ) (o : Option Bool) → slice_get marks c ≡ o → or_false o ≡ true → c < length marks

@@ -2,6 +2,7 @@
 use Rattle.std.specs.Prelude.{◌≡◌, ℕ, zero, suc, Bool, true, false, cond, nat_lt, List, [], ◌∷◌, ◌++◌, Option, Some, None, slice_get}
 use Rattle.jc_declares.specs.declared.heads.ClassHead.{ClassHead}
 use Rattle.jc_declares.specs.declared.heads.Heads.{Heads}
+use Rattle.jc_declares.specs.Heads.{Named}
 use Rattle.jc_declares.specs.Looking.{Knowledge}
 use Rattle.jc_declares.specs.Knowing.{Needs, needs}
 
@@ -10,10 +11,19 @@ abbrev pub places : ℕ → List ℕ → List ℕ
 places n [] = []
 places n (c ∷ cs) = cond (nat_lt c n) (c ∷ []) [] ++ places n cs
 
--- what the first k classes need, as numbers below n
+-- a class that is known needs none that isn't
+abbrev pub places_unless : Option Named → ℕ → List ℕ → List ℕ
+places_unless (Some es) n cs = []
+places_unless None n cs = places n cs
+
+-- what those of the first k classes need that aren't known, as numbers below n
 abbrev pub rows_below : Heads → Knowledge → ℕ → ℕ → List (List ℕ)
 rows_below H K n zero = []
-rows_below H K n (suc c) = rows_below H K n c ++ places n (needs H K c) ∷ []
+rows_below H K n (suc c) = rows_below H K n c ++ places_unless (K c) n (needs H K c) ∷ []
+
+abbrev pub is_bare : List ℕ → Bool
+is_bare [] = true
+is_bare (c ∷ cs) = false
 
 abbrev pub or_false : Option Bool → Bool
 or_false None = false

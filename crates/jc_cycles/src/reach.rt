@@ -5,7 +5,8 @@ ghost use Rattle.jc_cycles.specs.Reach.{Reach, IsIn, IsClosed, row, Walk, Added,
 use jc_rules::{Items, WantOfMemory};
 use std::alloc::Global;
 
-fn row(rows: &[Items<u64>], a: u64) -> &[u64]
+/// The row of a number.
+pub fn row(rows: &[Items<u64>], a: u64) -> &[u64]
     ensures { result.now ≡ row rows.now a }
 {
     match rows.get(a as usize) {

@@ -7,21 +7,21 @@ use Rattle.jc_cycles.specs.Cycles.{rows_below}
 use Rattle.jc_cycles.proofs.Rowed.{AreReached, rows_closed, rows_count, one_more, all_told}
 use Rattle.jc_cycles.proofs.cycles.cyclic.Goals as goal
 
-pub is_cyclic-requires-clause-closed : goal.is_cyclic-requires-clause-closed
-is_cyclic-requires-clause-closed c =
+pub depends-requires-clause-closed : goal.depends-requires-clause-closed
+depends-requires-clause-closed c =
     subst IsClosed (sym (c.slice.ensures ∙ c.in_ok-rows.ensures)) (rows_closed c.args.scene.now.declared.heads.now (known_in c.args.scene.now.known.now) c.len-count.result)
 
-pub is_cyclic-requires-clause-place : goal.is_cyclic-requires-clause-place
-is_cyclic-requires-clause-place c =
+pub depends-requires-clause-place : goal.depends-requires-clause-place
+depends-requires-clause-place c =
     let same = ap length (c.slice.ensures ∙ c.in_ok-rows.ensures) in
     let count = rows_count c.args.scene.now.declared.heads.now (known_in c.args.scene.now.known.now) c.len-count.result c.len-count.result in
     omega arith
 
 pub loop-class-preserved : goal.loop-class-preserved
 loop-class-preserved c =
-    let told = subst (λ (rows : List (List ℕ)). (IsTrue c.in_ok-is_cyclic.field-0 → Reach rows c.loop-class.class c.loop-class.class) × (Reach rows c.loop-class.class c.loop-class.class → IsTrue c.in_ok-is_cyclic.field-0)) c.slice.ensures c.in_ok-is_cyclic.ensures in
+    let told = subst (λ (rows : List (List ℕ)). (IsTrue c.in_ok-depends.field-0 → Reach rows c.loop-class.class c.loop-class.class) × (Reach rows c.loop-class.class c.loop-class.class → IsTrue c.in_ok-depends.field-0)) c.slice.ensures c.in_ok-depends.ensures in
     subst (λ (marks : List Bool). AreReached c.in_ok-rows.rows marks (c.loop-class.class + 1)) (sym c.in_ok-push.ensures.ok)
-    (one_more c.in_ok-rows.rows c.loop-class.marks c.loop-class.class c.in_ok-is_cyclic.field-0 c.loop-class.invariant told.0 told.1)
+    (one_more c.in_ok-rows.rows c.loop-class.marks c.loop-class.class c.in_ok-depends.field-0 c.loop-class.invariant told.0 told.1)
 
 pub returns : goal.returns
 returns c =
