@@ -52,7 +52,7 @@ pub fn top_of_class(heads: &Heads, class: u64) -> u64
     top
 }
 
-fn access_of(heads: &Heads, class: u64) -> Access
+pub fn access_of(heads: &Heads, class: u64) -> Access
     ensures { result ≡ access_of heads.now class }
 {
     match heads.classes.get(class as usize) {

@@ -9,8 +9,8 @@ mod names;
 mod scene;
 mod units;
 
-pub use access::is_accessible;
-pub use bodies::{first_meaning, member};
+pub use access::{access_of, is_accessible, package_of, round_of, top_of_class};
+pub use bodies::{first_meaning, known_of, member};
 pub use inherited::Inherited;
 pub use names::{may_be_named, meaning, pass};
 pub use scene::{Scene, Sight, Standing};

@@ -8,15 +8,15 @@ use Rattle.jc_types.specs.declared.declarations.MethodDecl.{MethodDecl}
 use Rattle.jc_types.specs.declared.declarations.MethodKind.{MethodKind}
 use Rattle.jc_types.specs.declared.declarations.MethodKind.TheVariants as method_kind
 use Rattle.jc_types.specs.declared.declarations.Modifiers.{Modifiers}
-use Rattle.jc_types.specs.declared.form.Ty.{Ty, Ty-F, out-Ty}
-use Rattle.jc_types.specs.declared.form.Arg.{Arg}
+use Rattle.jc_types.specs.declared.form.Ty.{Ty}
 use Rattle.jc_types.specs.declared.ids.ClassId.{ClassId}
 use Rattle.jc_types.specs.declared.ids.MethodId.{MethodId}
 use Rattle.jc_types.specs.declared.table.Table.{Table}
 use Rattle.jc_types.specs.Accessors.{class_count, package_of, supers_of, methods_of, method_owner_of, method_kind_of, method_modifiers_of, method_name_of, has_body}
 use Rattle.jc_judge.specs.Kinds.{class_of}
+use Rattle.jc_judge.specs.Views.{is_class, view}
 use Rattle.jc_overriding.specs.declared.view.MethodView.{MethodView}
-use Rattle.jc_overriding.specs.Viewing.{class_view, view_of_method, is_static}
+use Rattle.jc_overriding.specs.Viewing.{class_view, own_type, view_of_method, is_static}
 use Rattle.jc_overriding.specs.Signatures.{subsignature}
 
 abbrev pub is_method_kind : MethodKind → Bool
@@ -62,25 +62,13 @@ is_open_to access.Private same_package = false
 abbrev pub is_inheritable : Table → ClassId → MethodId → Bool
 is_inheritable T k m = is_open_to (access_of T m) (bytes_eq (package_of T k) (package_of T (owner T m)))
 
+abbrev pub is_viewed : Option Ty → Bool
+is_viewed None = false
+is_viewed (Some t) = true
+
 -- class l is above class k, and another one
-abbrev pub above_in : List Ty → (Ty → Bool) → Bool
-above_in [] f = false
-above_in (t ∷ ts) f = f t || above_in ts f
-
-abbrev pub is_class_at : ClassId → Option ClassId → Bool
-is_class_at l None = false
-is_class_at l (Some k) = same_class k l
-
-abbrev pub some_class : (ClassId → Bool) → Option ClassId → Bool
-some_class f None = false
-some_class f (Some k) = f k
-
-unfoldable pub above_within : Table → ℕ → ClassId → ClassId → Bool
-above_within T zero k l = false
-above_within T (suc n) k l = above_in (supers_of T k) (λ t. is_class_at l (class_of t) || some_class (λ c. above_within T n c l) (class_of t))
-
 abbrev pub is_above : Table → ClassId → ClassId → Bool
-is_above T k l = above_within T (class_count T) k l
+is_above T k l = not (same_class k l) && is_viewed (view T l (own_type T k))
 
 abbrev pub subsignature_of : Table → Option MethodView → Option MethodView → Bool
 subsignature_of T (Some a) (Some b) = subsignature T a b
@@ -102,30 +90,33 @@ hides T m n =
 
 -- ---- members
 
-abbrev pub class_at : Ty-F Arg Ty → Option ClassId
-class_at (Ty-F.Class id args) = Some id
-class_at (Ty-F.Raw id) = Some id
-class_at _ = None
-
-abbrev pub own_class : Ty → MethodId → Table → Bool
-own_class t m T = is_class_at (owner T m) (class_at (out-Ty t))
+-- the method's class is the type's own
+abbrev pub is_own : Table → Ty → MethodId → Bool
+is_own T t m = is_class (owner T m) (class_of t)
 
 abbrev pub inherits_in : Table → Option ClassId → MethodId → Bool
 inherits_in T None m = is_open_to (access_of T m) true
 inherits_in T (Some k) m = is_inheritable T k m
 
--- a method of that name that a type declares, or may inherit
-abbrev pub is_candidate : Table → Ty → List ℕ → MethodId → Bool
-is_candidate T t name m =
-    is_method T m && bytes_eq (method_name_of T m) name && (own_class t m T || inherits_in T (class_at (out-Ty t)) m)
+-- a method that a type declares, or may inherit
+abbrev pub is_candidate : Table → Ty → MethodId → Bool
+is_candidate T t m = is_method T m && (is_own T t m || inherits_in T (class_of t) m)
 
-abbrev pub with_view : Table → Ty → List ℕ → MethodId → Option MethodView → List MethodView
-with_view T t name m None = []
-with_view T t name m (Some v) = cond (is_candidate T t name m) (v ∷ []) []
+abbrev pub has_name : Table → List ℕ → MethodId → Bool
+has_name T name m = bytes_eq (method_name_of T m) name
 
-abbrev pub candidates_from : Table → Ty → List ℕ → ℕ → List MethodDecl → List MethodView
-candidates_from T t name i [] = []
-candidates_from T t name i (d ∷ ds) = with_view T t name (record { 0 = i }) (view_of_method T t (record { 0 = i })) ++ candidates_from T t name (suc i) ds
+abbrev pub with_view : Table → (MethodId → Bool) → Ty → MethodId → Option MethodView → List MethodView
+with_view T wanted t m None = []
+with_view T wanted t m (Some v) = cond (wanted m && is_candidate T t m) (v ∷ []) []
+
+-- of these methods, counted from i, those that are wanted and that the type declares or may inherit, as it has them
+abbrev pub candidates_from : Table → (MethodId → Bool) → Ty → ℕ → List MethodDecl → List MethodView
+candidates_from T wanted t i [] = []
+candidates_from T wanted t i (d ∷ ds) =
+    with_view T wanted t (record { 0 = i }) (view_of_method T t (record { 0 = i })) ++ candidates_from T wanted t (suc i) ds
+
+abbrev pub candidates : Table → (MethodId → Bool) → Ty → List MethodView
+candidates T wanted t = candidates_from T wanted t 0 T.methods
 
 abbrev pub replaced : Table → MethodView → List MethodView → Bool
 replaced T v [] = false
@@ -135,10 +126,13 @@ abbrev pub without_replaced : Table → List MethodView → List MethodView → 
 without_replaced T all [] = []
 without_replaced T all (v ∷ vs) = cond (replaced T v all) [] (v ∷ []) ++ without_replaced T all vs
 
--- the methods of a name that a captured type has, in the order of the table, without those that another one of them overrides or hides
+-- without those that another one of them overrides or hides
+abbrev pub remaining : Table → List MethodView → List MethodView
+remaining T all = without_replaced T all all
+
+-- the methods of a name that a captured type has, in the order of the table
 abbrev pub members : Table → Ty → List ℕ → List MethodView
-members T t name =
-    let all : List MethodView = candidates_from T t name 0 T.methods in without_replaced T all all
+members T t name = remaining T (candidates T (has_name T name) t)
 
 -- ---- the body that a class has
 

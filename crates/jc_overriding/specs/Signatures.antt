@@ -1,11 +1,13 @@
 -- Signatures of methods, and which is a subsignature of which (JLS 8.4.2).
-use Rattle.std.specs.Prelude.{◌==◌, Bool, true, false, ◌&&◌, ◌||◌, List, [], ◌∷◌, map, length}
+use Rattle.std.specs.Prelude.{ℕ, zero, suc, ◌+◌, ◌==◌, Bool, true, false, cond, ◌&&◌, ◌||◌, List, [], ◌∷◌, map, length}
 use Rattle.std.specs.Str.{bytes_eq}
-use Rattle.jc_types.specs.declared.form.Ty.{Ty}
+use Rattle.jc_types.specs.declared.form.Arg.{Arg}
+use Rattle.jc_types.specs.declared.form.Ty.{Ty, Ty-F, out-Ty}
 use Rattle.jc_types.specs.declared.form.Ty.TheVariants.{Variable}
 use Rattle.jc_types.specs.declared.ids.VarId.{VarId}
 use Rattle.jc_types.specs.declared.table.Table.{Table}
 use Rattle.jc_types.specs.Accessors.{method_name_of}
+use Rattle.jc_types.specs.Arrays.{array_over}
 use Rattle.jc_types.specs.Sameness.{same}
 use Rattle.jc_types.specs.Substitution.{subst}
 use Rattle.jc_overriding.specs.declared.view.MethodView.{MethodView}
@@ -41,9 +43,32 @@ same_signature a b =
 abbrev pub has_no_variables : MethodView → Bool
 has_no_variables a = length a.vars == 0
 
+-- the first bound of a type parameter, as the view has it
+abbrev pub first_or : Ty → List Ty → Ty
+first_or t [] = t
+first_or t (b ∷ bounds) = b
+
+abbrev pub first_bound : Ty → VarId → List VarId → List (List Ty) → Ty
+first_bound t v (w ∷ vars) (bs ∷ bounds) = cond (v.0 == w.0) (first_or t bs) (first_bound t v vars bounds)
+first_bound t v _ _ = t
+
+-- A type of a signature with leftmost bounds for the type parameters, as the view has these bounds: so `m(String)` is the erasure of what `<X extends T> m(X)` is in a
+-- class type that has String for T (JLS 4.6). Bounds of bounds are at most as many as there are type parameters.
+abbrev pub leftmost_at : (Ty → Ty) → MethodView → Ty → Ty-F Arg Ty → Ty
+leftmost_at further b t (Ty-F.Variable v) = further (first_bound t v b.vars b.bounds)
+leftmost_at further b t (Ty-F.Array of_it n) = array_over n (further of_it)
+leftmost_at further b t _ = t
+
+unfoldable pub leftmost : MethodView → ℕ → Ty → Ty
+leftmost b zero t = t
+leftmost b (suc n) t = leftmost_at (leftmost b n) b t (out-Ty t)
+
+abbrev pub erased_in : Table → MethodView → Ty → Ty
+erased_in T b t = plain T (leftmost b (length b.vars + 1) t)
+
 -- a's signature is the erasure of b's (JLS 4.6)
 abbrev pub is_erasure : Table → MethodView → MethodView → Bool
-is_erasure T a b = has_no_variables a && same_all a.params (map (plain T) b.params)
+is_erasure T a b = has_no_variables a && same_all a.params (map (erased_in T b) b.params)
 
 -- a's signature is a subsignature of b's
 abbrev pub subsignature : Table → MethodView → MethodView → Bool

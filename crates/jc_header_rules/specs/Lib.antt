@@ -1,0 +1,6 @@
+pub mod Places
+pub mod Types
+pub mod Results
+pub mod Headers
+pub mod Inheriting
+pub mod Clashes
