@@ -14,7 +14,7 @@ use Rattle.jc_declares.specs.declared.heads.MethodPlace.{MethodPlace}
 use Rattle.jc_declares.specs.declared.heads.Path.{Path}
 use Rattle.jc_declares.specs.declared.heads.UnitHead.{UnitHead}
 use Rattle.jc_declares.specs.declared.heads.VariableHead.{VariableHead}
-use Rattle.jc_declares.specs.Heads.{unit_package, imports_of, name_of, is_top, is_interface, is_final, owner_of, same_owner}
+use Rattle.jc_declares.specs.Heads.{is_of_package, imports_of, name_of, is_top, is_interface, is_final, owner_of, same_owner}
 use Rattle.jc_declares.specs.Looking.{AClass, AVariable, Look, Knowledge, Found, InPackage, AtClass, Nowhere, imported, next_part, single_of, all_accessible, head_asker, is_own, has}
 use Rattle.jc_declares.specs.Knowing.{meant_in_head, meant_class, Needs, passed_by}
 
@@ -47,8 +47,13 @@ same_round [] (d ∷ ds) = false
 same_round (c ∷ cs) [] = false
 same_round (c ∷ cs) (d ∷ ds) = c == d
 
+-- types of units of one package
+abbrev pub same_package : Option UnitHead → Option UnitHead → Bool
+same_package None v = false
+same_package (Some u) v = is_of_package v u.«package»
+
 abbrev pub same_place : Heads → ClassHead → ClassHead → Bool
-same_place H c d = same_round c.round d.round && (not (is_top c.round) || bytes_eq (unit_package H c.unit) (unit_package H d.unit))
+same_place H c d = same_round c.round d.round && (not (is_top c.round) || same_package (slice_get H.units c.unit) (slice_get H.units d.unit))
 
 -- a type is named like one round it
 abbrev pub named_like_outer : Heads → ClassHead → Bool

@@ -12,6 +12,7 @@ use jc_tree::{ClassTree, DeclarationHead, Ident, Modifier, ModifierWord, TypePar
 use jc_types::Kind;
 use std::alloc::Global;
 
+/// Whether a type is an interface, as annotation types are.
 pub fn is_interface_head(head: &DeclarationHead) -> bool
     ensures { result ≡ is_interface_head head.now }
 {
@@ -23,7 +24,7 @@ pub fn is_interface_head(head: &DeclarationHead) -> bool
 }
 
 /// Whether what is declared is a member of no class.
-fn is_top(round: &[u64]) -> bool
+pub fn is_top(round: &[u64]) -> bool
     ensures { result ≡ is_top round.now }
 {
     match round.first() {
@@ -32,7 +33,8 @@ fn is_top(round: &[u64]) -> bool
     }
 }
 
-fn kind_of_head(head: &DeclarationHead) -> Kind
+/// Whether a type is a class or an interface.
+pub fn kind_of_head(head: &DeclarationHead) -> Kind
     ensures { result ≡ kind_of_head head.now }
 {
     if is_interface_head(head) {
@@ -42,7 +44,8 @@ fn kind_of_head(head: &DeclarationHead) -> Kind
     }
 }
 
-fn name_in_head(head: &DeclarationHead) -> &Ident
+/// The name of a type.
+pub fn name_in_head(head: &DeclarationHead) -> &Ident
     ensures { result.now.text ≡ name_in_head head.now }
 {
     match head {
@@ -52,7 +55,8 @@ fn name_in_head(head: &DeclarationHead) -> &Ident
     }
 }
 
-fn modifiers_in_head(head: &DeclarationHead) -> &[Modifier]
+/// The modifiers of a type.
+pub fn modifiers_in_head(head: &DeclarationHead) -> &[Modifier]
     ensures { result.now ≡ modifiers_in_head head.now }
 {
     match head {
@@ -62,6 +66,7 @@ fn modifiers_in_head(head: &DeclarationHead) -> &[Modifier]
     }
 }
 
+/// The type parameters of a type.
 pub fn params_of_head(head: &DeclarationHead) -> &[TypeParam]
     ensures { result.now ≡ params_of_head head.now }
 {
@@ -72,7 +77,8 @@ pub fn params_of_head(head: &DeclarationHead) -> &[TypeParam]
     }
 }
 
-fn interface_trees(head: &DeclarationHead) -> &[ClassTree]
+/// The superinterfaces that a type writes.
+pub fn interface_trees(head: &DeclarationHead) -> &[ClassTree]
     ensures { result.now ≡ interface_trees head.now }
 {
     match head {
@@ -154,7 +160,8 @@ fn modifiers_at(modifiers: &[Modifier], next: u32) -> u32
     }
 }
 
-fn head_at(head: &DeclarationHead) -> u32
+/// The offset of the first token of a type.
+pub fn head_at(head: &DeclarationHead) -> u32
     ensures { result ≡ first_offset_of_head head.now }
 {
     match head {

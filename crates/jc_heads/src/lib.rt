@@ -9,4 +9,12 @@ mod paths;
 mod units;
 mod walking;
 
+pub use classes::{
+    head_at, interface_trees, is_interface_head, is_top, kind_of_head, modifiers_in_head,
+    name_in_head, params_of_head, within,
+};
+pub use lists::innermost;
+pub use marks::{access_with, says, written_access};
+pub use members::{is_constructor_implied, is_static_initialiser_implied};
+pub use paths::{package_name, path_of_class};
 pub use units::heads;

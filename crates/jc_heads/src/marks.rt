@@ -43,7 +43,8 @@ pub fn says(word: ModifierWord, modifiers: &[Modifier]) -> bool
     false
 }
 
-fn written_access(modifiers: &[Modifier]) -> Access
+/// The access that words among modifiers give.
+pub fn written_access(modifiers: &[Modifier]) -> Access
     ensures { result ≡ written_access modifiers.now }
 {
     if says(ModifierWord::Public, modifiers) {
@@ -60,7 +61,7 @@ fn written_access(modifiers: &[Modifier]) -> Access
 }
 
 /// The access of a declaration, where members of interfaces are public (JLS 9.3 to 9.5).
-fn access_with(of_interface: bool, modifiers: &[Modifier]) -> Access
+pub fn access_with(of_interface: bool, modifiers: &[Modifier]) -> Access
     ensures { result ≡ access_with of_interface modifiers.now }
 {
     if of_interface {

@@ -1,5 +1,5 @@
 -- Names in numbered spaces, each with its first place there.
-use Rattle.std.specs.Prelude.{ℕ, suc, ◌-◌, ◌==◌, List, [], ◌∷◌, ◌++◌, cond, length, replicate, Option, Some, None, slice_get, slice_set}
+use Rattle.std.specs.Prelude.{ℕ, suc, ◌-◌, ◌==◌, Bool, true, false, List, [], ◌∷◌, ◌++◌, cond, length, replicate, Option, Some, None, slice_get, slice_set}
 use Rattle.jc_types.specs.Names.{named}
 
 abbrev pub Named : Type 0
@@ -12,6 +12,12 @@ named_in n (Some names) = named n names
 -- the first place of a name in a space
 abbrev pub space_named : List Named → ℕ → List ℕ → Option ℕ
 space_named spaces s n = named_in n (slice_get spaces s)
+
+-- whether there is a space with a name
+abbrev pub has_some : Option Named → Bool
+has_some None = false
+has_some (Some []) = false
+has_some (Some (e ∷ names)) = true
 
 abbrev pub unless_named : Option ℕ → List ℕ → ℕ → Named → Named
 unless_named (Some q) n p names = names

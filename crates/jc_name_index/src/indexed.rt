@@ -1,7 +1,8 @@
 //! What the heads of a program declare, found by name.
-ghost use Rattle.std.specs.Prelude.{◌≡◌};
+ghost use Rattle.std.specs.Prelude.{◌≡◌, not};
 ghost use Rattle.jc_types.specs.Names.{named};
 ghost use Rattle.jc_declares.specs.Heads.{declared_of, types_of_unit, types_of_package, class_variables, method_variables};
+ghost use Rattle.jc_declares.specs.Writing.{is_empty};
 ghost use Rattle.jc_name_index.specs.Index.{IsIndex};
 
 use crate::index::Index;
@@ -48,6 +49,15 @@ impl<'a> Indexed<'a> {
         ensures { result ≡ named name.now (class_variables self.now.heads.now class) }
     {
         self.index.class_variables.find(class, name)
+    }
+
+    /// Whether a class has type parameters (JLS 8.1.2).
+    #[tactic(auto, using(crate::proofs::Emptiness::generic_told))]
+    pub fn is_generic(&self, class: u64) -> bool
+        requires { IsIndex self.now.heads.now self.now.index.now }
+        ensures { result ≡ not (is_empty (class_variables self.now.heads.now class)) }
+    {
+        self.index.class_variables.has_names(class)
     }
 
     /// The first type parameter of a name that a method has (JLS 8.4.4).

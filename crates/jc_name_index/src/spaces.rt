@@ -1,7 +1,7 @@
 //! Names in numbered spaces.
-ghost use Rattle.std.specs.Prelude.{◌≡◌, ◌∷◌, [], ℕ, IfOk, OnOk, replicate};
+ghost use Rattle.std.specs.Prelude.{◌≡◌, ◌∷◌, [], ℕ, IfOk, OnOk, replicate, slice_get};
 ghost use Rattle.jc_types.specs.Names.{named};
-ghost use Rattle.jc_name_index.specs.Spaces.{space_named, padded, noted, with_first};
+ghost use Rattle.jc_name_index.specs.Spaces.{space_named, has_some, padded, noted, with_first};
 
 use jc_rules::{Text, WantOfMemory};
 use jc_types::Names;
@@ -65,6 +65,16 @@ impl Spaces {
         match self.spaces.get(space as usize) {
             Some(names) => names.find(name),
             None => None,
+        }
+    }
+
+    /// Whether a name was noted in a space.
+    pub fn has_names(&self, space: u64) -> bool
+        ensures { result ≡ has_some (slice_get self.now space) }
+    {
+        match self.spaces.get(space as usize) {
+            Some(names) => names.len() != 0,
+            None => false,
         }
     }
 

@@ -1,0 +1,7 @@
+use Rattle.std.proofs.Common.{◌≡◌, [], drop}
+use Rattle.jc_groups.specs.Groups.{grouped_all}
+use Rattle.jc_groups.specs.Members.{field_of_class}
+use Rattle.jc_groups.proofs.members.fields.Given as goal
+
+abbrev pub invariant-loop-number : goal.invariant-loop-number
+invariant-loop-number l = grouped_all field_of_class l.number (drop l.number l.heads) l.groups ≡ grouped_all field_of_class 0 l.heads []
