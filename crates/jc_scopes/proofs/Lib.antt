@@ -1,0 +1,4 @@
+pub mod Binaries
+pub mod FirstNames
+pub mod Entered
+pub mod Turned
