@@ -16,7 +16,6 @@ mod names;
 mod numbers;
 mod operands;
 mod reader;
-mod sizes;
 mod sorts;
 mod switches;
 mod texts;

@@ -5,9 +5,9 @@ ghost use Rattle.jc_class_out.specs.Code.{marks_of, lands, cases_land, all_land,
 ghost use Rattle.jc_class_in.specs.Gives.{Gives};
 
 use crate::numbers::want;
-use crate::sizes::ins_bytes;
 use jc_class_out::{Flaw, Ins, Operand, SwitchCase};
 use jc_rules::{Stop, WantOfMemory};
+use jc_sizes::ins_bytes;
 use std::alloc::Global;
 
 /// Whether an instruction begins there.
