@@ -1,0 +1,116 @@
+-- Runs, one step after the other.
+use Rattle.std.proofs.Common.{◌≡◌, ◌<◌, ◌≤◌, ◌+◌, ◌-◌, ◌∙◌, ◌++◌, ◌∷◌, [], ℕ, zero, suc, List, length, drop, get_or, refl, sym, ap, subst, arith, append_assoc, true}
+use Rattle.std.specs.Prelude.{is_some, slice_get}
+use Rattle.std.proofs.lemmas.List.{append-nil, drop_all}
+use Rattle.std.proofs.Math.Seq.{drop-cons}
+use Rattle.std.specs.declared.option.Option.{Option}
+use Rattle.std.specs.declared.option.Option.TheVariants.{Some, None}
+use Rattle.jc_class_out.specs.declared.model.ClassModel.{ClassModel}
+use Rattle.jc_jvm.specs.Calls.{Step, Moves, Asks, Quiet, Puts}
+use Rattle.jc_jvm.specs.Runs.{Run, ending_of, failed_checks, failing, run_by, run_of, rests}
+use Rattle.jc_jvm.specs.Table.{step_of}
+use Rattle.jc_jvm.specs.Thrown.{State, Going, Over}
+use Rattle.jc_jvm.specs.declared.world.Ending.{Ending}
+use Rattle.jc_core.specs.Ran.{Told, told, ahead}
+use Rattle.jc_core.specs.States.{step_told}
+use Rattle.jc_core.specs.declared.machine.Stepped.{Stepped}
+
+run-zero : (classes : List ClassModel) (s : State) (input : List ℕ) → run_of classes 0 s input ≡ rests s
+unfolding run_of
+run-zero classes s input = refl
+
+run-suc : (classes : List ClassModel) (n : ℕ) (s : State) (input : List ℕ) → run_of classes (suc n) s input ≡ failing (failed_checks classes s) (run_by (step_of classes s) input (run_of classes n))
+unfolding run_of
+run-suc classes n s input = refl
+
+told-suc : (classes : List ClassModel) (n m : ℕ) (s : State) (input : List ℕ) (step : Step) → m ≡ suc n → step_of classes s ≡ step → told (run_of classes m s input) ≡ told (run_by step input (run_of classes n))
+told-suc classes n m s input step at is =
+    ap (λ (k : ℕ). told (run_of classes k s input)) at ∙ ap (λ (r : Run). told r) (run-suc classes n s input)
+    ∙ ap (λ (x : Step). told (run_by x input (run_of classes n))) is
+
+told-same : (output output' : List ℕ) (taken taken' : ℕ) (after : State) → output ≡ output' → taken ≡ taken' → (let t : Told = record { output = output; taken = taken; after = after } in t) ≡ record { output = output'; taken = taken'; after = after }
+told-same output output' taken taken' after o t =
+    ap (λ (x : List ℕ). let r : Told = record { output = x; taken = taken; after = after } in r) o ∙ ap (λ (x : ℕ). let r : Told = record { output = output'; taken = x; after = after } in r) t
+
+-- nothing is seen of the step
+pub run_went : (classes : List ClassModel) (out input : List ℕ) (taken n i : ℕ) (s after : State) (whole : Told) → i < n → step_of classes s ≡ Moves Quiet after →
+    ahead out taken (told (run_of classes (n - i) s input)) ≡ whole → ahead out taken (told (run_of classes (n - (i + 1)) after input)) ≡ whole
+run_went classes out input taken n i s after whole below is so =
+    ap (λ (t : Told). ahead out taken t) (sym (told-suc classes (n - (i + 1)) (n - i) s input (Moves Quiet after) (omega arith) is)) ∙ so
+
+-- a byte goes out
+pub run_put : (classes : List ClassModel) (out more input : List ℕ) (taken n i byte : ℕ) (s after : State) (whole : Told) → i < n → step_of classes s ≡ Moves (Puts byte) after → more ≡ out ++ byte ∷ [] →
+    ahead out taken (told (run_of classes (n - i) s input)) ≡ whole → ahead more taken (told (run_of classes (n - (i + 1)) after input)) ≡ whole
+run_put classes out more input taken n i byte s after whole below is grown so =
+    let rest = run_of classes (n - (i + 1)) after input in
+    told-same (more ++ rest.output) (out ++ byte ∷ rest.output) (taken + rest.taken) (taken + rest.taken) rest.after (ap (λ (xs : List ℕ). xs ++ rest.output) grown ∙ append_assoc out (byte ∷ []) rest.output) refl
+    ∙ ap (λ (t : Told). ahead out taken t) (sym (told-suc classes (n - (i + 1)) (n - i) s input (Moves (Puts byte) after) (omega arith) is)) ∙ so
+
+beyond : (xs : List ℕ) (k : ℕ) → slice_get xs k ≡ None → drop k xs ≡ []
+beyond [] zero e = refl
+beyond [] (suc k) e = refl
+beyond (x ∷ xs) zero e = cc
+beyond (x ∷ xs) (suc k) e = beyond xs k e
+
+there : (xs : List ℕ) (k x : ℕ) → slice_get xs k ≡ Some x → drop k xs ≡ x ∷ drop (k + 1) xs
+there [] k x e = cc
+there (y ∷ ys) zero x e = let same : y ≡ x = cc in ap (λ (z : ℕ). z ∷ ys) same
+there (y ∷ ys) (suc k) x e = there ys k x e ∙ ap (λ (j : ℕ). x ∷ drop j (y ∷ ys)) (let one : suc (k + 1) ≡ suc k + 1 = omega arith in one)
+
+-- the input's end is read
+pub run_end : (classes : List ClassModel) (out input : List ℕ) (taken n i : ℕ) (s after : State) (asked : Option ℕ → State) (whole : Told) → i < n → step_of classes s ≡ Asks asked → slice_get input taken ≡ None → after ≡ asked None →
+    ahead out taken (told (run_of classes (n - i) s (drop taken input))) ≡ whole → ahead out taken (told (run_of classes (n - (i + 1)) after (drop taken input))) ≡ whole
+run_end classes out input taken n i s after asked whole below is none at so =
+    ap (λ (xs : List ℕ). ahead out taken (told (run_of classes (n - (i + 1)) after xs))) (beyond input taken none)
+    ∙ ap (λ (x : State). ahead out taken (told (run_of classes (n - (i + 1)) x []))) at
+    ∙ ap (λ (t : Told). ahead out taken t) (sym (told-suc classes (n - (i + 1)) (n - i) s [] (Asks asked) (omega arith) is))
+    ∙ ap (λ (xs : List ℕ). ahead out taken (told (run_of classes (n - i) s xs))) (sym (beyond input taken none))
+    ∙ so
+
+-- a byte is read
+pub run_read : (classes : List ClassModel) (out input : List ℕ) (taken n i byte : ℕ) (s after : State) (asked : Option ℕ → State) (whole : Told) → i < n → step_of classes s ≡ Asks asked → slice_get input taken ≡ Some byte → after ≡ asked (Some byte) →
+    ahead out taken (told (run_of classes (n - i) s (drop taken input))) ≡ whole → ahead out (taken + 1) (told (run_of classes (n - (i + 1)) after (drop (taken + 1) input))) ≡ whole
+run_read classes out input taken n i byte s after asked whole below is some at so =
+    let more = drop (taken + 1) input in
+    let rest = run_of classes (n - (i + 1)) (asked (Some byte)) more in
+    ap (λ (x : State). ahead out (taken + 1) (told (run_of classes (n - (i + 1)) x more))) at
+    ∙ told-same (out ++ rest.output) (out ++ rest.output) (taken + 1 + rest.taken) (taken + (rest.taken + 1)) rest.after refl (omega arith)
+    ∙ ap (λ (t : Told). ahead out taken t) (sym (told-suc classes (n - (i + 1)) (n - i) s (byte ∷ more) (Asks asked) (omega arith) is))
+    ∙ ap (λ (xs : List ℕ). ahead out taken (told (run_of classes (n - i) s xs))) (sym (there input taken byte some))
+    ∙ so
+
+over-told : (classes : List ClassModel) (n : ℕ) (ending : Ending) (input : List ℕ) → told (run_of classes n (Over ending) input) ≡ told (rests (Over ending))
+over-told classes zero ending input = ap (λ (r : Run). told r) (run-zero classes (Over ending) input)
+over-told classes (suc n) ending input = told-suc classes n (suc n) (Over ending) input (Moves Quiet (Over ending)) refl refl ∙ over-told classes n ending input
+
+nothing-ahead : (out : List ℕ) (taken : ℕ) (s : State) → ahead out taken (told (rests s)) ≡ record { output = out; taken = taken; after = s }
+nothing-ahead out taken s = told-same (out ++ []) out (taken + 0) taken s (append-nil out) (omega arith)
+
+-- the machine is over
+pub run_over : (classes : List ClassModel) (out input : List ℕ) (taken n : ℕ) (s : State) (ending : Ending) (whole : Told) → s ≡ Over ending →
+    ahead out taken (told (run_of classes n s input)) ≡ whole → whole ≡ record { output = out; taken = taken; after = s }
+run_over classes out input taken n s ending whole is so =
+    sym so ∙ ap (λ (x : State). ahead out taken (told (run_of classes n x input))) is ∙ ap (λ (t : Told). ahead out taken t) (over-told classes n ending input)
+    ∙ ap (λ (x : State). ahead out taken (told (rests x))) (sym is) ∙ nothing-ahead out taken s
+
+-- all steps are taken
+pub run_done : (classes : List ClassModel) (out input : List ℕ) (taken m : ℕ) (s : State) (whole : Told) → m ≡ 0 →
+    ahead out taken (told (run_of classes m s input)) ≡ whole → whole ≡ record { output = out; taken = taken; after = s }
+run_done classes out input taken m s whole none so =
+    sym so ∙ ap (λ (k : ℕ). ahead out taken (told (run_of classes k s input))) none ∙ ap (λ (r : Run). ahead out taken (told r)) (run-zero classes s input) ∙ nothing-ahead out taken s
+
+-- a step by the classes as they were
+pub step_by : (classes classes' : List ClassModel) (s after : State) (stepped : Stepped) → classes' ≡ classes → step_of classes' s ≡ step_told classes' stepped after → step_of classes s ≡ step_told classes stepped after
+step_by classes classes' s after stepped e is = let P : List ClassModel → Type 0 = λ cs. step_of cs s ≡ step_told cs stepped after in subst P e is
+
+ends-by : (s : State) (ending : Option Ending) → ending_of s ≡ ending → is_some ending ≡ true → (e : Ending) × (s ≡ Over e)
+ends-by (Going world now waiting) None e t = cc
+ends-by (Going world now waiting) (Some x) e t = cc
+ends-by (Over x) ending e t = (x, refl)
+
+-- a machine that is over, at a run's end
+pub run_ended : (classes : List ClassModel) (out input : List ℕ) (taken n : ℕ) (s : State) (ending : Option Ending) (whole : Told) → ending ≡ ending_of s → is_some ending ≡ true →
+    ahead out taken (told (run_of classes n s input)) ≡ whole → whole ≡ record { output = out; taken = taken; after = s }
+run_ended classes out input taken n s ending whole e t so =
+    let over = ends-by s ending (sym e) t in
+    run_over classes out input taken n s over.0 whole over.1 so
