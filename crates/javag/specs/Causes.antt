@@ -3,16 +3,13 @@ use Rattle.std.specs.Prelude.{◌≡◌, ◌≢◌, ◌⊎◌, ℕ, ◌+◌, ◌
 use Rattle.std.specs.declared.option.Option.{Option}
 use Rattle.std.specs.declared.option.Option.TheVariants.{Some, None}
 use Rattle.jc_rules.specs.declared.rule.Refusal.{Refusal}
-use Rattle.jc_rules.specs.declared.stop.Stop.{Stop}
-use Rattle.jc_rules.specs.declared.stop.Stop.TheVariants as stop_of
 use Rattle.jc_class_out.specs.declared.model.ClassModel.{ClassModel}
 use Rattle.jc_class_out.specs.Format.{IsClassFile}
 use Rattle.jc_machine.specs.declared.machine.Ran.{Ran}
 use Rattle.jc_machine.specs.declared.machine.Ran.TheVariants.{Ended as RanEnded, StepsReached as RanSteps, OutFault as RanOutFault, Threw as RanThrew, Exited as RanExited, KeysFault as RanKeysFault, Stuck as RanStuck}
 use Rattle.jc_machine.specs.Runs.{Seen}
 use Rattle.jc_lexer.specs.declared.token.Token.{Token}
-use Rattle.jc_lexer.specs.Files.{lexed_files}
-use Rattle.jc_syntax.specs.Stage.{AreUnits, BreaksSyntax}
+use Rattle.jc_front.specs.Stages.{AreRead, Breaks}
 use Rattle.jc_outside.specs.Told.{Files}
 use Rattle.javag.specs.Objects.{Object, Unchanged, Puts, PutsPart, Failed, Closes, HaveTexts, IsUnread}
 use Rattle.jc_small.specs.Small.{Program, IsProgram}
@@ -34,15 +31,6 @@ pub record Call : Type 0 where
   pub out : Object ℕ
   pub err : Object ℕ
 
--- the tokens of the sources (JLS 3)
-abbrev pub HaveTokens : List (List ℕ) → List (List Token) → Type 0
-HaveTokens texts lists = lexed_files 1 0 texts ≡ Ok lists
-
--- the sources have these tokens, and are source files of the language: they break no rule of a stage that is built
-pub record AreRead (texts : List (List ℕ)) (lists : List (List Token)) : Type 0 where
-  pub tokens : HaveTokens texts lists
-  pub trees : AreUnits lists
-
 -- one source, whose tokens are this program, and no argument
 pub record IsSmall (job : Job) (texts : List (List ℕ)) (program : Program) : Type 0 where
   pub tokens : List Token
@@ -56,24 +44,6 @@ pub record IsClassOf (job : Job) (texts : List (List ℕ)) (class : ClassModel) 
   pub only : AreRead texts (tokens ∷ [])
   pub no_argument : job.arguments ≡ []
   pub compiled : Compiled tokens class
-
--- ---- rules that sources break
-
--- The lexical stage is the first one. It goes through the sources in order: a source breaks rule 101 at its first byte where it and those
--- before it have too many bytes, or else the rule of its first fault.
-abbrev pub BreaksLexical : List (List ℕ) → Refusal → Type 0
-BreaksLexical texts refusal = lexed_files 1 0 texts ≡ Err refusal
-
--- The syntactic stage is the next one, which is entered where no source breaks a lexical rule, and the last one that is built.
-abbrev pub BreaksTree : List (List ℕ) → Refusal → Type 0
-BreaksTree texts refusal = (lists : List (List Token)) × HaveTokens texts lists × BreaksSyntax texts lists refusal
-
-abbrev pub Breaks : List (List ℕ) → Refusal → Type 0
-Breaks texts refusal = BreaksLexical texts refusal ⊎ BreaksTree texts refusal
-
-abbrev pub IsBreak : List (List ℕ) → Stop Refusal → Type 0
-IsBreak texts (stop_of.Refused refusal) = Breaks texts refusal
-IsBreak texts stop_of.WantOfMemory = ⊤
 
 -- the refusal of a form that is not built yet
 abbrev pub not_built : Refusal

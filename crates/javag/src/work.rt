@@ -1,32 +1,21 @@
 //! The work on a job whose sources are read: its class, the class file, and the run.
 ghost use Rattle.std.specs.Prelude.{◌≡◌, ◌≢◌, ◌≤◌, ◌⊎◌, [], ◌∷◌, ◌++◌, IfOk, IfErr, OnOk, OnErr, IsErrOf, MatchOption, Some, None, Ok, true, false, codes, string_bytes, List, ℕ};
+ghost use Rattle.jc_front.specs.Stages.{IsBreak};
 ghost use Rattle.jc_machine.specs.Start.{start_of};
 ghost use Rattle.jc_machine.specs.Table.{State};
 ghost use Rattle.jc_outside.specs.Told.{Rose, Stays, Gets, GetsPart};
 ghost use Rattle.jc_small.specs.Same.{run_from};
-ghost use Rattle.javag.specs.Causes.{HasOutcome, outcome_of, AreRead, IsBreak, IsUnbuilt, IsClassOf, NamesMain, class_pairs, Worked, not_built as the_refusal};
+ghost use Rattle.javag.specs.Causes.{HasOutcome, outcome_of, IsUnbuilt, IsClassOf, NamesMain, class_pairs, Worked, not_built as the_refusal};
 
 use crate::outcome::Outcome;
 use jc_class_out::{ClassModel, class_bytes};
-use jc_lexer::{Token, lex_all};
+use jc_front::tokens_of;
 use jc_machine::{Machine, Ran};
 use jc_outside::{ClassShelf, Keys, OutsideError, Paper};
 use jc_rules::{Items, Place, Refusal, Rule, Stop, Text, WantOfMemory};
 use jc_small::compile;
-use jc_syntax::check_units;
 use jc_words::Job;
 use std::alloc::Global;
-
-/// The tokens of sources that break no rule of the stages that are built, or the least break of the first stage that has one.
-#[tactic(auto, using(crate::proofs::Stages::lexical, crate::proofs::Stages::syntactic, crate::proofs::Stages::are_read))]
-fn read(alloc: Global, texts: &[Items<u8>]) -> Result<Items<Items<Token>>, Stop<Refusal>>
-    ensures read { IfOk result (λ lists. AreRead texts.now lists) }
-    ensures broken { IfErr result (λ stop. IsBreak texts.now stop) }
-{
-    let lists = lex_all(alloc, texts)?;
-    check_units(alloc, texts, lists.slice())?;
-    Ok(lists)
-}
 
 /// The class of a job's one source. None where the job isn't small.
 #[tactic(auto, using(crate::proofs::Stages::one_reading))]
@@ -38,7 +27,7 @@ fn job_class(
     ensures class { IfOk result (λ class. MatchOption class (IsUnbuilt job.now texts.now) (λ class. IsClassOf job.now texts.now class)) }
     ensures refused { IfErr result (λ stop. IsBreak texts.now stop) }
 {
-    let lists = read(alloc, texts)?;
+    let lists = tokens_of(alloc, texts)?;
     match lists.slice() {
         [tokens] if job.arguments.is_empty() => Ok(compile(alloc, tokens.slice())?),
         _ => Ok(None),

@@ -7,7 +7,7 @@ use Rattle.jc_rules.specs.declared.stop.Stop.TheVariants as stop_of
 use Rattle.jc_lexer.specs.declared.token.Token.{Token}
 use Rattle.jc_tree.specs.declared.statement.SourceFile.{SourceFile}
 use Rattle.jc_unit_laws.specs.UnitAnswers.{UnitStands}
-use Rattle.jc_syntax.specs.Stage.{AreUnits, BreaksIn, HaveUnits, IsFileStop, IsStageStop}
+use Rattle.jc_syntax.specs.Stage.{BreaksIn, HaveUnits, IsFileStop, IsStageStop}
 
 one_more : (lists : List (List Token)) (units : List SourceFile) (list : List Token) (unit : SourceFile) → HaveUnits lists units → UnitStands false list unit → HaveUnits (lists ++ (list ∷ [])) (units ++ (unit ∷ []))
 one_more [] [] list unit h s = (s, tt)
@@ -38,6 +38,3 @@ unit_stops texts lists units n list size stop_of.WantOfMemory h l e g b = tt
 
 pub units_end : (lists : List (List Token)) (units : List SourceFile) (n : ℕ) → HaveUnits (take n lists) units → length lists ≤ n → HaveUnits lists units
 units_end lists units n h l = subst (λ (ls : List (List Token)). HaveUnits ls units) (take_all n lists l) h
-
-pub some_units : (lists : List (List Token)) (units : List SourceFile) → HaveUnits lists units → AreUnits lists
-some_units lists units h = (units, h)

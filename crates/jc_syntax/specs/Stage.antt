@@ -42,10 +42,6 @@ HaveUnits [] (unit ∷ units) = ⊥
 HaveUnits (tokens ∷ lists) [] = ⊥
 HaveUnits (tokens ∷ lists) (unit ∷ units) = UnitStands false tokens unit × HaveUnits lists units
 
--- each list of tokens is that of some source file
-abbrev pub AreUnits : List (List Token) → Type 0
-AreUnits lists = (units : List SourceFile) × HaveUnits lists units
-
 -- a source breaks a rule of the syntax, and none before it does; the sources count from 1
 pub record BreaksSyntax (texts : List (List ℕ)) (lists : List (List Token)) (refused : Refusal) : Type 0 where
   pub before : List (List Token)

@@ -5,4 +5,4 @@ mod laws;
 mod stage;
 
 pub use laws::syntax_is_told;
-pub use stage::{check_units, units_of};
+pub use stage::{refusal_of, units_of};

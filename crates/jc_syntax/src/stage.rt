@@ -1,8 +1,8 @@
 //! The sources one behind the other.
-ghost use Rattle.std.specs.Prelude.{◌≡◌, ◌+◌, ◌<◌, ◌^◌, length, IfErr, IfOk, OnOk, Ok, false};
+ghost use Rattle.std.specs.Prelude.{◌≡◌, ◌+◌, ◌<◌, ◌^◌, length, IfErr, IfOk, Ok, false};
 ghost use Rattle.jc_lexer.specs.Files.{lexed_files};
 ghost use Rattle.jc_unit_laws.specs.UnitAnswers.{UnitStands};
-ghost use Rattle.jc_syntax.specs.Stage.{AreUnits, HaveUnits, IsFileStop, IsStageStop, offset_of, refusal_of};
+ghost use Rattle.jc_syntax.specs.Stage.{HaveUnits, IsFileStop, IsStageStop, offset_of, refusal_of};
 
 use jc_lexer::Token;
 use jc_parse_unit::unit;
@@ -21,8 +21,8 @@ fn offset_of(tokens: &[Token], size: usize, token: u32) -> u32
     }
 }
 
-/// A fault of a file as a refusal.
-fn refusal_of(file: u64, tokens: &[Token], size: usize, fault: &ParseFault) -> Refusal
+/// A fault of a file of so many bytes as a refusal.
+pub fn refusal_of(file: u64, tokens: &[Token], size: usize, fault: &ParseFault) -> Refusal
     requires { size < 2 ^ 32 }
     ensures { result ≡ refusal_of file tokens.now size fault.now }
 {
@@ -77,19 +77,4 @@ pub fn units_of(
         units.push(unit)?;
     }
     Ok(units)
-}
-
-/// The same stage, where nothing asks for the trees.
-#[tactic(auto, using(crate::proofs::Turns::some_units))]
-pub fn check_units(
-    alloc: Global,
-    texts: &[Items<u8>],
-    lists: &[Items<Token>],
-) -> Result<(), Stop<Refusal>>
-    requires { lexed_files 1 0 texts.now ≡ Ok lists.now }
-    ensures units { OnOk result (AreUnits lists.now) }
-    ensures refused { IfErr result (λ stop. IsStageStop texts.now lists.now stop) }
-{
-    units_of(alloc, texts, lists)?;
-    Ok(())
 }

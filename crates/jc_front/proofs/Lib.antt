@@ -1,0 +1,2 @@
+pub mod LibraryTurns
+pub mod Reached

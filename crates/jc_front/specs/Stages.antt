@@ -1,0 +1,79 @@
+-- The stages that are built, one behind the other: what sources are that break no rule of them, and which break is named. A stage is entered where those before it
+-- have no break.
+use Rattle.std.specs.Prelude.{◌≡◌, ◌⊎◌, ℕ, ◌+◌, List, [], ◌∷◌, ◌++◌, Ok, Err}
+use Rattle.jc_rules.specs.declared.rule.Refusal.{Refusal}
+use Rattle.jc_rules.specs.declared.stop.Stop.{Stop}
+use Rattle.jc_rules.specs.declared.stop.Stop.TheVariants as stop_of
+use Rattle.jc_lexer.specs.declared.token.Token.{Token}
+use Rattle.jc_lexer.specs.Files.{lexed_files}
+use Rattle.jc_tree.specs.declared.statement.SourceFile.{SourceFile}
+use Rattle.jc_syntax.specs.Stage.{BreaksSyntax, HaveUnits}
+use Rattle.jc_declares.specs.declared.unit.SourceUnit.{SourceUnit}
+use Rattle.jc_front.specs.Library.{AreLibrary, BreaksLibrary}
+use Rattle.jc_declares.specs.Sites.{sites_of}
+use Rattle.jc_declares.specs.Breaks.{BreaksNames}
+use Rattle.jc_types.specs.Breaks.{IsLeast}
+use Rattle.jc_front.specs.declared.reading.Sources.{Sources}
+
+-- the tokens of the sources, which count from 1 (JLS 3)
+abbrev pub HaveTokens : List (List ℕ) → List (List Token) → Type 0
+HaveTokens texts lists = lexed_files 1 0 texts ≡ Ok lists
+
+-- files with their numbers, counted from n
+abbrev pub numbered_from : ℕ → List SourceFile → List SourceUnit
+numbered_from n [] = []
+numbered_from n (file ∷ files) = record { file = n; unit = file } ∷ numbered_from (n + 1) files
+
+-- the units of a job (JLS 7.3): those of the library, in file 0, and then its sources
+pub record HaveTrees (texts : List (List ℕ)) (lists : List (List Token)) (units : List SourceUnit) : Type 0 where
+  pub tokens : HaveTokens texts lists
+  pub files : List SourceFile
+  pub trees : HaveUnits lists files
+  pub library : List SourceUnit
+  pub is_library : AreLibrary library
+  pub all : units ≡ library ++ numbered_from 1 files
+
+-- the names in units break no rule
+pub record AreNamed (units : List SourceUnit) : Type 0 where
+  pub unbroken : (refused : Refusal) → BreaksNames (sites_of units) refused → ⊥
+
+-- sources that break no rule of a stage that is built, and what they are: their tokens, and the trees of the library and of the sources
+pub record AreSources (texts : List (List ℕ)) (sources : Sources) : Type 0 where
+  pub trees : HaveTrees texts sources.tokens sources.units
+  pub names : AreNamed sources.units
+
+-- sources that break no rule of a stage that is built have these tokens
+pub record AreRead (texts : List (List ℕ)) (lists : List (List Token)) : Type 0 where
+  pub sources : Sources
+  pub are_sources : AreSources texts sources
+  pub tokens : sources.tokens ≡ lists
+
+-- ---- the break that is named
+
+-- The lexical stage is the first one. It goes through the sources in order: a source breaks rule 101 at its first byte where it and those
+-- before it have too many bytes, or else the rule of its first fault.
+abbrev pub BreaksWords : List (List ℕ) → Refusal → Type 0
+BreaksWords texts refused = lexed_files 1 0 texts ≡ Err refused
+
+-- the syntactic stage
+abbrev pub BreaksTrees : List (List ℕ) → Refusal → Type 0
+BreaksTrees texts refused = (lists : List (List Token)) × HaveTokens texts lists × BreaksSyntax texts lists refused
+
+-- the stage of names: the least break by file, offset and number
+abbrev pub IsNamesBreak : List SourceUnit → Refusal → Type 0
+IsNamesBreak units refused = IsLeast (BreaksNames (sites_of units)) refused
+
+abbrev pub BreaksOfNames : List (List ℕ) → Refusal → Type 0
+BreaksOfNames texts refused = (lists : List (List Token)) × (units : List SourceUnit) × HaveTrees texts lists units × IsNamesBreak units refused
+
+-- the break of the first stage that has one; a library that were broken would be refused before all sources
+abbrev pub Breaks : List (List ℕ) → Refusal → Type 0
+Breaks texts refused = BreaksLibrary refused ⊎ (BreaksWords texts refused ⊎ (BreaksTrees texts refused ⊎ BreaksOfNames texts refused))
+
+abbrev pub IsBreak : List (List ℕ) → Stop Refusal → Type 0
+IsBreak texts (stop_of.Refused refused) = Breaks texts refused
+IsBreak texts stop_of.WantOfMemory = Unit {0}
+
+abbrev pub IsNamesStop : List SourceUnit → Stop Refusal → Type 0
+IsNamesStop units (stop_of.Refused refused) = IsNamesBreak units refused
+IsNamesStop units stop_of.WantOfMemory = Unit {0}
