@@ -1,0 +1,119 @@
+//! All that is asked of the names of a program, step by step: each step owns what it makes, and lends it to the next.
+ghost use Rattle.std.specs.Prelude.{◌≡◌, IfOk};
+ghost use Rattle.jc_types.specs.Breaks.{LeastOf};
+ghost use Rattle.jc_declares.specs.Sites.{sites_of};
+ghost use Rattle.jc_declares.specs.Heads.{heads_of};
+ghost use Rattle.jc_declares.specs.Knowing.{known};
+ghost use Rattle.jc_declares.specs.Breaks.{BreaksNames};
+ghost use Rattle.jc_name_index.specs.Index.{IsIndex};
+ghost use Rattle.jc_looking.specs.Members.{known_in};
+ghost use Rattle.jc_looking.specs.Scenes.{IsScene};
+ghost use Rattle.jc_name_rules.specs.Cycles.{AreCyclic};
+
+use jc_cycles::cyclic;
+use jc_declares::{Heads, SourceUnit};
+use jc_heads::heads;
+use jc_imports::{Imports, imports_of};
+use jc_looking::Scene;
+use jc_name_index::{Indexed, index_of};
+use jc_name_rules::first_break;
+use jc_rules::{Refusal, WantOfMemory};
+use jc_settling::settle;
+use jc_sites::sites;
+use std::alloc::Global;
+
+/// Where the classes on cycles are marked.
+fn with_marks(
+    alloc: Global,
+    units: &[SourceUnit],
+    scene: &Scene,
+    marks: &[bool],
+) -> Result<Option<Refusal>, WantOfMemory>
+    requires scene { IsScene scene.now.declared.heads.now scene.now.declared.index.now scene.now.imports.now }
+    requires heads { scene.now.declared.heads.now ≡ heads_of (sites_of units.now) }
+    requires known { known_in scene.now.known.now ≡ known scene.now.declared.heads.now }
+    requires marked { AreCyclic scene.now.declared.heads.now marks.now }
+    ensures { IfOk result (λ it. LeastOf (BreaksNames (sites_of units.now)) it) }
+{
+    let sites = sites(alloc, units)?;
+    first_break(alloc, scene, &sites, marks)
+}
+
+/// Where it is known what classes inherit.
+fn with_scene(
+    alloc: Global,
+    units: &[SourceUnit],
+    scene: &Scene,
+) -> Result<Option<Refusal>, WantOfMemory>
+    requires scene { IsScene scene.now.declared.heads.now scene.now.declared.index.now scene.now.imports.now }
+    requires heads { scene.now.declared.heads.now ≡ heads_of (sites_of units.now) }
+    requires known { known_in scene.now.known.now ≡ known scene.now.declared.heads.now }
+    ensures { IfOk result (λ it. LeastOf (BreaksNames (sites_of units.now)) it) }
+{
+    let marks = cyclic(alloc, scene)?;
+    let marked = marks.slice();
+    with_marks(alloc, units, scene, marked)
+}
+
+/// Where it is known what imports name.
+fn with_imports(
+    alloc: Global,
+    units: &[SourceUnit],
+    declared: Indexed,
+    imports: &Imports,
+) -> Result<Option<Refusal>, WantOfMemory>
+    requires scene { IsScene declared.heads.now declared.index.now imports.now }
+    requires heads { declared.heads.now ≡ heads_of (sites_of units.now) }
+    ensures { IfOk result (λ it. LeastOf (BreaksNames (sites_of units.now)) it) }
+{
+    let settled = settle(alloc, &declared, imports)?;
+    let known = settled.slice();
+    let scene = Scene {
+        declared,
+        imports,
+        known,
+    };
+    with_scene(alloc, units, &scene)
+}
+
+/// Where the heads have their index.
+fn with_index(
+    alloc: Global,
+    units: &[SourceUnit],
+    declared: Indexed,
+) -> Result<Option<Refusal>, WantOfMemory>
+    requires index { IsIndex declared.heads.now declared.index.now }
+    requires heads { declared.heads.now ≡ heads_of (sites_of units.now) }
+    ensures { IfOk result (λ it. LeastOf (BreaksNames (sites_of units.now)) it) }
+{
+    let imports = imports_of(alloc, &declared)?;
+    with_imports(alloc, units, declared, &imports)
+}
+
+/// Where the heads of the declarations are known.
+fn with_heads(
+    alloc: Global,
+    units: &[SourceUnit],
+    heads: &Heads,
+) -> Result<Option<Refusal>, WantOfMemory>
+    requires { heads.now ≡ heads_of (sites_of units.now) }
+    ensures { IfOk result (λ it. LeastOf (BreaksNames (sites_of units.now)) it) }
+{
+    let index = index_of(alloc, heads)?;
+    let declared = Indexed {
+        heads,
+        index: &index,
+    };
+    with_index(alloc, units, declared)
+}
+
+/// The first rule of names (301 to 311) that sources break, by file, offset and number. None where they break none.
+pub fn first_names_break(
+    alloc: Global,
+    units: &[SourceUnit],
+) -> Result<Option<Refusal>, WantOfMemory>
+    ensures { IfOk result (λ it. LeastOf (BreaksNames (sites_of units.now)) it) }
+{
+    let heads = heads(alloc, units)?;
+    with_heads(alloc, units, &heads)
+}
