@@ -8,8 +8,9 @@ use Rattle.jc_declares.specs.Looking.{Knowledge, has}
 use Rattle.jc_declares.specs.Heads.{Named}
 use Rattle.jc_declares.specs.Knowing.{is_some, known, needs, Needs, needed, further}
 use Rattle.jc_cycles.proofs.Ranked.{known_apart, known_needs}
-use Rattle.jc_cycles.specs.Reach.{IsIn, row, listed, Reach, one, on, IsClosed}
-use Rattle.jc_cycles.specs.Cycles.{places, places_unless, is_bare, rows_below, or_false, is_marked, AreCyclic}
+use Rattle.jc_components.specs.Reach.{IsIn, row, listed, Reach, one, on, IsClosed}
+use Rattle.jc_components.specs.Marks.{or_false, is_marked, AreReached}
+use Rattle.jc_cycles.specs.Cycles.{places, places_unless, rows_below, AreCyclic}
 
 -- ---- numbers in lists
 
@@ -185,55 +186,6 @@ module _ (H : Heads) where
       by : (k : Bool) → is_some (known H c) ≡ k → is_some (known H c) ≡ false
       by false s = s
       by true s = absurd (known_apart H c s n)
-
-reach_starts : (rows : List (List ℕ)) (a b : ℕ) → row rows a ≡ [] → Reach rows a b → ⊥
-reach_starts rows a b e (one c i) = let m : IsIn c [] = subst (IsIn c) e i in m
-reach_starts rows a b e (on c d r i) = reach_starts rows a c e r
-
-bare_is : (xs : List ℕ) → is_bare xs ≡ true → xs ≡ []
-bare_is [] e = refl
-bare_is (x ∷ xs) e = cc
-
-pub nothing_reached : (rows : List (List ℕ)) (a : ℕ) → is_bare (row rows a) ≡ true → IsTrue false ↔ Reach rows a a
-nothing_reached rows a e = (λ t. absurd_true t, λ r. absurd (reach_starts rows a a (bare_is (row rows a) e) r))
-  where
-    absurd_true : {A : Type 0} → IsTrue false → A
-    absurd_true t = cc
-
--- ---- marks
-
--- the first k classes are marked exactly where they reach themselves
-pub record AreReached (rows : List (List ℕ)) (marks : List Bool) (k : ℕ) : Type 0 where
-  pub count : length marks ≡ k
-  pub told : (c : ℕ) → c < k → (is_marked marks c ≡ true → Reach rows c c) × (Reach rows c c → is_marked marks c ≡ true)
-
-pub none_reached : (rows : List (List ℕ)) → AreReached rows [] 0
-none_reached rows = record { count = refl; told = λ c l. absurd (omega arith) }
-
-marked_first : (marks : List Bool) (b : Bool) (c : ℕ) → c < length marks → is_marked (marks ++ b ∷ []) c ≡ is_marked marks c
-marked_first marks b c l = ap or_false (first_of marks (b ∷ []) c l)
-
-marked_last : (marks : List Bool) (b : Bool) (c : ℕ) → c ≡ length marks → is_marked (marks ++ b ∷ []) c ≡ b
-marked_last marks b c e = subst (λ k. is_marked (marks ++ b ∷ []) k ≡ b) (sym e) (ap or_false (last_of marks b))
-
-pub one_more : (rows : List (List ℕ)) (marks : List Bool) (k : ℕ) (b : Bool) → AreReached rows marks k → (b ≡ true → Reach rows k k) → (Reach rows k k → b ≡ true)
-    → AreReached rows (marks ++ b ∷ []) (k + 1)
-one_more rows marks k b a f g = record {
-  count = let e = a.count in grind (arith, common_steps);
-  told = λ c l. by_order c (order c l);
-}
-  where
-    order : (c : ℕ) → c < k + 1 → (c < k) ⊎ (c ≡ k)
-    order c l = grind arith
-
-    by_order : (c : ℕ) → (c < k) ⊎ (c ≡ k) → (is_marked (marks ++ b ∷ []) c ≡ true → Reach rows c c) × (Reach rows c c → is_marked (marks ++ b ∷ []) c ≡ true)
-    by_order c (inl l) =
-        let e : is_marked (marks ++ b ∷ []) c ≡ is_marked marks c = marked_first marks b c (let n = a.count in omega arith) in
-        let t = a.told c l in
-        (λ m. t.0 (sym e ∙ m), λ r. e ∙ t.1 r)
-    by_order c (inr s) =
-        let e : is_marked (marks ++ b ∷ []) c ≡ b = marked_last marks b c (s ∙ sym a.count) in
-        (λ m. subst (λ x. Reach rows x x) (sym s) (f (sym e ∙ m)), λ r. e ∙ g (subst (λ x. Reach rows x x) s r))
 
 pub all_told : (H : Heads) (rows : List (List ℕ)) (marks : List Bool) → rows ≡ rows_below H (known H) (length H.classes) (length H.classes) → AreReached rows marks (length H.classes) → AreCyclic H marks
 unfolding Rows

@@ -5,6 +5,7 @@ use Rattle.jc_declares.specs.declared.heads.Heads.{Heads}
 use Rattle.jc_declares.specs.Heads.{Named}
 use Rattle.jc_declares.specs.Looking.{Knowledge}
 use Rattle.jc_declares.specs.Knowing.{Needs, needs}
+use Rattle.jc_components.specs.Marks.{is_marked}
 
 -- those below n
 abbrev pub places : ℕ → List ℕ → List ℕ
@@ -20,17 +21,6 @@ places_unless None n cs = places n cs
 abbrev pub rows_below : Heads → Knowledge → ℕ → ℕ → List (List ℕ)
 rows_below H K n zero = []
 rows_below H K n (suc c) = rows_below H K n c ++ places_unless (K c) n (needs H K c) ∷ []
-
-abbrev pub is_bare : List ℕ → Bool
-is_bare [] = true
-is_bare (c ∷ cs) = false
-
-abbrev pub or_false : Option Bool → Bool
-or_false None = false
-or_false (Some b) = b
-
-abbrev pub is_marked : List Bool → ℕ → Bool
-is_marked marks c = or_false (slice_get marks c)
 
 -- those of the classes are marked that depend on themselves
 pub record AreCyclic (H : Heads) (marks : List Bool) : Type 0 where

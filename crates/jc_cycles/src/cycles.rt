@@ -1,12 +1,11 @@
 //! Classes that need themselves.
-ghost use Rattle.std.specs.Prelude.{◌≡◌, ◌<◌, IfOk, IsTrue, ◌↔◌, length};
+ghost use Rattle.std.specs.Prelude.{◌≡◌, IfOk};
 ghost use Rattle.jc_declares.specs.Knowing.{known, needs};
 ghost use Rattle.jc_looking.specs.Members.{known_in};
 ghost use Rattle.jc_looking.specs.Scenes.{IsScene};
-ghost use Rattle.jc_cycles.specs.Reach.{Reach, IsClosed};
-ghost use Rattle.jc_cycles.specs.Cycles.{places, places_unless, is_bare, rows_below, AreCyclic};
+ghost use Rattle.jc_cycles.specs.Cycles.{places, places_unless, rows_below, AreCyclic};
 
-use crate::reach::{is_cyclic, row};
+use jc_components::on_cycles;
 use jc_looking::{Scene, known_of};
 use jc_rules::{Items, WantOfMemory};
 use jc_settling::needs;
@@ -52,27 +51,6 @@ fn rows(alloc: Global, scene: &Scene, count: usize) -> Result<Items<Items<u64>>,
     Ok(rows)
 }
 
-fn is_bare(row: &[u64]) -> bool
-    ensures { result ≡ is_bare row.now }
-{
-    match row.first() {
-        Some(_) => false,
-        None => true,
-    }
-}
-
-/// Whether a class is reached from itself.
-fn depends(alloc: Global, rows: &[Items<u64>], class: u64) -> Result<bool, WantOfMemory>
-    requires closed { IsClosed rows.now }
-    requires place { class < length rows.now }
-    ensures { IfOk result (λ r. IsTrue r ↔ Reach rows.now class class) }
-{
-    if is_bare(row(rows, class)) {
-        return Ok(false);
-    }
-    is_cyclic(alloc, rows, class)
-}
-
 /// Of each class whether it depends on itself, where all is known of the classes that can be.
 pub fn cyclic(alloc: Global, scene: &Scene) -> Result<Items<bool>, WantOfMemory>
     requires scene { IsScene scene.now.declared.heads.now scene.now.declared.index.now scene.now.imports.now }
@@ -81,9 +59,5 @@ pub fn cyclic(alloc: Global, scene: &Scene) -> Result<Items<bool>, WantOfMemory>
 {
     let count = scene.declared.heads.classes.len();
     let rows = rows(alloc, scene, count)?;
-    let mut marks = Items::new(alloc);
-    for class in 0..count {
-        marks.push(depends(alloc, rows.slice(), class as u64)?)?;
-    }
-    Ok(marks)
+    on_cycles(alloc, rows.slice())
 }

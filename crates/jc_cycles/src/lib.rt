@@ -2,6 +2,5 @@
 #![tactic(auto)]
 
 mod cycles;
-mod reach;
 
 pub use cycles::cyclic;
