@@ -32,7 +32,7 @@ pub fn in_expr(node: &Expr) -> Option<u32>
         Expr::Index { of, index } => earlier(in_expr(of.get()), in_expr(index.get())),
         Expr::InnerNew { of, creation } => earlier(
             Some(first_offset_of_expr(of.get())),
-            earlier(in_expr(of.get()), in_creation(creation)),
+            earlier(in_expr(of.get()), in_creation(creation.get())),
         ),
         Expr::Literal { .. } => None,
         Expr::This { .. } => None,
@@ -41,8 +41,8 @@ pub fn in_expr(node: &Expr) -> Option<u32>
         Expr::Paren { inner, .. } => in_expr(inner.get()),
         Expr::Name(_) => None,
         Expr::Invoke { actuals, .. } => in_exprs(actuals.slice()),
-        Expr::New { creation, .. } => in_creation(creation),
-        Expr::ClassLiteral { ty } => Some(first_offset_of_type(ty)),
+        Expr::New { creation, .. } => in_creation(creation.get()),
+        Expr::ClassLiteral { ty } => Some(first_offset_of_type(ty.get())),
         Expr::VoidLiteral { at } => Some(*at),
         Expr::OuterThis { first, .. } => Some(first.at),
     }

@@ -265,7 +265,7 @@ pub fn created_at(
 {
     let creation = creation(alloc, tokens, height)?;
     Ok(Found {
-        value: new_node(at, creation.value),
+        value: new_node(alloc, at, creation.value)?,
         rest: creation.rest,
         left: creation.left,
     })

@@ -99,7 +99,7 @@ pub fn cast_node(
     ensures { IfOk result (λ node. node ≡ cast_node at ty operand) }
 {
     let height = type_height(&ty).max(operand.height).saturating_add(1);
-    let (operand, ty) = boxed_beside(alloc, operand.tree, ty)?;
+    let (operand, ty) = two_boxed(alloc, operand.tree, ty)?;
     Ok(Measured {
         tree: Expr::Cast { at, ty, operand },
         height,

@@ -55,14 +55,16 @@ pub fn void_node(at: u32) -> Measured<Expr>
 
 /// The class literal of a type.
 #[tactic(auto, using(crate::proofs::HeightSteps::primes))]
-pub fn class_node(ty: TypeTree) -> Measured<Expr>
-    ensures { (result.tree ≡ expr_of.ClassLiteral ty) × IsMeasured expr_height result }
+pub fn class_node(alloc: Global, ty: TypeTree) -> Result<Measured<Expr>, WantOfMemory>
+    ensures { IfOk result (λ r. (r.tree ≡ expr_of.ClassLiteral ty) × IsMeasured expr_height r) }
 {
     let height = type_height(&ty);
-    Measured {
-        tree: Expr::ClassLiteral { ty },
+    Ok(Measured {
+        tree: Expr::ClassLiteral {
+            ty: Boxed::new(alloc, ty)?,
+        },
         height: height.saturating_add(1),
-    }
+    })
 }
 
 /// `this` of a class around.
@@ -159,17 +161,22 @@ pub fn super_node(at: u32, member: Measured<MemberTree>) -> Measured<Expr>
 
 /// A creation behind `new`.
 #[tactic(auto, using(crate::proofs::HeightSteps::primes))]
-pub fn new_node(at: u32, creation: Measured<Creation>) -> Measured<Expr>
+pub fn new_node(
+    alloc: Global,
+    at: u32,
+    creation: Measured<Creation>,
+) -> Result<Measured<Expr>, WantOfMemory>
     requires { IsMeasured creation_height creation }
-    ensures { (result.tree ≡ expr_of.New at creation.tree) × IsMeasured expr_height result }
+    ensures { IfOk result (λ r. (r.tree ≡ expr_of.New at creation.tree) × IsMeasured expr_height r) }
 {
-    Measured {
+    let height = creation.height.saturating_add(1);
+    Ok(Measured {
         tree: Expr::New {
             at,
-            creation: creation.tree,
+            creation: Boxed::new(alloc, creation.tree)?,
         },
-        height: creation.height.saturating_add(1),
-    }
+        height,
+    })
 }
 
 /// An expression as an initialiser.
@@ -380,7 +387,10 @@ fn selected_of(alloc: Global, of: Boxed<Expr>, selector: SelectorTree) -> Result
 {
     match selector {
         SelectorTree::Index(index) => index_tree(alloc, of, index),
-        SelectorTree::New(creation) => Ok(Expr::InnerNew { of, creation }),
+        SelectorTree::New(creation) => Ok(Expr::InnerNew {
+            of,
+            creation: Boxed::new(alloc, creation)?,
+        }),
         SelectorTree::Member(member) => Ok(member_tree(of, member)),
     }
 }

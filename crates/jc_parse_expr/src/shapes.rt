@@ -10,8 +10,8 @@ pub fn is_sized(expr: &Expr) -> bool
     ensures { result ≡ (expr_shape expr.now).sized }
 {
     match expr {
-        Expr::New { creation, .. } => makes_lengths(creation),
-        Expr::InnerNew { creation, .. } => makes_lengths(creation),
+        Expr::New { creation, .. } => makes_lengths(creation.get()),
+        Expr::InnerNew { creation, .. } => makes_lengths(creation.get()),
         _ => false,
     }
 }
@@ -56,10 +56,10 @@ pub fn is_effect(expr: &Expr) -> bool
         Expr::Prefix { first, .. } => changes(first.sign),
         Expr::Postfix { .. } => true,
         Expr::Call { .. } => true,
-        Expr::InnerNew { creation, .. } => makes_object(creation),
+        Expr::InnerNew { creation, .. } => makes_object(creation.get()),
         Expr::SuperCall { .. } => true,
         Expr::Invoke { .. } => true,
-        Expr::New { creation, .. } => makes_object(creation),
+        Expr::New { creation, .. } => makes_object(creation.get()),
         _ => false,
     }
 }

@@ -234,10 +234,13 @@ fn named_node(
 {
     match tail {
         NamesTail::This => Ok(outer_node(first, more)),
-        NamesTail::Class(dims) => Ok(class_node(TypeTree {
-            base: BaseTree::Class(bare_class(alloc, first, more.slice())?),
-            dims,
-        })),
+        NamesTail::Class(dims) => class_node(
+            alloc,
+            TypeTree {
+                base: BaseTree::Class(bare_class(alloc, first, more.slice())?),
+                dims,
+            },
+        ),
     }
 }
 
@@ -286,6 +289,7 @@ fn named_special(
 /// A class literal of a primitive type, behind its word.
 #[tactic(auto, using(crate::proofs::SpecialCodes::word_reads, crate::proofs::SpecialCodes::word_stops))]
 fn word_special(
+    alloc: Global,
     at: u32,
     word: PrimitiveWord,
     tokens: &[Token],
@@ -296,10 +300,13 @@ fn word_special(
     let dims = dims(tokens);
     match dot_class(dims.rest) {
         Ok(rest) => Ok(Found {
-            value: class_node(TypeTree {
-                base: BaseTree::Primitive { at, word },
-                dims: dims.value,
-            }),
+            value: class_node(
+                alloc,
+                TypeTree {
+                    base: BaseTree::Primitive { at, word },
+                    dims: dims.value,
+                },
+            )?,
             rest,
             left: tokens.len().min(dims.left.min(rest.len())),
         }),
@@ -323,7 +330,7 @@ pub fn special(
             if height == 0 {
                 return Err(Halt::Stopped(tokens.len()));
             }
-            word_special(at, word, rest)
+            word_special(alloc, at, word, rest)
         }
         None => named_special(alloc, tokens, height),
     }

@@ -130,7 +130,7 @@ pub fn push_expr<'a>(
         }
         Expr::Prefix { operand, .. } => push_expr(uses, spot, operand.get()),
         Expr::Cast { ty, operand, .. } => {
-            push_part(uses, spot, BodyPart::Type(ty))?;
+            push_part(uses, spot, BodyPart::Type(ty.get()))?;
             push_expr(uses, spot, operand.get())
         }
         Expr::Postfix { of, .. } => push_expr(uses, spot, of.get()),
@@ -151,7 +151,7 @@ pub fn push_expr<'a>(
         }
         Expr::InnerNew { of, creation } => {
             push_expr(uses, spot, of.get())?;
-            push_creation(uses, spot, creation)
+            push_creation(uses, spot, creation.get())
         }
         Expr::SuperCall {
             type_args,
@@ -163,7 +163,7 @@ pub fn push_expr<'a>(
         }
         Expr::Paren { inner, .. } => push_expr(uses, spot, inner.get()),
         Expr::Invoke { actuals, .. } => push_exprs(uses, spot, actuals.slice()),
-        Expr::New { creation, .. } => push_creation(uses, spot, creation),
+        Expr::New { creation, .. } => push_creation(uses, spot, creation.get()),
         Expr::Literal { .. } => Ok(()),
         Expr::This { .. } => Ok(()),
         Expr::SuperField { .. } => Ok(()),

@@ -108,7 +108,7 @@ pub enum Expr {
     },
     Cast {
         at: u32,
-        ty: TypeTree,
+        ty: Boxed<TypeTree>,
         operand: Boxed<Expr>,
     },
     Postfix {
@@ -132,7 +132,7 @@ pub enum Expr {
     /// `of.new ..`, which javag has not.
     InnerNew {
         of: Boxed<Expr>,
-        creation: Creation,
+        creation: Boxed<Creation>,
     },
     Literal {
         at: u32,
@@ -162,11 +162,11 @@ pub enum Expr {
     },
     New {
         at: u32,
-        creation: Creation,
+        creation: Boxed<Creation>,
     },
     /// `Type.class`, which javag has not.
     ClassLiteral {
-        ty: TypeTree,
+        ty: Boxed<TypeTree>,
     },
     /// `void.class`, which javag has not.
     VoidLiteral {

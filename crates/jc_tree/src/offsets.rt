@@ -67,7 +67,7 @@ pub fn first_offset_of_expr(node: &Expr) -> u32
         Expr::Name(it) => it.at,
         Expr::Invoke { name, .. } => name.at,
         Expr::New { at, .. } => *at,
-        Expr::ClassLiteral { ty } => first_offset_of_type(ty),
+        Expr::ClassLiteral { ty } => first_offset_of_type(ty.get()),
         Expr::VoidLiteral { at } => *at,
         Expr::OuterThis { first, .. } => first.at,
     }

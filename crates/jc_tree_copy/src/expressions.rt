@@ -69,8 +69,9 @@ pub fn copy_expr(alloc: Global, expr: &Expr) -> Result<Expr, WantOfMemory>
             }
         }
         Expr::Cast { at, ty, operand } => {
+            let ty = boxed(alloc, copy_type(alloc, ty.get()));
             let operand = boxed(alloc, copy_expr(alloc, operand.get()));
-            match both(copy_type(alloc, ty), operand) {
+            match both(ty, operand) {
                 Ok((ty, operand)) => Ok(Expr::Cast {
                     at: *at,
                     ty,
@@ -119,7 +120,8 @@ pub fn copy_expr(alloc: Global, expr: &Expr) -> Result<Expr, WantOfMemory>
         }
         Expr::InnerNew { of, creation } => {
             let of = boxed(alloc, copy_expr(alloc, of.get()));
-            match both(of, copy_creation(alloc, creation)) {
+            let creation = boxed(alloc, copy_creation(alloc, creation.get()));
+            match both(of, creation) {
                 Ok((of, creation)) => Ok(Expr::InnerNew { of, creation }),
                 Err(fault) => Err(fault),
             }
@@ -165,11 +167,11 @@ pub fn copy_expr(alloc: Global, expr: &Expr) -> Result<Expr, WantOfMemory>
                 Err(fault) => Err(fault),
             }
         }
-        Expr::New { at, creation } => match copy_creation(alloc, creation) {
+        Expr::New { at, creation } => match boxed(alloc, copy_creation(alloc, creation.get())) {
             Ok(creation) => Ok(Expr::New { at: *at, creation }),
             Err(fault) => Err(fault),
         },
-        Expr::ClassLiteral { ty } => match copy_type(alloc, ty) {
+        Expr::ClassLiteral { ty } => match boxed(alloc, copy_type(alloc, ty.get())) {
             Ok(ty) => Ok(Expr::ClassLiteral { ty }),
             Err(fault) => Err(fault),
         },

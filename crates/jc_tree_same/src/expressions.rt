@@ -66,7 +66,7 @@ pub fn same_expr(a: &Expr, b: &Expr) -> bool
                 operand: other_operand,
             },
         ) => at == other_at
-            && same_type(ty, other_ty)
+            && same_type(ty.get(), other_ty.get())
             && same_expr(operand.get(), other_operand.get()),
         (
             Expr::Postfix { of, op },
@@ -112,7 +112,10 @@ pub fn same_expr(a: &Expr, b: &Expr) -> bool
                 of: other_of,
                 creation: other_creation,
             },
-        ) => same_expr(of.get(), other_of.get()) && same_creation(creation, other_creation),
+        ) => {
+            same_expr(of.get(), other_of.get())
+                && same_creation(creation.get(), other_creation.get())
+        }
         (
             Expr::Literal { at, value },
             Expr::Literal {
@@ -166,8 +169,10 @@ pub fn same_expr(a: &Expr, b: &Expr) -> bool
                 at: other_at,
                 creation: other_creation,
             },
-        ) => at == other_at && same_creation(creation, other_creation),
-        (Expr::ClassLiteral { ty }, Expr::ClassLiteral { ty: other }) => same_type(ty, other),
+        ) => at == other_at && same_creation(creation.get(), other_creation.get()),
+        (Expr::ClassLiteral { ty }, Expr::ClassLiteral { ty: other }) => {
+            same_type(ty.get(), other.get())
+        }
         (Expr::VoidLiteral { at }, Expr::VoidLiteral { at: other }) => at == other,
         (
             Expr::OuterThis { first, more },

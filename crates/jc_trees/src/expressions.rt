@@ -51,7 +51,7 @@ pub fn put_expr(alloc: Global, out: &mut String, expr: &Expr) -> Result<(), Allo
         }
         Expr::Cast { ty, operand, .. } => {
             out.push_str("(cast ")?;
-            put_type(alloc, out, ty)?;
+            put_type(alloc, out, ty.get())?;
             out.push_str(" ")?;
             put_expr(alloc, out, operand.get())?;
             out.push_str(")")
@@ -94,7 +94,7 @@ pub fn put_expr(alloc: Global, out: &mut String, expr: &Expr) -> Result<(), Allo
             out.push_str("(inner ")?;
             put_expr(alloc, out, of.get())?;
             out.push_str(" ")?;
-            put_creation(alloc, out, creation)?;
+            put_creation(alloc, out, creation.get())?;
             out.push_str(")")
         }
         Expr::Literal { value, .. } => put_literal(alloc, out, value),
@@ -129,12 +129,12 @@ pub fn put_expr(alloc: Global, out: &mut String, expr: &Expr) -> Result<(), Allo
         }
         Expr::New { creation, .. } => {
             out.push_str("(new ")?;
-            put_creation(alloc, out, creation)?;
+            put_creation(alloc, out, creation.get())?;
             out.push_str(")")
         }
         Expr::ClassLiteral { ty } => {
             out.push_str("(class-literal ")?;
-            put_type(alloc, out, ty)?;
+            put_type(alloc, out, ty.get())?;
             out.push_str(")")
         }
         Expr::VoidLiteral { .. } => out.push_str("(void-literal)"),

@@ -67,7 +67,7 @@ pub fn expr_height(node: &Expr) -> u32
             .max(operands_height(rest.slice()))
             .saturating_add(1),
         Expr::Prefix { operand, .. } => expr_height(operand.get()).saturating_add(1),
-        Expr::Cast { ty, operand, .. } => type_height(ty)
+        Expr::Cast { ty, operand, .. } => type_height(ty.get())
             .max(expr_height(operand.get()))
             .saturating_add(1),
         Expr::Postfix { of, .. } => expr_height(of.get()).saturating_add(1),
@@ -85,7 +85,7 @@ pub fn expr_height(node: &Expr) -> u32
             .max(expr_height(index.get()))
             .saturating_add(1),
         Expr::InnerNew { of, creation } => expr_height(of.get())
-            .max(creation_height(creation))
+            .max(creation_height(creation.get()))
             .saturating_add(1),
         Expr::Literal { .. } => 1,
         Expr::This { .. } => 1,
@@ -100,8 +100,8 @@ pub fn expr_height(node: &Expr) -> u32
         Expr::Paren { inner, .. } => expr_height(inner.get()).saturating_add(1),
         Expr::Name(_) => 1,
         Expr::Invoke { actuals, .. } => exprs_height(actuals.slice()).saturating_add(1),
-        Expr::New { creation, .. } => creation_height(creation).saturating_add(1),
-        Expr::ClassLiteral { ty } => type_height(ty).saturating_add(1),
+        Expr::New { creation, .. } => creation_height(creation.get()).saturating_add(1),
+        Expr::ClassLiteral { ty } => type_height(ty.get()).saturating_add(1),
         Expr::VoidLiteral { .. } => 1,
         Expr::OuterThis { .. } => 1,
     }
