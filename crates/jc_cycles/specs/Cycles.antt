@@ -1,5 +1,5 @@
 -- Classes that depend on themselves, as they are listed.
-use Rattle.std.specs.Prelude.{◌≡◌, ℕ, zero, suc, Bool, true, false, cond, nat_lt, List, [], ◌∷◌, ◌++◌, Option, Some, None, slice_get}
+use Rattle.std.specs.Prelude.{◌≡◌, ℕ, zero, suc, Bool, true, cond, nat_lt, List, [], ◌∷◌, ◌++◌, Option, Some, None, slice_get}
 use Rattle.jc_declares.specs.declared.heads.ClassHead.{ClassHead}
 use Rattle.jc_declares.specs.declared.heads.Heads.{Heads}
 use Rattle.jc_declares.specs.Heads.{Named}

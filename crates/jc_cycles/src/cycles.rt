@@ -59,5 +59,6 @@ pub fn cyclic(alloc: Global, scene: &Scene) -> Result<Items<bool>, WantOfMemory>
 {
     let count = scene.declared.heads.classes.len();
     let rows = rows(alloc, scene, count)?;
-    on_cycles(alloc, rows.slice())
+    let marks = on_cycles(alloc, rows.slice())?;
+    Ok(marks)
 }
