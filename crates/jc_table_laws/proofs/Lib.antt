@@ -1,0 +1,4 @@
+pub mod Acyclic
+pub mod Edges
+pub mod Indexed
+pub mod Meant
