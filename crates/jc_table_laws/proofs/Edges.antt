@@ -123,7 +123,7 @@ declared_at f i (s ∷ ss) (suc a) t m =
     let rest = declared_at f (suc i) ss a t m in
     (rest.0, rest.1, subst (λ (n : ℕ). IsIn t (supers_in (Some (f n rest.0)))) (let e : suc i + a ≡ i + suc a = omega arith in e) rest.2)
 
-head_at : (ss : List ClassSite) (a : ℕ) (s : ClassSite) → slice_get ss a ≡ Some s → slice_get (map class_head ss) a ≡ Some (class_head s)
+pub head_at : (ss : List ClassSite) (a : ℕ) (s : ClassSite) → slice_get ss a ≡ Some s → slice_get (map class_head ss) a ≡ Some (class_head s)
 head_at [] zero s e = cc
 head_at [] (suc a) s e = cc
 head_at (x ∷ ss) zero s e = let f : x ≡ s = cc in ap (λ (y : ClassSite). Some (class_head y)) f
