@@ -1,0 +1,10 @@
+//! Laws of the table that a program has: each is what a function that does nothing ensures.
+#![tactic(auto)]
+
+mod hierarchy;
+mod index;
+mod scopes;
+
+pub use hierarchy::no_class_is_its_own_supertype;
+pub use index::index_has_the_first_classes;
+pub use scopes::scopes_of_classes_end_at_their_units;
