@@ -183,8 +183,3 @@ of_looseness-looseness level_of.Times = refl
 
 same_level : (a b : Level) → looseness a ≡ looseness b → a ≡ b
 same_level a b e = sym (of_looseness-looseness a) ∙ ap of_looseness e ∙ of_looseness-looseness b
-
--- the next looser level is no looser than one that is looser than this
-pub tighter_than : (level last : Level) → looseness level ≤ looseness last → (level ≡ last → ⊥) → looseness level + 1 ≤ looseness last
-tighter_than level last e f =
-    ⊎_elim (λ (lt : looseness level < looseness last). omega (arith, lt)) (λ (le : looseness last ≤ looseness level). absurd (f (same_level level last (omega (arith, e, le))))) (cases_lt (looseness level) (looseness last))

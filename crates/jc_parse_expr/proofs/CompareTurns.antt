@@ -59,11 +59,6 @@ shorter_part : (form : Form Comparison) (ts : List Token) (m : Read Comparison) 
 shorter_part form ts (Found p r l) f g = f p r g
 shorter_part form ts (Stopped l) f g = tt
 
-pub comparison_advances : (k : ℕ) (next : Run Expr) → Lawful Expr (Next k next) → (bare touched : Bool) → Advances Comparison (next_comparison_run (suc k) next bare touched)
-comparison_advances k next ln bare touched =
-    let s = link_steady k next ln bare touched in
-    record { within = s.within; shorter = λ ts. shorter_part (Link k next ln bare touched) ts (next_comparison_run (suc k) next bare touched ts) (λ p r t. (s.opens ts p r t).1) (s.sound ts) }
-
 -- the last token that was read
 pub touched_at : (front : List Token) (t : Token) (back : List Token) → touched_before (front ++ (t ∷ back)) (length back) ≡ is_touching t
 touched_at [] t back = touched_here t back (length back) refl

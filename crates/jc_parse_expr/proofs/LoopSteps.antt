@@ -80,18 +80,6 @@ row_measured whole row r l e f = ap (becoming measured_operands) e ∙ ap (λ (n
 
 -- operands of one level
 
-pub plain_operands : (level : Level) (h : ℕ) (next : Run Expr) → (level ≡ level_of.Compared → ⊥) → operands_run level h next ≡ any_number (operand_run level next)
-plain_operands level_of.OrElse h next e = refl
-plain_operands level_of.AndAlso h next e = refl
-plain_operands level_of.Or h next e = refl
-plain_operands level_of.Xor h next e = refl
-plain_operands level_of.And h next e = refl
-plain_operands level_of.Equal h next e = refl
-plain_operands level_of.Compared h next e = absurd (e refl)
-plain_operands level_of.Shift h next e = refl
-plain_operands level_of.Plus h next e = refl
-plain_operands level_of.Times h next e = refl
-
 module _ (level : Level) (h : ℕ) where
   abbrev One : Run Operand
   One = operand_run level (tighter_run level (levels_at h))

@@ -45,11 +45,6 @@ pub halts_by : {A B : Type 0} (m : Read A) (n : Read B) → ((l : ℕ) → m ≡
 halts_by m n f (halt_of.Stopped l) h = f l h
 halts_by m n f halt_of.WantOfMemory h = tt
 
--- a reach that is far enough is not noted again
-pub near_again : {A B : Type 0} (f : A → B) (k : ℕ) (m : Read A) → Within k m → becoming f (noting k m) ≡ becoming f m
-near_again f k (Found a r l) w = let e : min k l ≡ l = omega (arith, w.0, w.1) in ap (λ j. Found (f a) r j) e
-near_again f k (Stopped l) w = let e : min k l ≡ l = omega (arith, w) in ap (λ j. Stopped j) e
-
 joined_again : {A B C : Type 0} (f : (C × A) → B) (c : C) (k : ℕ) (m : Read A) → Within k m → becoming f (noting k (becoming (joined c) m)) ≡ becoming (λ (a : A). f (c, a)) m
 joined_again f c k (Found a r l) w = let e : min k l ≡ l = omega (arith, w.0, w.1) in ap (λ j. Found (f (c, a)) r j) e
 joined_again f c k (Stopped l) w = let e : min k l ≡ l = omega (arith, w) in ap (λ j. Stopped j) e
@@ -66,9 +61,6 @@ behind_place {A = A} f code m ts q at w e =
 -- what was read, and how far
 pub rest_of_near : {A : Type 0} (m : Run A) (ts : List Token) (a : A) (r : List Token) (l : ℕ) → Near m → m ts ≡ Found a r l → length r ≤ length ts
 rest_of_near {A = A} m ts a r l w e = (subst (λ (v : Read A). Within (length ts) v) e (w ts)).1
-
-pub reach_of_near : {A : Type 0} (m : Run A) (ts : List Token) (a : A) (r : List Token) (l : ℕ) → Near m → m ts ≡ Found a r l → l ≤ length r
-reach_of_near {A = A} m ts a r l w e = (subst (λ (v : Read A). Within (length ts) v) e (w ts)).0
 
 pub stop_of_near : {A : Type 0} (m : Run A) (ts : List Token) (l : ℕ) → Near m → m ts ≡ Stopped l → l ≤ length ts
 stop_of_near {A = A} m ts l w e = subst (λ (v : Read A). Within (length ts) v) e (w ts)

@@ -59,9 +59,6 @@ made_stops {B = B} f m l e = subst (λ (x : Read B). Made f m x) e (made f m)
 pub made_halts : {A B : Type 0} (f : A → B) (m : Read A) (e : Halt) → Halts e (becoming f m) → Halts e m
 made_halts f m e h = halts_by (becoming f m) m (made_stops f m) e h
 
-pub halts_made : {A B : Type 0} (f : A → B) (m : Read A) (e : Halt) → Halts e m → Halts e (becoming f m)
-halts_made f m e h = halts_by m (becoming f m) (λ l s. ap (becoming f) s) e h
-
 pub remade : {A B C : Type 0} (f : A → B) (g : B → C) (h : A → C) (m : Read A) → ((a : A) → g (f a) ≡ h a) → becoming g (becoming f m) ≡ becoming h m
 remade f g h (Found a r l) e = ap (λ c. Found c r l) (e a)
 remade f g h (Stopped l) e = refl

@@ -33,27 +33,16 @@ rest_index h ts r e l f =
     rest_of_near (as_new before_it (in_turn (expr_in h) (of_kind (sign_code sign_of.RightBracket)))) ts e r l
     (near_as before_it (in_turn (expr_in h) (of_kind (sign_code sign_of.RightBracket))) (near_bracketed h (expr_in h) (array_in h) (near_expr h) (near_array_of h))) f
 
-pub rest_ident : (ts r : List Token) (name : Ident) (l : ℕ) → an_ident_at ts ≡ Found name r l → length r ≤ length ts
-rest_ident ts r name l f = rest_of_near an_ident_at ts name r l near_ident f
-
 pub rest_dims : (ts r : List Token) (n l : ℕ) → dims_run ts ≡ Found n r l → length r ≤ length ts
 rest_dims ts r n l f = rest_of_near dims_run ts n r l near_dims f
 
 pub rest_class : (h : ℕ) (ts r : List Token) (class : ClassTree) (l : ℕ) → class_run h ts ≡ Found class r l → length r ≤ length ts
 rest_class h ts r class l f = rest_of_near (class_run h) ts class r l (near_class h) f
 
-pub rest_word : (ts r : List Token) (w : ℕ × PrimitiveWord) (l : ℕ) → word_run ts ≡ Found w r l → length r ≤ length ts
-rest_word ts r w l f = rest_of_near word_run ts w r l (near_picking picks_word) f
-
 pub rest_args : (h : ℕ) (ts r : List Token) (args : List TypeArg) (l : ℕ) → as_new some_args_list (some_args_run h) ts ≡ Found args r l → length r ≤ length ts
 rest_args h ts r args l f =
     rest_of_near (as_new some_args_list (some_args_run h)) ts args r l
     (near_as some_args_list (some_args_run h) (near_turn (of_kind (sign_code sign_of.Less)) _ (near_kind (sign_code sign_of.Less)) (near_turn _ (of_kind (sign_code sign_of.Greater)) (near_args h) (near_kind (sign_code sign_of.Greater))))) f
-
-pub rest_diamond : (ts r : List Token) (diamond : Bool) (l : ℕ) → diamond_run ts ≡ Found diamond r l → length r ≤ length ts
-rest_diamond ts r diamond l f =
-    rest_of_near diamond_run ts diamond r l
-    (near_as is_there _ (near_perhaps _ (near_turn (of_kind (sign_code sign_of.Less)) (of_kind (sign_code sign_of.Greater)) (near_kind (sign_code sign_of.Less)) (near_kind (sign_code sign_of.Greater))))) f
 
 pub rest_plain : (h : ℕ) (ts r : List Token) (e : Expr) (l : ℕ) → plain_run h (expr_in h) (array_in h) ts ≡ Found e r l → length r ≤ length ts
 rest_plain h ts r e l f = rest_of_near (plain_run h (expr_in h) (array_in h)) ts e r l (near_plain h (expr_in h) (array_in h) (near_expr h) (near_array_of h)) f

@@ -23,6 +23,3 @@ there_at zero (x ∷ xs) n t more e d =
 there_at (suc k) (x ∷ xs) n t more e d =
     let f : (length xs == n) ≡ false = grind (arith, nat_tests) in
     cond-false (length xs == n) (is_touching x) (touched_before xs n) f ∙ there_at k xs n t more (omega arith) d
-
-pub touched_there : (ts back : List Token) (n : ℕ) (t : Token) (more : List Token) → n < length ts → back ≡ drop (length ts - n - 1) ts → back ≡ t ∷ more → touched_before ts n ≡ is_touching t
-touched_there ts back n t more w d e = there_at (length ts - n - 1) ts n t more (omega arith) (sym d ∙ e)

@@ -38,17 +38,5 @@ measured_part part = of_height part (skip_part_height part)
 abbrev pub measured_all : List Expr → Measured (List Expr)
 measured_all list = of_height list (most (map expr_height list))
 
-abbrev pub measured_inits : List Init → Measured (List Init)
-measured_inits list = of_height list (most (map init_height list))
-
 abbrev pub measured_operands : List Operand → Measured (List Operand)
 measured_operands list = of_height list (most (map operand_height list))
-
-abbrev pub measured_skips : List Skip → Measured (List Skip)
-measured_skips list = of_height list (most (map skip_height list))
-
-abbrev pub measured_parts : List SkipPart → Measured (List SkipPart)
-measured_parts list = of_height list (most (map skip_part_height list))
-
-abbrev pub measured_args : List TypeArg → Measured (List TypeArg)
-measured_args list = of_height list (most (map arg_height list))

@@ -122,11 +122,6 @@ abbrev pub of_super : ℕ → MemberTree → Expr
 of_super at (member_of.Field name) = expr_of.SuperField at name
 of_super at (member_of.Call type_args name actuals) = expr_of.SuperCall at type_args name actuals
 
--- without type arguments, as a start has none
-abbrev pub HasNoArgs : MemberTree → Type 0
-HasNoArgs (member_of.Field name) = Unit {0}
-HasNoArgs (member_of.Call type_args name actuals) = type_args ≡ []
-
 -- selectors
 
 abbrev pub index_tree : (Expr × Unit {0}) → SelectorTree

@@ -18,7 +18,7 @@ use crate::resourcing::some_resources;
 use jc_lexer::{Key, Sign, Token};
 use jc_parse_expr::effect_within;
 use jc_parse_parts::{Vars, modifier_within, row, sign, type_within, vars_within, word_at};
-use jc_reading::{Found, Halt};
+use jc_reading::{Found, Halt, without};
 use jc_rules::Items;
 use jc_tree::{ClauseHead, Modifier, Resources, Stmt, TypeTree};
 use std::alloc::Global;
@@ -146,7 +146,8 @@ fn typed_or<'a>(
     if name_stands(rest) {
         return bare_local_of(alloc, ty, ended_vars(alloc, rest, height));
     }
-    reaching(ty.left, ended_effect(alloc, tokens, height))
+    let left = ty.left;
+    reaching(without(ty, left), ended_effect(alloc, tokens, height))
 }
 
 /// Variables without modifiers, or an effect.

@@ -27,7 +27,7 @@ use jc_parse_parts::{
     dims, initial_within, modifier_within, more_vars_within, name, row, separated, sign,
     type_within,
 };
-use jc_reading::{Found, Halt};
+use jc_reading::{Found, Halt, without};
 use jc_rules::Items;
 use jc_tree::{Expr, ForHead, ForInit, LocalVars, Modifier, TypeTree, Var};
 use std::alloc::Global;
@@ -331,7 +331,8 @@ fn for_typed_or<'a>(
     if name_stands(rest) {
         return for_bare_of(alloc, ty, for_name(alloc, rest, height));
     }
-    reaching(ty.left, for_effects(alloc, tokens, height))
+    let left = ty.left;
+    reaching(without(ty, left), for_effects(alloc, tokens, height))
 }
 
 /// A head of variables without modifiers, or one that begins with effects.
