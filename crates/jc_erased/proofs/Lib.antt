@@ -1,0 +1,4 @@
+pub mod SmoothCalls
+pub mod SmoothExpressions
+pub mod SmoothStatements
+pub mod SmoothMeaning

@@ -1,0 +1,134 @@
+-- What an erased program does, by recursion on a depth. Expressions, statements, bodies of methods and initialisations of classes are
+-- nodes, each of which spends a unit as it is entered and another as it is left; a turn of a loop, a byte out or in, a failed check
+-- and an exit spend one. Each level of depth spends one, so that where the depth isn't below the units it never runs out first.
+use Rattle.std.specs.Prelude.{ℕ, zero, suc, Bool, true, false, List, [], ◌∷◌, length, replicate, Option, Some, None, slice_get}
+use Rattle.jc_types.specs.declared.ids.ClassId.{ClassId}
+use Rattle.jc_types.specs.declared.ids.MethodId.{MethodId}
+use Rattle.jc_types.specs.Accessors.{class_count}
+use Rattle.jc_types.specs.declared.erased.Erased.{Erased}
+use Rattle.jc_types.specs.declared.erased.Base.TheVariants as base
+use Rattle.jc_types.specs.Erasing.{plain, raised}
+use Rattle.jc_running.specs.declared.value.Value.{Value}
+use Rattle.jc_running.specs.declared.value.Value.TheVariants.{Address}
+use Rattle.jc_running.specs.declared.seen.Seen.{Seen}
+use Rattle.jc_running.specs.declared.seen.Ending.{Ending}
+use Rattle.jc_running.specs.declared.seen.Ending.TheVariants.{Going as GoesOn, Ended, Threw, Exited as EndedWith}
+use Rattle.jc_running.specs.declared.value.Readiness.TheVariants.{Untouched}
+use Rattle.jc_running.specs.Shows.{nothing_shown}
+use Rattle.jc_running.specs.declared.value.Completion.{Completion}
+use Rattle.jc_running.specs.declared.value.Completion.TheVariants.{Returned}
+use Rattle.jc_running.specs.Outcomes.{Out, Val, Thrown, Exited, Going, Wrong, give, wrong, stop, bind, behind, node}
+use Rattle.jc_heaps.specs.declared.state.Object.{Object}
+use Rattle.jc_heaps.specs.Making.{make, make_string}
+use Rattle.jc_erased.specs.declared.program.ErasedProgram.{ErasedProgram}
+use Rattle.jc_typed.specs.Trees.{Expr, Stmt}
+use Rattle.jc_heaps.specs.Erases.{ErasedState}
+use Rattle.jc_meaning.specs.Programs.{method_class}
+use Rattle.jc_meaning.specs.Meaning.{field_values}
+use Rattle.jc_erased.specs.Programs.{ErasedRun, erased_keeping, body_of}
+use Rattle.jc_erased.specs.Calls.{call_static}
+use Rattle.jc_erased.specs.Expressions.{Inner, expr_act}
+use Rattle.jc_erased.specs.Statements.{run_all, stmt_act}
+use Rattle.jc_erased.specs.Classes.{initialise, ready_by}
+use Rattle.jc_meaning.specs.declared.target.Native.{Native}
+use Rattle.jc_meaning.specs.Natives.{native_of, native_act, name_of}
+
+pub record Meaning : Type 0 where
+  pub expr : Expr → ErasedRun Value
+  pub stmt : Stmt → ErasedRun Completion
+  pub body : MethodId → ErasedRun Completion
+  pub ready : ClassId → ErasedRun (Unit {0})
+
+abbrev pub inner_of : Meaning → Inner
+inner_of r = record { expr = r.expr; body = r.body; ready = r.ready }
+
+-- a body: its statements, or what a native method does
+abbrev pub written_body : ErasedProgram → Meaning → ℕ → Option (List Stmt) → ErasedRun Completion
+written_body P r k None = wrong
+written_body P r k (Some ss) = run_all P (inner_of r) r.stmt k ss
+
+abbrev pub native_or : ErasedProgram → Option Native → ErasedRun Completion → ErasedRun Completion
+native_or P (Some n) other = bind (native_act erased_keeping P.table P.known n) (λ v. give (Returned v))
+native_or P None other = other
+
+abbrev pub body_act : ErasedProgram → Meaning → ℕ → MethodId → ErasedRun Completion
+body_act P r k m = native_or P (native_of P.known.natives m) (written_body P r k (body_of P m))
+
+unfoldable pub meaning : ErasedProgram → ℕ → Meaning
+meaning P zero = record {
+  expr = λ e. stop;
+  stmt = λ t. stop;
+  body = λ m. stop;
+  ready = ready_by P (λ k. stop);
+}
+meaning P (suc d) = let r = meaning P d in record {
+  expr = λ e. node (expr_act P (inner_of r) e);
+  stmt = λ t. node (stmt_act P (inner_of r) r.stmt d t);
+  body = λ m. node (body_act P r d m);
+  ready = ready_by P (λ k. node (initialise P r.body r.ready k));
+}
+
+-- the state as a program begins
+abbrev pub first_state : ErasedProgram → List ℕ → ErasedState
+first_state P input = record {
+  locals = [];
+  frame = tt;
+  heap = [];
+  classes = replicate (class_count P.table) Untouched;
+  statics = field_values P.table 0 (length P.table.fields);
+  strings = [];
+  input = input;
+  shown = nothing_shown;
+  record_of = tt;
+}
+
+-- a static method without parameters: its class is initialised, and its body runs
+abbrev pub run_static : ErasedProgram → MethodId → ℕ → ErasedRun Value
+run_static P m d = behind ((meaning P d).ready (method_class P.table m)) (call_static P (meaning P d).body m [])
+
+-- the strings of a program's arguments, and then their array
+abbrev pub argument_strings : ErasedProgram → List (List ℕ) → ErasedRun (List Value)
+argument_strings P [] = give []
+argument_strings P (text ∷ texts) =
+    bind (make_string erased_keeping P.table P.known text) (λ v. bind (argument_strings P texts) (λ vs. give (v ∷ vs)))
+
+abbrev pub argument_array : ErasedProgram → List Value → ErasedRun ℕ
+argument_array P vs = make (record { kept = raised 1 (plain (base.Class P.known.string)); parts = vs })
+
+-- a main method: its arguments are made, its class is initialised, and its body runs (JLS 12.1)
+abbrev pub run_main : ErasedProgram → MethodId → List (List ℕ) → ℕ → ErasedRun Value
+run_main P m args d =
+    bind (argument_strings P args) (λ vs.
+    bind (argument_array P vs) (λ a.
+    behind ((meaning P d).ready (method_class P.table m)) (call_static P (meaning P d).body m (Address a ∷ []))))
+
+-- A run with n units on an input, as a node of its own: of a static method without parameters, and of a main method with arguments,
+-- each of which is its UTF-16 units
+abbrev pub outcome : ErasedProgram → MethodId → List ℕ → ℕ → Out ErasedState Value
+outcome P m input n = node (run_static P m n) n (first_state P input)
+
+abbrev pub main_outcome : ErasedProgram → MethodId → List (List ℕ) → List ℕ → ℕ → Out ErasedState Value
+main_outcome P m args input n = node (run_main P m args n) n (first_state P input)
+
+abbrev pub class_name : ErasedProgram → Option (Object Erased) → List ℕ
+class_name P None = []
+class_name P (Some o) = name_of P.table o.kept
+
+abbrev pub seen_with : ErasedState → Ending → Seen
+seen_with s ending = record { output = s.shown.output; taken = s.shown.taken; ending = ending }
+
+-- What a run shows; nothing where the program is none that was checked
+abbrev pub seen : ErasedProgram → Out ErasedState Value → Option Seen
+seen P (Val v u s) = Some (seen_with s Ended)
+seen P (Thrown a u s) = Some (seen_with s (Threw (class_name P (slice_get s.heap a))))
+seen P (Exited code s) = Some (seen_with s (EndedWith code))
+seen P (Going s) = Some (seen_with s GoesOn)
+seen P Wrong = None
+
+-- a run that is over: it came to its end, threw, or exited
+abbrev pub is_over : Out ErasedState Value → Bool
+is_over (Val v u s) = true
+is_over (Thrown a u s) = true
+is_over (Exited code s) = true
+is_over (Going s) = false
+is_over Wrong = true

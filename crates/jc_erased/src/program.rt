@@ -1,0 +1,39 @@
+ghost use Rattle.std.specs.Prelude.{◌≡◌};
+ghost use Rattle.jc_typed.specs.Bulk.{capped, method_bulk};
+
+use jc_rules::{Items, Text};
+use jc_typed::{Known, TypedMethod};
+use jc_types::{MethodId, Table};
+
+/// A method that stands in a class under the name and the erased signature of `called`, and leads to `own`: it checks its
+/// arguments where the erasures of the parameters differ, calls by the name and descriptor of `own`, and checks what that gives
+/// where its erasure isn't below that of the result of `called` (JLS 15.12.4.5, JVMS 6.5 invokevirtual).
+#[derive(Clone, Copy, Debug)]
+pub struct Bridge {
+    pub called: MethodId,
+    pub own: MethodId,
+}
+
+/// A method under the name that it has in its class file. Each type in `tree` is its own erasure, no expression captures, and
+/// no call has type arguments.
+#[derive(Drop)]
+pub struct ErasedMethod {
+    pub name: Text,
+    pub tree: TypedMethod,
+}
+
+/// An erased program: `methods` has a method for each one of the table, `bridges` a list for each class.
+#[derive(Drop)]
+pub struct ErasedProgram {
+    pub table: Table,
+    pub known: Known,
+    pub methods: Items<ErasedMethod>,
+    pub bridges: Items<Items<Bridge>>,
+}
+
+/// What a method weighs, which bounds the size of its code. The greatest u64 where it is more.
+pub fn bulk(method: &ErasedMethod) -> u64
+    ensures { result ≡ capped (method_bulk method.now.tree) }
+{
+    jc_typed::bulk(&method.tree)
+}

@@ -1,5 +1,0 @@
-//! Tests of `jc_machine`, apart from it: a crate with tests is proved twice.
-#![tactic(auto)]
-
-#[cfg(test)]
-mod tests;
