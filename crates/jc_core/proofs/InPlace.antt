@@ -1,14 +1,14 @@
 -- Steps in place are steps.
-use Rattle.std.proofs.Common.{◌≡◌, ◌∙◌, ℕ, List, sym}
+use Rattle.std.proofs.Common.{◌≡◌, ◌∙◌, List, sym}
 use Rattle.std.specs.Prelude.{MatchOption}
 use Rattle.std.specs.declared.option.Option.{Option}
 use Rattle.std.specs.declared.option.Option.TheVariants.{Some, None}
 use Rattle.jc_class_out.specs.declared.model.ClassModel.{ClassModel}
-use Rattle.jc_jvm.specs.Calls.{Step, acts}
+use Rattle.jc_jvm.specs.Calls.{acts}
 use Rattle.jc_jvm.specs.Classes.{placed_at}
 use Rattle.jc_jvm.specs.Objects.{Act_in}
 use Rattle.jc_jvm.specs.Table.{step_of}
-use Rattle.jc_jvm.specs.Thrown.{State, Going}
+use Rattle.jc_jvm.specs.Thrown.{Going}
 use Rattle.jc_jvm.specs.declared.frame.Frame.{Frame}
 use Rattle.jc_jvm.specs.declared.frame.Waiting.{Waiting}
 use Rattle.jc_jvm.specs.declared.world.World.{World}

@@ -1,8 +1,7 @@
 -- Runs, one step after the other.
-use Rattle.std.proofs.Common.{◌≡◌, ◌<◌, ◌≤◌, ◌+◌, ◌-◌, ◌∙◌, ◌++◌, ◌∷◌, [], ℕ, zero, suc, List, length, drop, get_or, refl, sym, ap, subst, arith, append_assoc, true}
+use Rattle.std.proofs.Common.{◌≡◌, ◌<◌, ◌+◌, ◌-◌, ◌∙◌, ◌++◌, ◌∷◌, [], ℕ, zero, suc, List, drop, refl, sym, ap, subst, arith, append_assoc, true}
 use Rattle.std.specs.Prelude.{is_some, slice_get}
-use Rattle.std.proofs.lemmas.List.{append-nil, drop_all}
-use Rattle.std.proofs.Math.Seq.{drop-cons}
+use Rattle.std.proofs.lemmas.List.{append-nil}
 use Rattle.std.specs.declared.option.Option.{Option}
 use Rattle.std.specs.declared.option.Option.TheVariants.{Some, None}
 use Rattle.jc_class_out.specs.declared.model.ClassModel.{ClassModel}

@@ -1,4 +1,4 @@
-use Rattle.std.proofs.Common.{◌≡◌, ◌∙◌, ◌-◌, arith}
+use Rattle.std.proofs.Common.{◌∙◌, ◌-◌, arith}
 use Rattle.jc_jvm.specs.Thrown.{Going}
 use Rattle.jc_core.proofs.Runs.{run_quiet}
 use Rattle.jc_core.proofs.in_place.advance.Goals as goal
