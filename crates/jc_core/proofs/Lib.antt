@@ -1,3 +1,4 @@
+pub mod InPlace
 pub mod Placed
 pub mod Runs
 pub mod Strings

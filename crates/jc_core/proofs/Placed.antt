@@ -1,11 +1,11 @@
 -- A step of a frame is that of the row at its place.
-use Rattle.std.proofs.Common.{◌≡◌, ◌∙◌, ℕ, List, refl, sym, ap}
+use Rattle.std.proofs.Common.{◌≡◌, ◌∙◌, ℕ, List, refl, ap}
 use Rattle.std.specs.Option.{option_map}
 use Rattle.std.specs.declared.option.Option.{Option}
 use Rattle.std.specs.declared.option.Option.TheVariants.{Some, None}
 use Rattle.jc_class_out.specs.declared.model.ClassModel.{ClassModel}
 use Rattle.jc_class_out.specs.declared.model.Ins.{Ins}
-use Rattle.jc_jvm.specs.Calls.{Step, stuck}
+use Rattle.jc_jvm.specs.Calls.{stuck}
 use Rattle.jc_jvm.specs.Table.{placed_row}
 use Rattle.jc_jvm.specs.declared.frame.Frame.{Frame}
 use Rattle.jc_jvm.specs.declared.frame.Waiting.{Waiting}

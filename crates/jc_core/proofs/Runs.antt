@@ -1,8 +1,7 @@
 -- Runs, one step after the other.
-use Rattle.std.proofs.Common.{◌≡◌, ◌<◌, ◌≤◌, ◌+◌, ◌-◌, ◌∙◌, ◌++◌, ◌∷◌, [], ℕ, zero, suc, List, length, drop, get_or, refl, sym, ap, subst, arith, append_assoc, true}
+use Rattle.std.proofs.Common.{◌≡◌, ◌<◌, ◌+◌, ◌-◌, ◌∙◌, ◌++◌, ◌∷◌, [], ℕ, zero, suc, List, drop, refl, sym, ap, subst, arith, append_assoc, true}
 use Rattle.std.specs.Prelude.{is_some, slice_get}
-use Rattle.std.proofs.lemmas.List.{append-nil, drop_all}
-use Rattle.std.proofs.Math.Seq.{drop-cons}
+use Rattle.std.proofs.lemmas.List.{append-nil}
 use Rattle.std.specs.declared.option.Option.{Option}
 use Rattle.std.specs.declared.option.Option.TheVariants.{Some, None}
 use Rattle.jc_class_out.specs.declared.model.ClassModel.{ClassModel}
@@ -37,6 +36,10 @@ pub run_went : (classes : List ClassModel) (out input : List ℕ) (taken n i : �
     ahead out taken (told (run_of classes (n - i) s input)) ≡ whole → ahead out taken (told (run_of classes (n - (i + 1)) after input)) ≡ whole
 run_went classes out input taken n i s after whole below is so =
     ap (λ (t : Told). ahead out taken t) (sym (told-suc classes (n - (i + 1)) (n - i) s input (Moves Quiet after) (omega arith) is)) ∙ so
+
+-- a run whose first step shows nothing
+pub run_quiet : (classes : List ClassModel) (n m : ℕ) (s after : State) (input : List ℕ) → m ≡ suc n → step_of classes s ≡ Moves Quiet after → told (run_of classes m s input) ≡ told (run_of classes n after input)
+run_quiet classes n m s after input at is = told-suc classes n m s input (Moves Quiet after) at is
 
 -- a byte goes out
 pub run_put : (classes : List ClassModel) (out more input : List ℕ) (taken n i byte : ℕ) (s after : State) (whole : Told) → i < n → step_of classes s ≡ Moves (Puts byte) after → more ≡ out ++ byte ∷ [] →

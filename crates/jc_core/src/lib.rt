@@ -1,6 +1,7 @@
 //! The Java Virtual Machine (JVMS SE 7): a machine that runs classes.
 #![tactic(auto)]
 
+mod in_place;
 mod machine;
 mod run;
 mod start;

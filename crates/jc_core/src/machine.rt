@@ -1,11 +1,16 @@
-ghost use Rattle.std.specs.Prelude.{◌≡◌, IfOk, OnOk};
+ghost use Rattle.std.specs.Prelude.{◌≡◌, ◌≤◌, ℕ, List, IfOk, OnOk, OnErr, IsTrue};
+ghost use Rattle.jc_jvm.specs.Runs.{run_of};
+ghost use Rattle.jc_core.specs.Memory.{placed_takes, step_takes};
+ghost use Rattle.jc_core.specs.Ran.{told};
 ghost use Rattle.jc_jvm.specs.Calls.{byte_read};
 ghost use Rattle.jc_jvm.specs.Classes.{placed_at};
 ghost use Rattle.jc_jvm.specs.Table.{placed_row, step_of};
+ghost use Rattle.jc_rows.specs.Laid.{row_at};
 ghost use Rattle.jc_stepping.specs.Done.{step_done};
 ghost use Rattle.jc_waiting.specs.Onwards.{state_of};
 ghost use Rattle.jc_core.specs.States.{classes_of, state_in, answered, step_told};
 
+use crate::in_place::advance;
 use jc_jvm::{Ending, Frame, Value, Waiting, World};
 use jc_plain::push;
 use jc_rows::Program;
@@ -44,7 +49,8 @@ fn step_frame(
     world: &mut World,
     waiting: &mut Stack<Waiting>,
 ) -> Result<Did, WantOfMemory>
-    ensures { IfOk result (λ did. placed_row program.now world.old now waiting.old (placed_at program.now now.class now.method now.at) ≡ step_done program.now did world.new waiting.new) }
+    ensures step { IfOk result (λ did. placed_row program.now world.old now waiting.old (placed_at program.now now.class now.method now.at) ≡ step_done program.now did world.new waiting.new) }
+    ensures memory { OnErr result (IsTrue (placed_takes program.now world.old now (row_at program.now now.class now.method now.at))) }
 {
     match program.placed(now.class, now.method, now.at) {
         Some(placed) => step_row(
@@ -67,7 +73,8 @@ fn step_on(
     world: &mut World,
     waiting: &mut Stack<Waiting>,
 ) -> Result<Did, WantOfMemory>
-    ensures { IfOk result (λ did. step_of program.now (state_of on world.old waiting.old) ≡ step_done program.now did world.new waiting.new) }
+    ensures step { IfOk result (λ did. step_of program.now (state_of on world.old waiting.old) ≡ step_done program.now did world.new waiting.new) }
+    ensures memory { OnErr result (IsTrue (step_takes program.now (state_of on world.old waiting.old))) }
 {
     match on {
         Onward::Runs(now) => step_frame(alloc, program, now, world, waiting),
@@ -133,10 +140,38 @@ impl Core {
         }
     }
 
+    /// So many steps at most that run no other code and make nothing, and how many are left. After want of memory the machine is to be dropped.
+    pub fn advance(&mut self, most: u64) -> Result<u64, WantOfMemory>
+        ensures classes { classes_of self.new ≡ classes_of self.old }
+        ensures fewer { IfOk result (λ left. left ≤ most) }
+        ensures run { IfOk result (λ left. (input : List ℕ) → told (run_of (classes_of self.old) most (state_in self.old) input) ≡ told (run_of (classes_of self.old) left (state_in self.new) input)) }
+    {
+        match self.take_on() {
+            Onward::Runs(frame) => {
+                let mut now = frame;
+                let done = advance(&self.program, most, &mut now, &mut self.world);
+                self.on = settle(
+                    self.alloc,
+                    self.program.classes(),
+                    done.act,
+                    now,
+                    &mut self.world,
+                    &mut self.waiting,
+                )?;
+                Ok(done.left)
+            }
+            Onward::Ends(ending) => {
+                self.on = Onward::Ends(ending);
+                Ok(most)
+            }
+        }
+    }
+
     /// One step of the instruction table. A machine that is over stays so. Where the step asks for a byte, the machine waits for
-    /// `answer`. After want of memory it is to be dropped.
+    /// `answer`. After want of memory it is to be dropped. A step in place takes no memory unless it throws.
     pub fn step(&mut self) -> Result<Stepped, WantOfMemory>
         ensures classes { classes_of self.new ≡ classes_of self.old }
+        ensures memory { OnErr result (IsTrue (step_takes (classes_of self.old) (state_in self.old))) }
         ensures step { IfOk result (λ stepped. step_of (classes_of self.old) (state_in self.old) ≡ step_told (classes_of self.old) stepped (state_in self.new)) }
     {
         let on = self.take_on();

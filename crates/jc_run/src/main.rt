@@ -113,6 +113,7 @@ fn run<K: Keys, O: Paper>(
     out: &mut O,
 ) -> Result<&'static str, WantOfMemory> {
     for steps in 0..u64::MAX {
+        let _left = core.advance(u64::MAX)?;
         match core.step()? {
             Stepped::Byte(byte) => {
                 pending.push(byte)?;

@@ -3,7 +3,7 @@ use Rattle.std.proofs.Common.{◌≡◌, ◌∙◌, [], ◌∷◌, ℕ, List, re
 use Rattle.std.specs.declared.option.Option.{Option}
 use Rattle.std.specs.declared.option.Option.TheVariants.{Some, None}
 use Rattle.jc_class_out.specs.declared.model.ClassModel.{ClassModel}
-use Rattle.jc_jvm.specs.Calls.{Step, named, name_made, native_call, native_at, entered, called_by, called, selecting_class, called_virtually, called_specially, called_statically, arguments_of}
+use Rattle.jc_jvm.specs.Calls.{named, name_made, native_call, native_at, entered, called_by, called, selecting_class, called_virtually, called_specially, called_statically, arguments_of}
 use Rattle.jc_jvm.specs.Classes.{selected}
 use Rattle.jc_jvm.specs.Frames.{with_values, frame_of}
 use Rattle.jc_jvm.specs.Stacked.{Stacked}

@@ -1,10 +1,11 @@
 // What an instruction that runs no other code does to the machine.
-ghost use Rattle.std.specs.Prelude.{◌≡◌, ◌∷◌, IfOk};
+ghost use Rattle.std.specs.Prelude.{◌≡◌, ◌∷◌, IfOk, OnErr, IsTrue};
 ghost use Rattle.jc_jvm.specs.Calls.{Moves, Quiet, acts, null_pointer as null_pointer_step};
 ghost use Rattle.jc_jvm.specs.Table.{throws_top};
 ghost use Rattle.jc_jvm.specs.Thrown.{thrown};
 ghost use Rattle.jc_plain.specs.Acted.{acted};
 ghost use Rattle.jc_stepping.specs.Done.{step_done};
+ghost use Rattle.jc_waiting.specs.Memory.{act_takes};
 
 use crate::Did;
 use jc_heap::Classes;
@@ -30,7 +31,8 @@ pub fn go_on(
     world: &mut World,
     waiting: &mut Stack<Waiting>,
 ) -> Result<Did, WantOfMemory>
-    ensures { IfOk result (λ did. acts classes.now waiting.old (world.old, acted act now) ≡ step_done classes.now did world.new waiting.new) }
+    ensures step { IfOk result (λ did. acts classes.now waiting.old (world.old, acted act now) ≡ step_done classes.now did world.new waiting.new) }
+    ensures memory { OnErr result (IsTrue (act_takes (acted act now))) }
 {
     let on = settle(alloc, classes, act, now, world, waiting)?;
     Ok(Did::Moves(on))

@@ -59,7 +59,8 @@ pub fn load_static(
     }
 }
 
-fn keep_static(
+/// The topmost value into a static field.
+pub fn keep_static(
     sort: Sort,
     class: u64,
     field: u64,

@@ -5,10 +5,12 @@ mod act;
 mod calls;
 mod did;
 mod fields;
+mod in_place;
 mod natives;
 mod returns;
 mod rows;
 mod switches;
 
 pub use did::Did;
+pub use in_place::act_in_place;
 pub use rows::step_row;

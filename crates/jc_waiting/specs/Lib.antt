@@ -1,2 +1,3 @@
 pub mod Onwards
 pub mod Readying
+pub mod Memory

@@ -1,6 +1,7 @@
-ghost use Rattle.std.specs.Prelude.{◌≡◌, IfOk};
+ghost use Rattle.std.specs.Prelude.{◌≡◌, IfOk, OnErr, IsTrue};
 ghost use Rattle.jc_jvm.specs.Calls.{settled, returned_to};
 ghost use Rattle.jc_plain.specs.Acted.{acted};
+ghost use Rattle.jc_waiting.specs.Memory.{act_takes};
 ghost use Rattle.jc_waiting.specs.Onwards.{state_of};
 
 use crate::{Onward, Stack, throw_fault_among};
@@ -27,7 +28,8 @@ pub fn settle(
     world: &mut World,
     waiting: &mut Stack<Waiting>,
 ) -> Result<Onward, WantOfMemory>
-    ensures { IfOk result (λ on. settled classes.now world.old waiting.old (acted act now) ≡ state_of on world.new waiting.new) }
+    ensures state { IfOk result (λ on. settled classes.now world.old waiting.old (acted act now) ≡ state_of on world.new waiting.new) }
+    ensures memory { OnErr result (IsTrue (act_takes (acted act now))) }
 {
     match act {
         Act::Goes(next) => Ok(Onward::Runs(run_at(next, now))),

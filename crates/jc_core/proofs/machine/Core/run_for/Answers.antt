@@ -1,9 +1,7 @@
-use Rattle.std.proofs.Common.{◌≡◌, ◌∙◌, ◌-◌, ◌+◌, List, ℕ, drop, sym, ap, arith}
+use Rattle.std.proofs.Common.{◌≡◌, ◌∙◌, ◌-◌, List, drop, sym, ap, arith}
 use Rattle.std.specs.Prelude.{slice_get}
-use Rattle.std.specs.declared.option.Option.{Option}
 use Rattle.std.specs.declared.option.Option.TheVariants.{Some, None}
 use Rattle.jc_class_out.specs.declared.model.ClassModel.{ClassModel}
-use Rattle.jc_jvm.specs.Table.{step_of}
 use Rattle.jc_core.specs.States.{classes_of, state_in, answered, step_told}
 use Rattle.jc_core.specs.declared.machine.Stepped.{Stepped}
 use Rattle.jc_core.proofs.Runs.{run_went, run_put, run_end, run_read, run_done, run_ended, step_by}

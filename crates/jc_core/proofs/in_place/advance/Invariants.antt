@@ -1,0 +1,16 @@
+use Rattle.std.proofs.Common.{◌≡◌, ◌≤◌, ℕ, List}
+use Rattle.jc_jvm.specs.Runs.{run_of}
+use Rattle.jc_jvm.specs.Thrown.{Going}
+use Rattle.jc_jvm.specs.declared.frame.Waiting.{Waiting}
+use Rattle.jc_core.specs.Ran.{told}
+use Rattle.jc_core.proofs.in_place.advance.Given as goal
+
+-- what is left is the whole run
+abbrev pub invariant-steps : goal.invariant-steps
+invariant-steps l = record {
+  fewer : l.left ≤ l.most;
+  run : (waiting : List Waiting) (input : List ℕ) → told (run_of l.program l.most (Going l.initial.world l.initial.now waiting) input) ≡ told (run_of l.program l.left (Going l.world l.now waiting) input);
+}
+
+abbrev pub decreases-steps : goal.decreases-steps
+decreases-steps l = l.left
