@@ -13,13 +13,13 @@ use Rattle.jc_table_laws.specs.Chains.{EndsAtUnit, here, outwards}
 use Rattle.jc_table_laws.proofs.Leading.{Leads, at_unit, further, AllLead, all_lead}
 use Rattle.jc_table_laws.proofs.Edges.{head_at}
 
-made_at : {X Y : Type 0} (f : ℕ → X → Y) (i : ℕ) (xs : List X) (a : ℕ) (x : X) → slice_get xs a ≡ Some x → slice_get (numbered f i xs) a ≡ Some (f (i + a) x)
+pub made_at : {X Y : Type 0} (f : ℕ → X → Y) (i : ℕ) (xs : List X) (a : ℕ) (x : X) → slice_get xs a ≡ Some x → slice_get (numbered f i xs) a ≡ Some (f (i + a) x)
 made_at f i [] zero x e = cc
 made_at f i [] (suc a) x e = cc
 made_at f i (y ∷ xs) zero x e = let g : y ≡ x = cc in ap (λ z. Some (f i z)) g ∙ ap (λ n. Some (f n x)) (let z : i ≡ i + 0 = omega arith in z)
 made_at f i (y ∷ xs) (suc a) x e = made_at f (suc i) xs a x e ∙ ap (λ n. Some (f n x)) (let z : suc i + a ≡ i + suc a = omega arith in z)
 
-from_at : {X Y : Type 0} (f : ℕ → X → Y) (i : ℕ) (xs : List X) (a : ℕ) (y : Y) → slice_get (numbered f i xs) a ≡ Some y → (x : X) × (slice_get xs a ≡ Some x) × (f (i + a) x ≡ y)
+pub from_at : {X Y : Type 0} (f : ℕ → X → Y) (i : ℕ) (xs : List X) (a : ℕ) (y : Y) → slice_get (numbered f i xs) a ≡ Some y → (x : X) × (slice_get xs a ≡ Some x) × (f (i + a) x ≡ y)
 from_at f i [] zero y e = absurd (let n : ⊥ = cc in n)
 from_at f i [] (suc a) y e = absurd (let n : ⊥ = cc in n)
 from_at f i (x ∷ xs) zero y e = (x, refl, ap (λ n. f n x) (let z : i + 0 ≡ i = omega arith in z) ∙ (let g : f i x ≡ y = cc in g))

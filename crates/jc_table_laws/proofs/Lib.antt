@@ -1,6 +1,9 @@
 pub mod Acyclic
+pub mod AllInside
 pub mod Chains
 pub mod Edges
 pub mod Indexed
 pub mod Leading
 pub mod Meant
+pub mod Ranges
+pub mod TypesInside
