@@ -36,7 +36,7 @@ class Fld:
 
 class Meth:
     def __init__(self, cls, name, kind, static, params, result, body, native):
-        self.cls, self.name, self.kind, self.static, self.params, self.result, self.body, self.native = cls, name, kind, static, params, result, body, native
+        self.cls, self.name, self.kind, self.static, self.params, self.result, self.body, self.native, self.private = cls, name, kind, static, params, result, body, native, False
 
 
 class Parser:
@@ -109,7 +109,7 @@ class Parser:
             ps = self.params()
             while self.peek() not in ('{', ';'): self.take()
             body = None if self.got(';') else self.block()
-            c.methods.append(Meth(c, name, 'm', 'static' in m, ps, ty, body, 'native' in m)); return
+            c.methods.append(Meth(c, name, 'm', 'static' in m, ps, ty, body, 'native' in m)); c.methods[-1].private = 'private' in m; return
         while True:
             init = None
             if self.got('='): init = self.array_init(ty) if self.peek() == '{' else self.expr()
@@ -432,6 +432,9 @@ class Body:
             f = self.P.field(self.c.name, x[1]); return self.field_const(f) if f else None
         if k == 'get' and x[1][0] == 'name' and x[1][1] in self.P.by and not self.find(x[1][1]):
             f = self.P.field(x[1][1], x[2]); return self.field_const(f) if f else None
+        if k == 'bin' and x[1] == '+':
+            a, b = self.const(x[2]), self.const(x[3])
+            if a and b and a[0] == b[0] and a[0] in ('String', 'int'): return (a[0], a[1] + b[1])
         return None
 
     def field_const(self, f):
@@ -535,7 +538,8 @@ class Body:
         test = self.to(c, 'boolean')
         aat, s = self.expr(a); bat, t = self.expr(b)
         if s in PRIMS and t in PRIMS or s in BOX and t in PRIMS or s in PRIMS and t in BOX:
-            p = 'boolean' if self.unboxed(s) == 'boolean' else s if s == t else self.both(s, t)
+            x, y = self.const(a), self.const(b)
+            p = self.unboxed(s) if self.unboxed(s) == self.unboxed(t) else 'char' if (s, t) == ('char', 'int') and y or (s, t) == ('int', 'char') and x else self.both(s, t)
         elif s == 'null': p = t
         elif t == 'null' or self.P.below(t, s): p = s
         elif self.P.below(s, t): p = t
@@ -597,7 +601,7 @@ class Body:
         if of is None:
             m = self.P.select(self.c.name, n, ts)
             r = self.empty('operands') if m.static else self.operands([self.op(self.e('this', self.c.name))])
-            kind = 'static' if m.static else 'virtual'
+            kind = 'static' if m.static else 'direct' if m.private else 'virtual'
         elif of == ('super',):
             m = self.P.select(self.c.sup, n, ts); r = self.operands([self.op(self.e('this'))]); kind = 'direct'
         elif self.is_class(of):

@@ -1,0 +1,7 @@
+class T { int f = 3; static int s = 10; T self() { System.out.println("self"); return this; } }
+class Main {
+  static int i = 0; static int[] a = {10, 20, 30, 40}; static int[] array() { System.out.println("array"); return a; } static int at(int k) { System.out.println("at " + k); return k; }
+  public static void main(String[] args) {
+    int x, y, z; x = y = z = 4; System.out.println(x + y + z); x = x++ + ++x; System.out.println(x); x += x++ * 2 + x; System.out.println(x); y -= y = 3; System.out.println(y); y = 5; y = y-- - --y; System.out.println(y); array()[at(1)] += at(5); System.out.println(a[1]); a[i] = i = 2; System.out.println(a[0] + " " + i); a[i++] += i; System.out.println(a[2] + " " + i); a[i] = a[i = 1] + i; System.out.println(a[3] + " " + i); T t = new T(); t.self().f *= at(4); System.out.println(t.f); System.out.println(t.self().f++ + t.self().f); T.s += T.s = 3; System.out.println(T.s); System.out.println(--T.s + T.s--); System.out.println(T.s); int k = 1; k = k + (k = 10) * k; System.out.println(k); long l = 1; l += l = 5; l <<= k; System.out.println(l); boolean b = false; if (b = true) System.out.println("set"); int[] old = a; a[at(0)] = (a = new int[1]).length; System.out.println(old[0] + " " + a[0]); int[] c = {0, 0}; int j = 0; c[j] = j = 1; c[j] += ++j + j--; System.out.println(c[0] + " " + c[1] + " " + j); System.out.println((x = 3) + x); final int w; w = 6; System.out.println(w);
+  }
+}
