@@ -1,0 +1,4 @@
+pub mod Behind
+pub mod CastLayers
+pub mod FormsByParts
+pub mod Named
