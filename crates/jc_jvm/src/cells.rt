@@ -44,6 +44,7 @@ fn is_small(cell: &Cell) -> bool
     }
 }
 
+#[inline(always)]
 fn write(cell: &mut Cell, slot: usize, value: Value) -> bool
     ensures cell { cell.new ≡ cell_with slot value cell.old }
     ensures there { result ≡ nat_lt slot (length (slots_of cell.old)) }
@@ -54,6 +55,7 @@ fn write(cell: &mut Cell, slot: usize, value: Value) -> bool
     }
 }
 
+#[inline(always)]
 fn set_in(cells: &mut Vec<Cell>, at: usize, slot: usize, value: Value) -> bool
     ensures cells { cells.new.items ≡ heap_with cells.old.items at slot value }
     ensures there { result ≡ has_slot cells.old.items at slot }
@@ -80,6 +82,7 @@ impl Cells {
         self.cells.len()
     }
 
+    #[inline(always)]
     pub fn get(&self, at: u64) -> Option<&Cell>
         ensures cell { option_copied result ≡ slice_get self.now at }
         ensures small { IfSome result (λ cell. IsSmall cell.now) }
@@ -100,6 +103,7 @@ impl Cells {
     }
 
     /// Puts a value into a slot of an object or an element of an array, and tells whether there is such a place.
+    #[inline(always)]
     pub fn set(&mut self, at: u64, slot: usize, value: Value) -> bool
         ensures cells { self.new ≡ heap_with self.old at slot value }
         ensures there { result ≡ has_slot self.old at slot }

@@ -35,6 +35,7 @@ pub enum Sort {
 }
 
 /// The sort of a value.
+#[inline(always)]
 pub fn sort_of(value: Value) -> Sort
     ensures { result ≡ sort_of_value value }
 {
@@ -45,6 +46,7 @@ pub fn sort_of(value: Value) -> Sort
     }
 }
 
+#[inline(always)]
 fn units(value: Value) -> usize
     ensures { result ≡ units_of value }
 {
@@ -68,6 +70,7 @@ impl Operands {
 
     #[tactic(auto, using(crate::proofs::Units::length_le_units))]
     /// Puts a value on top, and tells whether there was room for it.
+    #[inline(always)]
     pub fn push(&mut self, value: Value) -> bool
         ensures { MatchBool result (pushed self.old value ≡ Some self.new) ((pushed self.old value ≡ None) × (self.new ≡ self.old)) }
     {
@@ -82,6 +85,7 @@ impl Operands {
 
     #[tactic(auto, using(crate::proofs::Units::length_le_units))]
     /// Takes the value on top.
+    #[inline(always)]
     pub fn pop(&mut self) -> Option<Value>
         ensures limit { self.new.limit ≡ self.old.limit }
         ensures room { units_in self.old.values ≤ self.old.limit }
@@ -100,6 +104,7 @@ impl Operands {
     }
 
     /// Takes all values away.
+    #[inline(always)]
     pub fn clear(&mut self)
         ensures { self.new ≡ record self.old { values = [] } }
     {

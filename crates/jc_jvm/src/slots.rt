@@ -32,6 +32,7 @@ impl<T> Slots<T> {
         self.items.as_slice()
     }
 
+    #[inline(always)]
     pub fn len(&self) -> usize
         ensures { result ≡ length self.now }
     {
@@ -40,6 +41,7 @@ impl<T> Slots<T> {
 }
 
 impl<T: Copy> Slots<T> {
+    #[inline(always)]
     pub fn get(&self, at: usize) -> Option<T>
         ensures { result ≡ slice_get self.now at }
     {
@@ -47,6 +49,7 @@ impl<T: Copy> Slots<T> {
     }
 
     /// Puts a value into a slot, and tells whether there is such a slot.
+    #[inline(always)]
     pub fn set(&mut self, at: usize, item: T) -> bool
         ensures slots { self.new ≡ slice_set self.old at item }
         ensures there { result ≡ nat_lt at (length self.old) }

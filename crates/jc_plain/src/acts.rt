@@ -16,6 +16,7 @@ pub enum Act {
 }
 
 /// The exception comes up in the frame.
+#[inline(always)]
 pub fn throw_in(fault: Fault, now: &mut Frame) -> Act
     ensures { throws fault now.old ≡ acted result now.new }
 {
@@ -24,6 +25,7 @@ pub fn throw_in(fault: Fault, now: &mut Frame) -> Act
 }
 
 /// A value onto the stack, where there is room for it.
+#[inline(always)]
 pub fn push(next: u32, now: &mut Frame, value: Value) -> Act
     ensures { pushes next now.old now.old.stack.values value ≡ acted result now.new }
 {

@@ -9,6 +9,7 @@ use crate::numbers::{
 use crate::{Act, push, throw_in};
 use jc_jvm::{Division, Fault, Frame, IntConversion, LongConversion, Operator, Shift, Value};
 
+#[inline(always)]
 pub fn calculate_int(how: Operator, next: u32, now: &mut Frame) -> Act
     ensures { int_pairs how next now.old now.old.stack.values ≡ acted result now.new }
 {
@@ -20,6 +21,7 @@ pub fn calculate_int(how: Operator, next: u32, now: &mut Frame) -> Act
     }
 }
 
+#[inline(always)]
 pub fn calculate_long(how: Operator, next: u32, now: &mut Frame) -> Act
     ensures { long_pairs how next now.old now.old.stack.values ≡ acted result now.new }
 {
@@ -31,6 +33,7 @@ pub fn calculate_long(how: Operator, next: u32, now: &mut Frame) -> Act
     }
 }
 
+#[inline(always)]
 pub fn shift_int(how: Shift, next: u32, now: &mut Frame) -> Act
     ensures { int_shifts how next now.old now.old.stack.values ≡ acted result now.new }
 {
@@ -42,6 +45,7 @@ pub fn shift_int(how: Shift, next: u32, now: &mut Frame) -> Act
     }
 }
 
+#[inline(always)]
 pub fn shift_long(how: Shift, next: u32, now: &mut Frame) -> Act
     ensures { long_shifts how next now.old now.old.stack.values ≡ acted result now.new }
 {
@@ -83,6 +87,7 @@ pub fn divide_long(how: Division, next: u32, now: &mut Frame) -> Act
     }
 }
 
+#[inline(always)]
 pub fn convert_int(how: IntConversion, next: u32, now: &mut Frame) -> Act
     ensures { of_ints how next now.old now.old.stack.values ≡ acted result now.new }
 {
@@ -92,6 +97,7 @@ pub fn convert_int(how: IntConversion, next: u32, now: &mut Frame) -> Act
     }
 }
 
+#[inline(always)]
 pub fn convert_long(how: LongConversion, next: u32, now: &mut Frame) -> Act
     ensures { of_longs how next now.old now.old.stack.values ≡ acted result now.new }
 {
@@ -101,6 +107,7 @@ pub fn convert_long(how: LongConversion, next: u32, now: &mut Frame) -> Act
     }
 }
 
+#[inline(always)]
 pub fn compare_longs(next: u32, now: &mut Frame) -> Act
     ensures { comparisons next now.old now.old.stack.values ≡ acted result now.new }
 {

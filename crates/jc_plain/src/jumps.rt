@@ -7,6 +7,7 @@ use crate::Act;
 use crate::numbers::passes;
 use jc_jvm::{Comparison, Frame, Value};
 
+#[inline(always)]
 fn target(test: bool, to: u32, next: u32) -> u32
     ensures { result ≡ (if test then to else next) }
 {
@@ -14,6 +15,7 @@ fn target(test: bool, to: u32, next: u32) -> u32
 }
 
 /// By a test of an int against zero.
+#[inline(always)]
 pub fn jump_by_int(test: Comparison, to: u32, next: u32, now: &mut Frame) -> Act
     ensures { int_jumps test to next now.old now.old.stack.values ≡ acted result now.new }
 {
@@ -24,6 +26,7 @@ pub fn jump_by_int(test: Comparison, to: u32, next: u32, now: &mut Frame) -> Act
 }
 
 /// By a test of two ints.
+#[inline(always)]
 pub fn jump_by_ints(test: Comparison, to: u32, next: u32, now: &mut Frame) -> Act
     ensures { int_pair_jumps test to next now.old now.old.stack.values ≡ acted result now.new }
 {
@@ -35,6 +38,7 @@ pub fn jump_by_ints(test: Comparison, to: u32, next: u32, now: &mut Frame) -> Ac
     }
 }
 
+#[inline(always)]
 fn are_same(a: Value, b: Value) -> Option<bool>
     ensures { result ≡ same_reference a b }
 {
@@ -48,6 +52,7 @@ fn are_same(a: Value, b: Value) -> Option<bool>
     }
 }
 
+#[inline(always)]
 fn is_no_object(value: Value) -> Option<bool>
     ensures { result ≡ is_null value }
 {
@@ -58,12 +63,14 @@ fn is_no_object(value: Value) -> Option<bool>
     }
 }
 
+#[inline(always)]
 fn turn(other: bool, test: bool) -> bool
     ensures { result ≡ turned other test }
 {
     if other { !test } else { test }
 }
 
+#[inline(always)]
 fn jump_by_test(other: bool, test: Option<bool>, to: u32, next: u32, now: &mut Frame) -> Act
     ensures { reference_jumps other to next now.old now.old.stack.values test ≡ acted result now.new }
 {
@@ -74,6 +81,7 @@ fn jump_by_test(other: bool, test: Option<bool>, to: u32, next: u32, now: &mut F
 }
 
 /// Where two references are the same, or where they are not.
+#[inline(always)]
 pub fn jump_by_references(other: bool, to: u32, next: u32, now: &mut Frame) -> Act
     ensures { pair_jumps other to next now.old now.old.stack.values ≡ acted result now.new }
 {
@@ -84,6 +92,7 @@ pub fn jump_by_references(other: bool, to: u32, next: u32, now: &mut Frame) -> A
 }
 
 /// Where a reference is null, or where it is not.
+#[inline(always)]
 pub fn jump_by_null(other: bool, to: u32, next: u32, now: &mut Frame) -> Act
     ensures { null_jumps other to next now.old now.old.stack.values ≡ acted result now.new }
 {

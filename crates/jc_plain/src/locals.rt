@@ -8,6 +8,7 @@ use crate::{Act, push};
 use jc_jvm::{Frame, Slots, Sort, Value};
 
 /// Whether a value is of a sort.
+#[inline(always)]
 pub fn is_of_sort(sort: Sort, value: Value) -> bool
     ensures { result ≡ sort_fits sort value }
 {
@@ -20,6 +21,7 @@ pub fn is_of_sort(sort: Sort, value: Value) -> bool
     }
 }
 
+#[inline(always)]
 fn of_sort(sort: Sort, local: Option<Option<Value>>) -> Option<Value>
     ensures { result ≡ local_of_sort sort local }
 {
@@ -35,6 +37,7 @@ fn of_sort(sort: Sort, local: Option<Option<Value>>) -> Option<Value>
     }
 }
 
+#[inline(always)]
 fn give(next: u32, now: &mut Frame, value: Option<Value>) -> Act
     ensures { gives next now.old now.old.stack.values value ≡ acted result now.new }
 {
@@ -45,6 +48,7 @@ fn give(next: u32, now: &mut Frame, value: Option<Value>) -> Act
 }
 
 /// A local variable onto the stack.
+#[inline(always)]
 pub fn load(sort: Sort, local: u16, next: u32, now: &mut Frame) -> Act
     ensures { loads sort local next now.old ≡ acted result now.new }
 {
@@ -52,6 +56,7 @@ pub fn load(sort: Sort, local: u16, next: u32, now: &mut Frame) -> Act
     give(next, now, value)
 }
 
+#[inline(always)]
 fn holds_long(local: Option<Option<Value>>) -> bool
     ensures { result ≡ is_long local }
 {
@@ -61,6 +66,7 @@ fn holds_long(local: Option<Option<Value>>) -> bool
     }
 }
 
+#[inline(always)]
 fn last_of(local: usize, value: Value) -> usize
     requires { local < 2 ^ 16 }
     ensures { result ≡ last_unit local value }
@@ -71,6 +77,7 @@ fn last_of(local: usize, value: Value) -> usize
     }
 }
 
+#[inline(always)]
 fn lose_long_before(local: usize, locals: &mut Slots<Option<Value>>)
     ensures { locals.new ≡ without_long_before local locals.old }
 {
@@ -79,6 +86,7 @@ fn lose_long_before(local: usize, locals: &mut Slots<Option<Value>>)
     }
 }
 
+#[inline(always)]
 fn take_behind(local: usize, value: Value, locals: &mut Slots<Option<Value>>)
     requires { local < 2 ^ 16 }
     ensures { locals.new ≡ units_behind local value locals.old }
@@ -92,6 +100,7 @@ fn take_behind(local: usize, value: Value, locals: &mut Slots<Option<Value>>)
 }
 
 // A long also takes the local behind its own, and what it covers of another long is lost.
+#[inline(always)]
 fn keep(local: usize, value: Value, locals: &mut Slots<Option<Value>>) -> bool
     requires { local < 2 ^ 16 }
     ensures { MatchBool result (with_local local value locals.old ≡ Some locals.new) (with_local local value locals.old ≡ None) }
@@ -106,6 +115,7 @@ fn keep(local: usize, value: Value, locals: &mut Slots<Option<Value>>) -> bool
     }
 }
 
+#[inline(always)]
 fn keep_in(local: u16, value: Value, next: u32, now: &mut Frame) -> Act
     ensures { keeps next now.old now.old.stack.values (with_local local value now.old.locals) ≡ acted result now.new }
 {
@@ -117,6 +127,7 @@ fn keep_in(local: u16, value: Value, next: u32, now: &mut Frame) -> Act
 }
 
 /// The topmost value into a local variable.
+#[inline(always)]
 pub fn store(sort: Sort, local: u16, next: u32, now: &mut Frame) -> Act
     ensures { stores sort local next now.old now.old.stack.values ≡ acted result now.new }
 {
@@ -133,6 +144,7 @@ pub fn store(sort: Sort, local: u16, next: u32, now: &mut Frame) -> Act
 }
 
 /// A local int grows.
+#[inline(always)]
 pub fn increment(local: u16, by: i16, next: u32, now: &mut Frame) -> Act
     ensures { steps local by next now.old (slice_get now.old.locals local) ≡ acted result now.new }
 {

@@ -13,6 +13,7 @@ use crate::{Act, push};
 use jc_jvm::{Frame, Plain};
 
 /// What an instruction does that touches its frame alone; `next` is the place behind it.
+#[inline(always)]
 pub fn act_plain(plain: Plain, next: u32, now: &mut Frame) -> Act
     ensures { plain_act plain next now.old ≡ acted result now.new }
 {
