@@ -21,7 +21,7 @@ pub fn box_class(table: &Table, primitive: Primitive) -> ClassId
 }
 
 /// A primitive type's class, and any other type itself.
-#[tactic(auto, using(jc_types::proofs::Opened::opened), unfolding(crate::specs::Known::boxed))]
+#[tactic(auto, using(jc_types::proofs::Opened::opened), unfolding(crate::specs::Boxes::boxed))]
 pub fn boxed(alloc: Global, table: &Table, ty: &Ty) -> Result<Ty, WantOfMemory>
     ensures { IfOk result (λ r. r ≡ boxed table.now ty.now) }
 {
