@@ -1,0 +1,4 @@
+pub mod Formals
+pub mod Naming
+pub mod Steps
+pub mod Asked

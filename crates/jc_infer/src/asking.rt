@@ -1,0 +1,109 @@
+//! The questions on the answers.
+ghost use Rattle.std.specs.Prelude.{◌≡◌, ◌+◌, ◌≤◌, ◌^◌, IfOk, length, map};
+ghost use Rattle.jc_types.specs.Substitution.{subst};
+ghost use Rattle.jc_infer.specs.Steps.{answer, meets};
+ghost use Rattle.jc_infer.specs.Asked.{AreAsked, IsIllAt, IsOneAsked, within};
+
+use crate::answering::{answer, meets};
+use crate::outcome::{Inference, Parameter, Why};
+use jc_constraints::Implied;
+use jc_rules::{Items, Stop, WantOfMemory};
+use jc_sub::below;
+use jc_types::{Env, Table, Ty, VarId, copy_types, is_row, substitute_all};
+use jc_wellformed::{Answer, TypeFault, check_type};
+use std::alloc::Global;
+
+/// Whether a type is below each of these bounds: the first answer that isn't Yes.
+fn within(
+    alloc: Global,
+    table: &Table,
+    env: &Env,
+    t: &Ty,
+    bounds: &[Ty],
+) -> Result<Answer, WantOfMemory>
+    ensures { IfOk result (λ a. a ≡ within table.now env.now.bounds t.now bounds.now) }
+{
+    let mut rest = bounds;
+    while let [b, more @ ..] = rest {
+        match below(alloc, table, env, t, b)? {
+            Answer::Yes => rest = more,
+            Answer::No => return Ok(Answer::No),
+            Answer::Deep => return Ok(Answer::Deep),
+        }
+    }
+    Ok(Answer::Yes)
+}
+
+fn ill_at(
+    alloc: Global,
+    table: &Table,
+    env: &Env,
+    i: u64,
+    t: &Ty,
+) -> Result<Option<Inference>, WantOfMemory>
+    ensures { IfOk result (λ r. IsIllAt table.now env.now.bounds i t.now r) }
+{
+    match check_type(alloc, table, env, t) {
+        Ok(()) => Ok(None),
+        Err(Stop::Refused(TypeFault::Deep)) => Ok(Some(Inference::Deep)),
+        Err(Stop::Refused(_)) => Ok(Some(Inference::NotApplicable {
+            why: Why::Ill { i },
+        })),
+        Err(Stop::WantOfMemory) => Err(WantOfMemory),
+    }
+}
+
+/// The questions on the i-th answer: None where all are proved.
+fn one_asked(
+    alloc: Global,
+    table: &Table,
+    env: &Env,
+    later: &[Implied],
+    vars: &[VarId],
+    answers: &[Ty],
+    i: u64,
+    p: &Parameter,
+) -> Result<Option<Inference>, WantOfMemory>
+    requires { length vars.now ≡ length answers.now }
+    ensures { IfOk result (λ r. IsOneAsked table.now env.now.bounds later.now vars.now answers.now i p.now r) }
+{
+    if meets(alloc, table, later, p)? {
+        return Ok(Some(Inference::NotApplicable {
+            why: Why::Ill { i },
+        }));
+    }
+    let t = answer(alloc, table, later, p)?;
+    let bounds = substitute_all(alloc, p.bounds.slice(), vars, answers, is_row(vars))?;
+    match within(alloc, table, env, &t, bounds.slice())? {
+        Answer::Yes => ill_at(alloc, table, env, i, &t),
+        Answer::No => Ok(Some(Inference::NotApplicable {
+            why: Why::Bound { i },
+        })),
+        Answer::Deep => Ok(Some(Inference::Deep)),
+    }
+}
+
+/// The questions on all answers: the first that isn't proved decides.
+pub fn all_asked(
+    alloc: Global,
+    table: &Table,
+    env: &Env,
+    later: &[Implied],
+    vars: &[VarId],
+    answers: Items<Ty>,
+    parameters: &[Parameter],
+) -> Result<Inference, WantOfMemory>
+    requires { length vars.now ≡ length answers }
+    ensures { IfOk result (λ r. AreAsked table.now env.now.bounds later.now vars.now answers 0 parameters.now r) }
+{
+    let mut rest = parameters;
+    let mut i: u64 = 0;
+    while let [p, more @ ..] = rest {
+        if let Some(found) = one_asked(alloc, table, env, later, vars, answers.slice(), i, p)? {
+            return Ok(found);
+        }
+        rest = more;
+        i = i.checked_add(1).ok_or(WantOfMemory)?;
+    }
+    Ok(Inference::Inferred { args: answers })
+}
