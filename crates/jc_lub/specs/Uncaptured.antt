@@ -17,6 +17,9 @@ use Rattle.jc_judge.specs.Supers.{numbered}
 use Rattle.jc_judge.specs.Views.{first_of, view}
 use Rattle.jc_sub.specs.Reaching.{own_arg}
 
+abbrev pub object : Ty
+object = Class (numbered 0) []
+
 abbrev pub same_arg_at : ArgLayer → ArgLayer → Bool
 same_arg_at (Arg-F.Exact t) (Arg-F.Exact u) = same t u
 same_arg_at Arg-F.Any Arg-F.Any = true

@@ -13,4 +13,5 @@ mod viewing;
 pub use distinct::{erased_below, provably_distinct};
 pub use jc_sub::glb;
 pub use joining::lub;
-pub use viewing::up_view;
+pub use passing::args_of;
+pub use viewing::{object, up_view, view_steps};

@@ -2,7 +2,7 @@
 ghost use Rattle.std.specs.Prelude.{◌≡◌, ◌∷◌, [], map, length, IfOk};
 ghost use Rattle.jc_judge.specs.Views.{first_of};
 ghost use Rattle.jc_sub.specs.Reaching.{own_arg};
-ghost use Rattle.jc_lub.specs.Uncaptured.{class_view, up_view_within, up_view, view_steps};
+ghost use Rattle.jc_lub.specs.Uncaptured.{object, class_view, up_view_within, up_view, view_steps};
 
 use crate::passing::put;
 use jc_rules::{Items, WantOfMemory};
@@ -11,6 +11,16 @@ use jc_types::{
     Arg, Bounds, ClassId, Table, Ty, VarId, captured_uppers, class_vars, declared_bounds,
 };
 use std::alloc::Global;
+
+/// `java.lang.Object`.
+pub fn object(alloc: Global) -> Ty
+    ensures { result ≡ object }
+{
+    Ty::Class {
+        id: ClassId(0),
+        args: Items::new(alloc),
+    }
+}
 
 // The parameters of a class as arguments.
 fn own_args(alloc: Global, vars: &[VarId]) -> Result<Items<Arg>, WantOfMemory>
@@ -102,8 +112,8 @@ fn first_up_view(
     Ok(None)
 }
 
-// Steps enough for each view: twice as many as there are variables.
-fn view_steps(table: &Table, env: &[Bounds]) -> u128
+/// Steps enough for each view: twice as many as there are variables.
+pub fn view_steps(table: &Table, env: &[Bounds]) -> u128
     ensures { result ≡ view_steps table.now env.now }
 {
     let variables = table.variables.slice().len() as u128 + env.len() as u128;
