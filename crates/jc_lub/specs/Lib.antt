@@ -1,0 +1,4 @@
+pub mod Uncaptured
+pub mod Columns
+pub mod Lubs
+pub mod Distinct
