@@ -1,5 +1,5 @@
 -- Elements of arrays: one step up to a bound, and one dimension down.
-use Rattle.std.proofs.Common.{◌≡◌, ℕ, zero, suc, ◌<◌, ◌-◌, Option, Some, None, arith, sym, ap, ◌∙◌, refl}
+use Rattle.std.proofs.Common.{◌≡◌, ℕ, zero, suc, ◌<◌, ◌-◌, ◌+◌, Option, Some, None, arith, sym, ap, ◌∙◌}
 use Rattle.std.specs.Prelude.{option_and_then, List}
 use Rattle.jc_types.specs.declared.environment.Bounds.{Bounds}
 use Rattle.jc_types.specs.declared.form.Ty.{Ty}
@@ -17,10 +17,6 @@ element_up T env (suc n) t lt h =
     let less : suc n - 1 ≡ n = omega arith in
     ap (λ (o : Option Ty). or_else o (first_of (up_element_within T env n) (bounds T env t))) h ∙ ap (λ (m : ℕ). first_of (up_element_within T env m) (bounds T env t)) (sym less)
 
-pub down_none : (e : Ty → Option Ty) (n : ℕ) → down e n None ≡ None
-down_none e zero = refl
-down_none e (suc n) = down_none e n
-
 -- one dimension of those that are left
-pub down_more : (e : Ty → Option Ty) (further i : ℕ) (t : Ty) → i < further → down e (further - i) (Some t) ≡ down e (further - (suc i)) (e t)
-down_more e further i t lt = let less : further - i ≡ suc (further - (suc i)) = omega arith in ap (λ (n : ℕ). down e n (Some t)) less
+pub down_more : (e : Ty → Option Ty) (further i : ℕ) (o : Option Ty) → i < further → down e (further - i) o ≡ down e (further - (i + 1)) (option_and_then e o)
+down_more e further i o lt = let less : further - i ≡ suc (further - (i + 1)) = omega arith in ap (λ (n : ℕ). down e n o) less

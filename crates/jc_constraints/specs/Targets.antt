@@ -1,7 +1,7 @@
 -- What a constraint `S >> F` implies that comes from the target of a call or from a bound (JLS 15.12.2.8): by recursion on S. As long as S stands above, the formal
 -- type may be seen as the class of S; behind the first line that turns round, or makes equal, what is implied is as for the constraint of an argument. So the
 -- constraints come to an end also where views grow.
-use Rattle.std.specs.Prelude.{ℕ, ◌-◌, nat_lt, Bool, true, false, ◌&&◌, Option, Some, None, List, [], ◌∷◌, ◌++◌, if◌then◌else◌}
+use Rattle.std.specs.Prelude.{ℕ, ◌-◌, nat_lt, Bool, true, false, Option, Some, None, List, [], ◌∷◌, ◌++◌, if◌then◌else◌}
 use Rattle.jc_types.specs.declared.environment.Bounds.{Bounds}
 use Rattle.jc_types.specs.declared.form.Ty.{Ty, Ty-F, out-Ty, para-Ty}
 use Rattle.jc_types.specs.declared.form.Arg.{Arg, Arg-F, out-Arg, para-Arg}
@@ -10,6 +10,7 @@ use Rattle.jc_types.specs.declared.ids.VarId.{VarId}
 use Rattle.jc_types.specs.declared.table.Table.{Table}
 use Rattle.jc_types.specs.Arrays.{lowered}
 use Rattle.jc_judge.specs.Kinds.{Layer, class_of, is_primitive}
+use Rattle.jc_judge.specs.Meeting.{are_exact}
 use Rattle.jc_judge.specs.Views.{is_class, view}
 use Rattle.jc_lub.specs.Uncaptured.{args_of}
 use Rattle.jc_constraints.specs.declared.standing.Implied.{Implied}
@@ -60,14 +61,6 @@ abbrev pub aims_beside : List (Arg × ArgAims) → List Arg → List Implied
 aims_beside [] us = []
 aims_beside (w ∷ ws) [] = []
 aims_beside (w ∷ ws) (u ∷ us) = w.1 (out-Arg u) ++ aims_beside ws us
-
-abbrev pub is_exact : Arg-F Arg Ty → Bool
-is_exact (Arg-F.Exact t) = true
-is_exact _ = false
-
-abbrev pub are_exact : List Arg → Bool
-are_exact [] = true
-are_exact (a ∷ args) = is_exact (out-Arg a) && are_exact args
 
 -- the arguments of a formal type seen as the target's class: its own, or those of its view, if it has no wildcards
 abbrev pub seen_as : Table → ClassId → Ty → List Arg

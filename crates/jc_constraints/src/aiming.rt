@@ -4,7 +4,8 @@ ghost use Rattle.std.specs.Option.{option_copied};
 ghost use Rattle.jc_types.specs.declared.form.Arg.{out-Arg};
 ghost use Rattle.jc_types.specs.Arrays.{lowered};
 ghost use Rattle.jc_types.specs.declared.form.Ty.{out-Ty};
-ghost use Rattle.jc_constraints.specs.Targets.{aimed, aimed_by_arg, aims_beside, are_exact, array_aim, exact_only, exact_or_lower, exact_or_upper, implied_by_target, is_exact, parameter_or, seen_as, with_aim};
+ghost use Rattle.jc_judge.specs.Meeting.{are_exact, is_exact_at};
+ghost use Rattle.jc_constraints.specs.Targets.{aimed, aimed_by_arg, aims_beside, array_aim, exact_only, exact_or_lower, exact_or_upper, implied_by_target, parameter_or, seen_as, with_aim};
 
 use crate::implying::{implied, implied_if, is_unknown};
 use crate::standing::{Implied, Standing};
@@ -17,7 +18,7 @@ use std::alloc::Global;
 
 #[tactic(auto, using(jc_types::proofs::Opened::opened))]
 fn is_exact(arg: &Arg) -> bool
-    ensures { result ≡ is_exact (out-Arg arg.now) }
+    ensures { result ≡ is_exact_at (out-Arg arg.now) }
 {
     match arg {
         Arg::Exact(_) => true,
@@ -28,10 +29,12 @@ fn is_exact(arg: &Arg) -> bool
 fn are_exact(args: &[Arg]) -> bool
     ensures { result ≡ are_exact args.now }
 {
-    for a in args {
+    let mut rest = args;
+    while let [a, more @ ..] = rest {
         if !is_exact(a) {
             return false;
         }
+        rest = more;
     }
     true
 }
@@ -157,7 +160,10 @@ fn aimed_array(
     ensures { IfOk result (λ r. r ≡ array_aim unknown.now (of.now, aimed table.now env.now unknown.now of.now) further (out-Ty formal.now)) }
 {
     match formal {
-        Ty::Array { of: inner, further: more } => {
+        Ty::Array {
+            of: inner,
+            further: more,
+        } => {
             if *more < further {
                 let left = lowered(alloc, of, further - *more)?;
                 return parameter_above(alloc, unknown, inner.get(), &left);

@@ -1,5 +1,5 @@
 //! The elements of arrays whose elements are references.
-ghost use Rattle.std.specs.Prelude.{◌≡◌, IfOk};
+ghost use Rattle.std.specs.Prelude.{◌≡◌, IfOk, option_and_then};
 ghost use Rattle.jc_judge.specs.Views.{first_of};
 ghost use Rattle.jc_constraints.specs.Constraints.{bounds, down, element_for, reference_element, up_element, up_element_within};
 
@@ -99,7 +99,24 @@ pub fn element_for(
     }
 }
 
+// One dimension further down, if there is one.
+fn one_down(
+    alloc: Global,
+    table: &Table,
+    env: &[Bounds],
+    standing: Standing,
+    rest: Option<Ty>,
+) -> Result<Option<Ty>, WantOfMemory>
+    ensures { IfOk result (λ r. r ≡ option_and_then (element_for table.now env.now standing) rest) }
+{
+    match rest {
+        Some(t) => element_for(alloc, table, env, standing, &t),
+        None => Ok(None),
+    }
+}
+
 /// The elements that are so many dimensions further down.
+#[tactic(auto, using(crate::proofs::Elements::down_more))]
 pub fn elements_down(
     alloc: Global,
     table: &Table,
@@ -112,10 +129,7 @@ pub fn elements_down(
 {
     let mut rest = element_for(alloc, table, env, standing, t)?;
     for i in 0..further {
-        match rest {
-            None => return Ok(None),
-            Some(e) => rest = element_for(alloc, table, env, standing, &e)?,
-        }
+        rest = one_down(alloc, table, env, standing, rest)?;
     }
     Ok(rest)
 }

@@ -16,10 +16,12 @@ use std::alloc::Global;
 pub fn is_unknown(unknown: &[VarId], v: VarId) -> bool
     ensures { result ≡ is_unknown unknown.now v }
 {
-    for w in unknown {
+    let mut rest = unknown;
+    while let [w, more @ ..] = rest {
         if w.0 == v.0 {
             return true;
         }
+        rest = more;
     }
     false
 }
@@ -62,7 +64,15 @@ pub fn implied(
     match formal {
         Ty::Class { id, args } => {
             let seen = args_for(alloc, table, env, standing, *id, actual)?;
-            implied_beside(alloc, table, env, unknown, args.slice(), standing, seen.slice())
+            implied_beside(
+                alloc,
+                table,
+                env,
+                unknown,
+                args.slice(),
+                standing,
+                seen.slice(),
+            )
         }
         Ty::Array { of, further } => {
             match elements_down(alloc, table, env, standing, *further, actual)? {
@@ -148,7 +158,15 @@ fn implied_beside(
         if actuals.len() <= i {
             return Ok(out);
         }
-        let more = implied_by_arg(alloc, table, env, unknown, &formals[i], standing, &actuals[i])?;
+        let more = implied_by_arg(
+            alloc,
+            table,
+            env,
+            unknown,
+            &formals[i],
+            standing,
+            &actuals[i],
+        )?;
         out.append(more)?;
     }
     Ok(out)

@@ -10,5 +10,5 @@ mod standings;
 mod views;
 
 pub use aiming::implied_by_target;
-pub use implying::implied;
+pub use implying::{implied, is_unknown};
 pub use standing::{ArgKind, Implied, Standing};

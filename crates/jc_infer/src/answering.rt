@@ -8,16 +8,16 @@ use jc_constraints::{Implied, Standing};
 use jc_lub::lub;
 use jc_rules::{Items, WantOfMemory};
 use jc_sub::{as_one, classes_meet, glb_parts};
-use jc_types::{Bounds, Table, Ty, VarId, copy_type, copy_types};
+use jc_types::{Env, Table, Ty, VarId, copy_type, copy_types};
 use std::alloc::Global;
 
 fn lub_of_some(
     alloc: Global,
     table: &Table,
-    env: &[Bounds],
+    env: &Env,
     types: &[Ty],
 ) -> Result<Option<Ty>, WantOfMemory>
-    ensures { IfOk result (λ r. r ≡ lub_of_some table.now env.now types.now) }
+    ensures { IfOk result (λ r. r ≡ lub_of_some table.now env.now.bounds types.now) }
 {
     match types {
         [] => Ok(None),
@@ -29,11 +29,11 @@ fn lub_of_some(
 fn early(
     alloc: Global,
     table: &Table,
-    env: &[Bounds],
+    env: &Env,
     implied: &[Implied],
     v: VarId,
 ) -> Result<Option<Ty>, WantOfMemory>
-    ensures { IfOk result (λ r. r ≡ early table.now env.now implied.now v) }
+    ensures { IfOk result (λ r. r ≡ early table.now env.now.bounds implied.now v) }
 {
     let same = standing_so(alloc, v, Standing::Same, implied)?;
     match same.slice() {
@@ -48,12 +48,12 @@ fn early(
 fn parameter(
     alloc: Global,
     table: &Table,
-    env: &[Bounds],
+    env: &Env,
     implied: &[Implied],
     v: VarId,
     bounds: &[Ty],
 ) -> Result<Parameter, WantOfMemory>
-    ensures { IfOk result (λ r. r ≡ parameter table.now env.now implied.now v bounds.now) }
+    ensures { IfOk result (λ r. r ≡ parameter table.now env.now.bounds implied.now v bounds.now) }
 {
     let early = early(alloc, table, env, implied, v)?;
     let bounds = copy_types(alloc, bounds)?;
@@ -78,12 +78,12 @@ fn split(bounds: &[Items<Ty>]) -> (&[Ty], &[Items<Ty>])
 pub fn parameters(
     alloc: Global,
     table: &Table,
-    env: &[Bounds],
+    env: &Env,
     implied: &[Implied],
     vars: &[VarId],
     bounds: &[Items<Ty>],
 ) -> Result<Items<Parameter>, WantOfMemory>
-    ensures { IfOk result (λ r. r ≡ parameters table.now env.now implied.now vars.now bounds.now) }
+    ensures { IfOk result (λ r. r ≡ parameters table.now env.now.bounds implied.now vars.now bounds.now) }
 {
     let mut list = Items::new(alloc);
     let mut rest = vars;

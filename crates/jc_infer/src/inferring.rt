@@ -35,7 +35,7 @@ pub fn infer(
     let parameters = parameters(
         alloc,
         table,
-        bounds,
+        env,
         implied.slice(),
         vars,
         method.bounds.slice(),
