@@ -1,3 +1,4 @@
 pub mod Elements
 pub mod Implications
 pub mod Aimings
+pub mod Lined

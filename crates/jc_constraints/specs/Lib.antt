@@ -1,3 +1,4 @@
 pub mod Standings
 pub mod Constraints
 pub mod Targets
+pub mod Lines

@@ -5,10 +5,12 @@
 mod aiming;
 mod arrays;
 mod implying;
+mod laws;
 mod standing;
 mod standings;
 mod views;
 
 pub use aiming::implied_by_target;
 pub use implying::{implied, is_unknown};
+pub use laws::lines_are_listed;
 pub use standing::{ArgKind, Implied, Standing};

@@ -131,7 +131,7 @@ pub fn stand_ins(alloc: Global, parameters: &[Parameter]) -> Result<Items<Ty>, W
 }
 
 /// The answer for a parameter: an early one; else the first equality, the glb of the types above, or Object.
-fn answer(
+pub fn answer(
     alloc: Global,
     table: &Table,
     later: &[Implied],

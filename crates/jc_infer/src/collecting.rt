@@ -2,7 +2,7 @@
 ghost use Rattle.std.specs.Prelude.{◌≡◌, IfOk, length};
 ghost use Rattle.jc_infer.specs.Steps.{by_argument, by_arguments, by_call, is_of, standing_so};
 
-use crate::formals::formals;
+use crate::stretching::formals;
 use jc_boxes::boxed;
 use jc_constraints::{Implied, Standing, implied};
 use jc_overriding::MethodView;

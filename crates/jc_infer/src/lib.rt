@@ -4,12 +4,12 @@
 mod answering;
 mod asking;
 mod collecting;
-mod formals;
 mod inferring;
 mod late;
 mod naming;
 mod outcome;
+mod stretching;
 
-pub use formals::formals;
 pub use inferring::infer;
 pub use outcome::{Inference, Parameter, Why};
+pub use stretching::formals;

@@ -1,5 +1,5 @@
 use Rattle.std.proofs.Common.{◌≡◌, replicate}
-use Rattle.jc_infer.proofs.formals.repeated.Given as goal
+use Rattle.jc_infer.proofs.stretching.repeated.Given as goal
 
 abbrev pub invariant-loop-i : goal.invariant-loop-i
 invariant-loop-i l = l.list ≡ replicate l.i l.t
