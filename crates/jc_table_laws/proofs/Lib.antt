@@ -2,6 +2,7 @@ pub mod Acyclic
 pub mod AllInside
 pub mod Chains
 pub mod Edges
+pub mod Fitting
 pub mod Indexed
 pub mod Leading
 pub mod Meant
