@@ -1,15 +1,14 @@
 -- What a call leaves, from what its parts leave.
-use Rattle.std.proofs.Common.{◌≡◌, ◌≢◌, ◌≤◌, ◌+◌, ℕ, zero, suc, List, [], ◌∷◌, ◌++◌, length, take, refl, sym, ap, ◌∙◌, subst, arith, Option, Some, None, inl, inr, ◌⊎◌, append_assoc}
+use Rattle.std.proofs.Common.{◌≡◌, ℕ, List, [], ◌∷◌, length, take, refl, sym, ap, ◌∙◌, arith, Option, Some, None, inl, inr, ◌⊎◌}
 use Rattle.std.proofs.lemmas.List.{append-nil}
-use Rattle.jc_outside.specs.Told.{Files, Stays, Gets, GetsPart, Rose, IsMissing}
+use Rattle.jc_outside.specs.Told.{Stays, Gets, GetsPart}
 use Rattle.jc_words.specs.declared.job.Job.{Job}
-use Rattle.jc_words.specs.declared.fault.UsageFault.{UsageFault}
-use Rattle.jc_words.specs.Job.{IsJob, IsFault}
+use Rattle.jc_words.specs.Job.{IsJob}
 use Rattle.javag.specs.declared.outcome.Outcome.{Outcome}
 use Rattle.javag.specs.declared.outcome.Outcome.TheVariants.{Done, Threw, Usage, Refused, StepsReached, WantOfMemory, ShelfFault, ClassFault, OutFault, KeysFault, ErrFault, NoMain, Exited}
 use Rattle.javag.specs.Closing.{closing, memory_line}
-use Rattle.javag.specs.Objects.{Object, Unchanged, Puts, PutsPart, Failed, Closes, HaveTexts, IsUnread}
-use Rattle.javag.specs.Causes.{Call, Work, work_of, Worked, Untouched, RanPart, RanTo, RanNothing, IsOutFault, IsShort, IsWorked, IsShelfFault, ClosedAs, UsageClosed, Caused}
+use Rattle.javag.specs.Objects.{Object, PutsPart, Closes, HaveTexts, IsUnread}
+use Rattle.javag.specs.Causes.{Call, Work, work_of, Worked, Untouched, RanPart, IsShort, ClosedAs, Caused}
 
 take_all : {A : Type 0} (xs : List A) → take (length xs) xs ≡ xs
 take_all [] = refl

@@ -1,9 +1,8 @@
 -- Texts are read one after the other.
-use Rattle.std.proofs.Common.{◌≡◌, ◌≤◌, ◌<◌, ◌+◌, ℕ, zero, suc, List, [], ◌∷◌, ◌++◌, length, take, get_or, refl, sym, ap, ◌∙◌, subst, arith, add-one, Option, Some, None}
-use Rattle.std.specs.Prelude.{◌⊎◌, slice_get, min, ◌^◌, ◌-◌}
-use Rattle.std.proofs.Common.{inl, inr}
-use Rattle.jc_outside.specs.Told.{Files, Rose, IsMissing}
-use Rattle.javag.specs.Objects.{HasBytes, HaveTexts, IsUnread}
+use Rattle.std.proofs.Common.{◌≡◌, ◌<◌, ◌+◌, ℕ, zero, suc, List, [], ◌∷◌, ◌++◌, length, take, get_or, sym, ap, arith, add-one, Option, Some}
+use Rattle.std.specs.Prelude.{slice_get, ◌-◌}
+use Rattle.jc_outside.specs.Told.{Files}
+use Rattle.javag.specs.Objects.{HasBytes, HaveTexts}
 
 pub texts_more : (files : Option Files) (names texts : List (List ℕ)) (name text : List ℕ) → HaveTexts files names texts → HasBytes files name text → HaveTexts files (names ++ name ∷ []) (texts ++ text ∷ [])
 texts_more files [] [] name text have here = (here, tt)

@@ -1,5 +1,5 @@
 -- What the work on a small job leaves.
-use Rattle.std.proofs.Common.{◌≡◌, ◌≢◌, ◌≤◌, ℕ, List, [], ◌∷◌, length, refl, sym, ap, ◌∙◌, subst, arith, Option, Some, None, Result, Ok, Err, IfOk, codes, inl, inr, ◌⊎◌}
+use Rattle.std.proofs.Common.{◌≡◌, ◌≢◌, ℕ, List, [], ◌∷◌, refl, sym, arith, Option, Some, None, codes, inl, inr, ◌⊎◌}
 use Rattle.jc_class_out.specs.declared.model.ClassModel.{ClassModel}
 use Rattle.jc_class_out.specs.Format.{IsClassFile}
 use Rattle.jc_machine.specs.declared.machine.Ran.{Ran}
@@ -7,14 +7,13 @@ use Rattle.jc_machine.specs.declared.machine.Ran.TheVariants.{Ended, StepsReache
 use Rattle.jc_machine.specs.Runs.{Seen}
 use Rattle.jc_machine.specs.Start.{start_of}
 use Rattle.jc_machine.specs.Table.{State}
-use Rattle.jc_outside.specs.Told.{Stays, Gets, GetsPart, Rose}
-use Rattle.jc_rules.specs.declared.stop.WantOfMemory.{WantOfMemory}
+use Rattle.jc_outside.specs.Told.{Stays, Gets, GetsPart}
 use Rattle.jc_small.specs.Meaning.{Ending, Going as SourceGoing, Ended as SourceEnded}
-use Rattle.jc_small.specs.Same.{EndsAs, Matches, run_from}
+use Rattle.jc_small.specs.Same.{EndsAs, run_from}
 use Rattle.jc_words.specs.declared.job.Job.{Job}
 use Rattle.javag.specs.declared.outcome.Outcome.TheVariants.{WantOfMemory as ShortOutcome}
-use Rattle.javag.specs.Objects.{Object, Puts, PutsPart, Failed}
-use Rattle.javag.specs.Causes.{IsClassOf, NamesMain, Compiles, class_pairs, shown, Work, Wrote, RanTo, RanNothing, RanPart, IsOutFault, Worked, HasOutcome, outcome_of}
+use Rattle.javag.specs.Objects.{Puts, Failed}
+use Rattle.javag.specs.Causes.{IsClassOf, NamesMain, Compiles, class_pairs, Work, RanNothing, Worked, HasOutcome, outcome_of}
 
 pub stays : {A : Type 0} (x : Option A) → Stays x x
 stays None = tt

@@ -1,5 +1,5 @@
 -- The list of a method's rows by byte offset gives the row of the instruction that stands there.
-use Rattle.std.proofs.Common.{◌≡◌, ◌≢◌, ◌≤◌, ◌<◌, ◌⊎◌, inl, inr, ℕ, ◌+◌, ◌-◌, ◌*◌, ◌==◌, Bool, true, false, nat_le, List, [], ◌∷◌, ◌++◌, Option, Some, None, length, get_or, suc, refl, sym, ap, ◌∙◌, subst, arith, cond}
+use Rattle.std.proofs.Common.{◌≡◌, ◌≤◌, ◌<◌, ◌⊎◌, inl, inr, ℕ, ◌+◌, ◌-◌, ◌*◌, ◌==◌, Bool, true, false, nat_le, List, [], ◌∷◌, ◌++◌, Option, Some, None, length, get_or, suc, refl, sym, ap, ◌∙◌, subst, arith}
 use Rattle.std.specs.Option.{option_map}
 use Rattle.std.specs.Prelude.{replicate, slice_get, option_and_then, unwrap_or, if◌then◌else◌}
 use Rattle.std.proofs.Math.ListN.{get_or-append}
@@ -11,7 +11,7 @@ use Rattle.jc_class_out.specs.declared.model.CodeModel.{CodeModel}
 use Rattle.jc_class_out.specs.declared.model.Ins.{Ins}
 use Rattle.jc_class_out.specs.declared.model.MethodModel.{MethodModel}
 use Rattle.jc_machine.specs.declared.rows.Placed.{Placed}
-use Rattle.jc_machine.specs.Code.{size_of, operand_size, rest_from, end_of, place_of, first_place, placed_in}
+use Rattle.jc_machine.specs.Code.{size_of, operand_size, rest_from, place_of, first_place, placed_in}
 use Rattle.jc_machine.specs.Names.{placed_at}
 use Rattle.jc_machine.specs.Places.{places_from, places_of_code, places_of_methods, places_of_classes}
 

@@ -1,5 +1,5 @@
 -- Units of values.
-use Rattle.std.proofs.Common.{◌≡◌, ◌≤◌, ◌+◌, List, [], ◌∷◌, ◌++◌, length, reverse, arith, ◌∙◌, sym}
+use Rattle.std.proofs.Common.{◌≡◌, ◌≤◌, ◌+◌, List, [], ◌∷◌, ◌++◌, length, reverse, arith}
 use Rattle.std.proofs.lemmas.List.{reverse-append, length-reverse}
 use Rattle.jc_machine.specs.declared.value.Value.{Value}
 use Rattle.jc_machine.specs.declared.value.Value.TheVariants.{Whole, Long, Address, NullValue}

@@ -1,18 +1,15 @@
 -- The loop that reads comparisons, turn by turn.
 use Rattle.std.proofs.Common.{◌≡◌, ℕ, zero, suc, ◌+◌, ◌<◌, ◌≤◌, min, Bool, List, [], ◌∷◌, ◌++◌, length, length-append, append-nil, append_assoc, Some, refl, sym, ap, ◌∙◌, arith}
 use Rattle.jc_lexer.specs.declared.token.Token.{Token}
-use Rattle.jc_tree.specs.declared.expression.Expr.{Expr}
 use Rattle.jc_reading.specs.Reading.{Read, Found, Stopped, Run, noting, becoming}
 use Rattle.jc_reading.specs.Growing.{one_then}
 use Rattle.std.specs.Prelude.{slice_get}
 use Rattle.jc_reading.proofs.Codes.{some_is, none_is}
 use Rattle.jc_reading.proofs.Steps.{Good, Within}
-use Rattle.jc_reading.proofs.Forms.{Form, Lawful, Stands}
-use Rattle.jc_reading.proofs.Turns.{resume, noting_far, Advances}
-use Rattle.jc_expr_laws.specs.CompareReading.{is_touching, touched_before, links, linked, Comparison, next_comparison_run}
+use Rattle.jc_reading.proofs.Forms.{Form, Stands}
+use Rattle.jc_reading.proofs.Turns.{resume, noting_far}
+use Rattle.jc_expr_laws.specs.CompareReading.{is_touching, touched_before, links, linked, Comparison}
 use Rattle.jc_expr_laws.proofs.CompareMarks.{touched_here, touched_later}
-use Rattle.jc_expr_laws.proofs.CompareParts.{Next}
-use Rattle.jc_expr_laws.proofs.CompareLinked.{Link, link_steady}
 
 module _ {V P : Type 0} (make : V → P → V) (part : V → Bool → Run P) where
   -- the loop stands before the tokens that are left, with room for as many turns

@@ -9,7 +9,7 @@ use Rattle.jc_reading.specs.declared.reading.Halt.{Halt}
 use Rattle.jc_reading.specs.declared.reading.Halt.TheVariants as halt_of
 use Rattle.jc_reading.specs.Giving.{Gives, Is}
 use Rattle.jc_reading.specs.Kinds.{kind_code, sign_code}
-use Rattle.jc_reading.specs.Reading.{Read, Run, becoming, joined, found, in_turn, of_kind, on_pick, behind_it}
+use Rattle.jc_reading.specs.Reading.{Read, Run, becoming, joined, found, of_kind, on_pick, behind_it}
 use Rattle.jc_reading.specs.Reading as reading
 use Rattle.jc_parse_expr.specs.declared.measured.Measured.{Measured}
 use Rattle.jc_parse_expr.specs.Measuring.{measured}

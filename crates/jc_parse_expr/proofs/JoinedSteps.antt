@@ -15,7 +15,7 @@ use Rattle.jc_reading.specs.declared.reading.Halt.{Halt}
 use Rattle.jc_reading.specs.declared.reading.Halt.TheVariants as halt_of
 use Rattle.jc_reading.specs.Giving.{Gives, Halts, Is}
 use Rattle.jc_reading.specs.Kinds.{sign_code}
-use Rattle.jc_reading.specs.Reading.{Read, becoming, found, in_turn, any_number, of_kind, at_kind}
+use Rattle.jc_reading.specs.Reading.{Read, becoming, found, in_turn, any_number, at_kind}
 use Rattle.jc_reading.specs.Reading as reading
 use Rattle.jc_parse_expr.specs.declared.measured.Measured.{Measured}
 use Rattle.jc_parse_expr.specs.Measuring.{measured}

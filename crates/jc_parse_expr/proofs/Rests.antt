@@ -1,25 +1,23 @@
 -- What is left behind what was read is no longer than what stood there.
-use Rattle.std.proofs.Common.{◌≡◌, ℕ, ◌≤◌, Bool, List, length}
+use Rattle.std.proofs.Common.{◌≡◌, ℕ, ◌≤◌, List, length}
 use Rattle.jc_lexer.specs.declared.token.Sign.TheVariants as sign_of
 use Rattle.jc_lexer.specs.declared.token.Token.{Token}
-use Rattle.jc_tree.specs.declared.name.Ident.{Ident}
 use Rattle.jc_tree.specs.declared.types.ClassTree.{ClassTree}
-use Rattle.jc_tree.specs.declared.types.PrimitiveWord.{PrimitiveWord}
 use Rattle.jc_tree.specs.declared.types.TypeArg.{TypeArg}
 use Rattle.jc_tree.specs.declared.expression.Expr.{Expr}
 use Rattle.jc_tree.specs.declared.expression.Init.{Init}
 use Rattle.jc_reading.specs.Kinds.{sign_code}
 use Rattle.jc_reading.specs.Reading.{Found, as_new, in_turn, of_kind, before_it, an_ident_at}
-use Rattle.jc_parse_type.specs.TypeReading.{class_run, dims_run, picks_word, word_run}
+use Rattle.jc_parse_type.specs.TypeReading.{class_run, dims_run}
 use Rattle.jc_part_laws.specs.PartReading.{more_names_run}
 use Rattle.jc_parse_expr.specs.SpecialCode.{forgetting}
-use Rattle.jc_expr_laws.specs.PrimeReading.{diamond_run, is_there, some_args_run}
+use Rattle.jc_expr_laws.specs.PrimeReading.{some_args_run}
 use Rattle.jc_expr_laws.specs.StartReading.{plain_run, special_run}
 use Rattle.jc_parse_expr.specs.PrimeCode.{array_in, expr_in, init_in, some_args_list}
 use Rattle.jc_parse_expr.proofs.LevelNears.{near_expr, near_array_of}
 use Rattle.jc_parse_expr.proofs.ListSteps.{near_init_in}
 use Rattle.jc_parse_expr.proofs.MeasuredSteps.{rest_of_near}
-use Rattle.jc_parse_expr.proofs.Nears.{near_as, near_ident, near_kind, near_perhaps, near_picking, near_turn}
+use Rattle.jc_parse_expr.proofs.Nears.{near_as, near_ident, near_kind, near_turn}
 use Rattle.jc_parse_expr.proofs.PrimeNears.{near_args, near_bracketed, near_class, near_dims, near_names, near_plain, near_special}
 
 pub rest_expr : (h : ℕ) (ts r : List Token) (e : Expr) (l : ℕ) → expr_in h ts ≡ Found e r l → length r ≤ length ts

@@ -1,5 +1,5 @@
 -- Whether a touching `>` stands before the last tokens.
-use Rattle.std.proofs.Common.{◌≡◌, ℕ, zero, suc, ◌+◌, ◌-◌, ◌<◌, ◌≤◌, false, List, [], ◌∷◌, length, drop, refl, sym, ap, ◌∙◌, arith}
+use Rattle.std.proofs.Common.{◌≡◌, ℕ, zero, suc, ◌+◌, ◌-◌, ◌≤◌, false, List, [], ◌∷◌, length, drop, refl, ap, ◌∙◌, arith}
 use Rattle.std.specs.Prelude.{◌==◌}
 use Rattle.std.proofs.lemmas.Bool.{cond-true, cond-false, eq-eqb}
 use Rattle.std.proofs.lemmas.Bool.Decides.{nat_tests}

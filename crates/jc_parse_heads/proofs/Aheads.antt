@@ -7,7 +7,7 @@ use Rattle.jc_tree.specs.declared.statement.Clause.{Clause}
 use Rattle.jc_tree.specs.declared.statement.Member.{Member}
 use Rattle.jc_tree.specs.declared.statement.Stmt.{Stmt}
 use Rattle.jc_reading.specs.Kinds.{sign_code, key_code}
-use Rattle.jc_reading.specs.Reading.{Read, Stopped, Run, as_new, in_turn, any_number, of_kind, at_kind, each_behind, either, an_ident_at}
+use Rattle.jc_reading.specs.Reading.{Read, Stopped, Run, in_turn, any_number, of_kind, at_kind, each_behind, either, an_ident_at}
 use Rattle.jc_reading.proofs.Coded.{Coded, formed}
 use Rattle.jc_reading.proofs.Forms.{Lawful}
 use Rattle.jc_reading.proofs.Lowest.{Law, Void}

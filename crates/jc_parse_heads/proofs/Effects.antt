@@ -7,18 +7,18 @@ use Rattle.jc_tree.specs.declared.statement.Stmt.{Stmt}
 use Rattle.jc_tree.specs.declared.statement.Stmt.TheVariants as stmt_of
 use Rattle.jc_tree.specs.declared.types.TypeTree.{TypeTree}
 use Rattle.jc_reading.specs.Kinds.{one_of, word_code}
-use Rattle.jc_reading.specs.Reading.{Read, Found, Stopped, Run, noting, becoming, joined, as_new, in_turn, before_it, This, That}
-use Rattle.jc_reading.specs.Further.{with_room, tried, trying}
+use Rattle.jc_reading.specs.Reading.{Read, Found, Stopped, Run, noting, becoming, as_new, in_turn, before_it, This, That}
+use Rattle.jc_reading.specs.Further.{with_room, tried}
 use Rattle.jc_parse_type.specs.TypeReading.{type_run}
 use Rattle.jc_part_laws.specs.PartReading.{modifier_run, modifiers_run, vars_run}
-use Rattle.jc_expr_laws.specs.ExprReading.{exprs, strict_effect}
+use Rattle.jc_expr_laws.specs.ExprReading.{exprs}
 use Rattle.jc_expr_laws.proofs.EffectEndings.{effect_and_semicolon}
 use Rattle.jc_unit_laws.specs.UnitReading.{Variables, effect_made, local_made, local_or_effect, local_run, semicolon_run, variables_run}
-use Rattle.jc_parse_parts.specs.Parts.{vars_tree, vars_tree_run}
+use Rattle.jc_parse_parts.specs.Parts.{vars_tree}
 use Rattle.jc_parse_parts.specs.declared.trees.Vars.{Vars}
 use Rattle.jc_parse_heads.specs.declared.pieces.Typed.{Typed}
 use Rattle.jc_parse_heads.specs.UnitCode.{bare_local, ended_effect_run, ended_strict_run, ended_vars_run, listed, local_or_effect_run, locals_of, roomy_modifiers_run, typed_made, typed_or_run, typed_run}
-use Rattle.jc_parse_heads.proofs.Joinings.{cut, first_made, grouped, noted_made, remade, room_gone, room_there, second_made, second_same, split_behind, split_here, split_room}
+use Rattle.jc_parse_heads.proofs.Joinings.{first_made, grouped, noted_made, remade, room_gone, room_there, second_made, second_same, split_behind, split_here, split_room}
 
 pub ended_effect_is : (h : ℕ) (ts : List Token) → ended_effect_run h ts ≡ ended_strict_run h ts
 unfolding ended_effect_run ended_strict_run

@@ -1,5 +1,5 @@
 -- Heads of `for`, as the code reads them.
-use Rattle.std.proofs.Common.{◌≡◌, ℕ, zero, suc, ◌≤◌, ◌<◌, min, Bool, true, false, cond, List, [], ◌∷◌, map, length, Option, Some, None, refl, sym, ap, ◌∙◌, subst, ⊎_elim, arith}
+use Rattle.std.proofs.Common.{◌≡◌, ℕ, min, Bool, true, false, cond, List, [], ◌∷◌, map, length, Option, Some, None, refl, sym, ap, ◌∙◌, arith}
 use Rattle.std.proofs.lemmas.Bool.{cond-true, cond-false}
 use Rattle.jc_lexer.specs.declared.token.Key.TheVariants as key_of
 use Rattle.jc_lexer.specs.declared.token.Sign.TheVariants as sign_of
@@ -13,18 +13,18 @@ use Rattle.jc_tree.specs.declared.statement.ForInit.TheVariants as init_of
 use Rattle.jc_tree.specs.declared.statement.Modifier.{Modifier}
 use Rattle.jc_tree.specs.declared.statement.Var.{Var}
 use Rattle.jc_tree.specs.declared.types.TypeTree.{TypeTree}
-use Rattle.jc_reading.specs.Kinds.{kind_code, sign_code, key_code, word_code, is_in, front_code, one_of}
-use Rattle.jc_reading.specs.Reading.{Read, Found, Stopped, Run, noting, becoming, joined, ◌>>=◌, as_new, in_turn, perhaps, perhaps_from, on_pick, of_kind, an_ident_at, before_it, behind_it, each_behind, first_and_more, commas_run, Either, This, That, either}
-use Rattle.jc_reading.specs.Further.{with_room, tried, trying}
+use Rattle.jc_reading.specs.Kinds.{sign_code, word_code, one_of}
+use Rattle.jc_reading.specs.Reading.{Read, Found, Stopped, Run, noting, becoming, joined, ◌>>=◌, as_new, in_turn, perhaps, of_kind, an_ident_at, before_it, behind_it, each_behind, commas_run, Either, This, That, either}
+use Rattle.jc_reading.specs.Further.{tried}
 use Rattle.jc_parse_type.specs.TypeReading.{dims_run, type_run}
 use Rattle.jc_part_laws.specs.PartReading.{modifier_run, modifiers_run, var_run}
 use Rattle.jc_expr_laws.specs.ExprReading.{exprs, strict_effect}
 use Rattle.jc_expr_laws.proofs.EffectEndings.{effects_and_more}
-use Rattle.jc_unit_laws.specs.UnitReading.{ForRest, ForParts, effect_in_run, expr_in_run, for_head_made, for_head_run, for_named_run, for_rest_run, named_made, or_no_effects, or_no_init, semicolon_run}
+use Rattle.jc_unit_laws.specs.UnitReading.{ForRest, ForParts, expr_in_run, for_head_made, for_head_run, for_named_run, for_rest_run, named_made, or_no_effects, or_no_init, semicolon_run}
 use Rattle.jc_parse_parts.specs.Parts.{or_no_initial, more_vars_run, initial_run}
 use Rattle.jc_parse_heads.specs.UnitCode.{for_opening, for_opening_run, listed}
 use Rattle.jc_parse_heads.specs.Beginnings.{modifier_codes}
-use Rattle.jc_parse_heads.specs.HeadCode.{opened_run, Test, updating_run, testing_run, parens_end, effects_run, effects_in_run, updates_made, updates_run, for_update_made, for_update_run, for_test_made, for_test_run, tail_of, for_tail_made, for_tail_run, empty_head, Rest, Kind, more_of, kind_of, resting_run, given_run, each_kind_run, colon_codes, kinds_run, closed_expr_run, for_each_made, for_each_run, each_kind, for_more_made, for_more_run, for_vars_made, for_vars_run, for_kind_made, for_kind_run, for_dims_made, for_dims_run, named_of, for_name_made, for_name_run, for_typed_made, for_typed_run, named_head, typed_head, bare_head, first_modifiers_run, Moded, moded_run, for_moded_made, for_moded_run, effecting_run, for_effects_made, for_effects_run, tried_run, for_other_made, for_other_run, for_typed_or_run, for_ended_run}
+use Rattle.jc_parse_heads.specs.HeadCode.{opened_run, updating_run, testing_run, parens_end, effects_run, updates_made, updates_run, for_update_made, for_update_run, for_test_made, for_test_run, for_tail_made, for_tail_run, empty_head, Kind, kind_of, resting_run, given_run, each_kind_run, colon_codes, kinds_run, closed_expr_run, for_each_made, for_each_run, each_kind, for_more_made, for_more_run, for_vars_made, for_vars_run, for_kind_made, for_kind_run, for_dims_made, for_dims_run, named_of, for_name_made, for_name_run, for_typed_made, for_typed_run, named_head, typed_head, bare_head, first_modifiers_run, Moded, moded_run, for_moded_made, for_moded_run, effecting_run, for_effects_made, for_effects_run, tried_run, for_other_made, for_other_run, for_typed_or_run, for_ended_run}
 use Rattle.jc_parse_heads.specs.declared.head_parts.ForTail.{ForTail}
 use Rattle.jc_parse_heads.specs.declared.head_parts.ForMore.{ForMore}
 use Rattle.jc_parse_heads.specs.declared.head_parts.ForKind.{ForKind}
@@ -33,8 +33,8 @@ use Rattle.jc_parse_heads.specs.declared.head_parts.ForDims.{ForDims}
 use Rattle.jc_parse_heads.specs.declared.head_parts.ForNamed.{ForNamed}
 use Rattle.jc_parse_heads.specs.declared.head_parts.ForTyped.{ForTyped}
 use Rattle.jc_parse_heads.specs.declared.pieces.ForOpening.{ForOpening}
-use Rattle.jc_parse_heads.proofs.Chains.{behind_opened, both_made, ended_step, flat, same_self}
-use Rattle.jc_parse_heads.proofs.Joinings.{Splits, cut, either_that, either_this, first_made, first_read, grouped, noted_made, remade, room_gone, room_there, second_made, second_same, split_behind, split_here, split_room}
+use Rattle.jc_parse_heads.proofs.Chains.{behind_opened, ended_step, flat, same_self}
+use Rattle.jc_parse_heads.proofs.Joinings.{Splits, cut, first_made, first_read, grouped, remade, room_gone, room_there, second_made, second_same, split_behind, split_here}
 
 -- what is read in the same way but for a sign before it
 

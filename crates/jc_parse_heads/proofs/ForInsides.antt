@@ -1,18 +1,15 @@
 -- What is read of a `for` up to its body has its reach not behind what is left.
-use Rattle.std.proofs.Common.{ℕ, zero, suc, Bool, true, false, cond, ◌≤◌, min, List, [], ◌∷◌, length, arith}
+use Rattle.std.proofs.Common.{ℕ, zero, suc, Bool, true, false, cond, ◌≤◌, List, [], ◌∷◌, length, arith}
 use Rattle.jc_lexer.specs.declared.token.Key.TheVariants as key_of
 use Rattle.jc_lexer.specs.declared.token.Sign.TheVariants as sign_of
 use Rattle.jc_lexer.specs.declared.token.Token.{Token}
-use Rattle.jc_tree.specs.declared.expression.Expr.{Expr}
-use Rattle.jc_tree.specs.declared.statement.Modifier.{Modifier}
-use Rattle.jc_tree.specs.declared.types.TypeTree.{TypeTree}
 use Rattle.jc_reading.specs.Kinds.{sign_code, key_code, word_code, one_of}
 use Rattle.jc_reading.specs.Reading.{Read, Found, Stopped, Run, noting, becoming, in_turn, perhaps, of_kind, at_kind, an_ident_at, each_behind, commas_run, Either, This, That, either}
-use Rattle.jc_reading.specs.Further.{tried, trying, with_room}
+use Rattle.jc_reading.specs.Further.{tried, with_room}
 use Rattle.jc_parse_type.specs.TypeReading.{dims_run, type_run}
 use Rattle.jc_parse_type.proofs.TypeForms.{dims_laws}
 use Rattle.jc_part_laws.specs.PartReading.{modifier_run, modifiers_run, var_made, var_run}
-use Rattle.jc_expr_laws.specs.ExprReading.{exprs, readers}
+use Rattle.jc_expr_laws.specs.ExprReading.{exprs}
 use Rattle.jc_expr_laws.proofs.ExprWhole.{expr_laws}
 use Rattle.jc_unit_laws.specs.UnitReading.{effect_in_run, expr_in_run, for_head_made, for_head_run, for_named_run, for_rest_run, semicolon_run}
 use Rattle.jc_parse_parts.specs.Lists.{Near, Inside}

@@ -1,12 +1,12 @@
 -- Updates of a `for` and the right parenthesis behind them, as the code reads them.
-use Rattle.std.proofs.Common.{◌≡◌, ℕ, zero, suc, ◌≤◌, ◌<◌, min, Bool, true, false, cond, List, [], ◌∷◌, length, Option, Some, None, refl, sym, ap, ◌∙◌, subst, ⊎_elim, arith}
+use Rattle.std.proofs.Common.{◌≡◌, ℕ, zero, suc, ◌≤◌, ◌<◌, min, Bool, true, false, cond, List, [], ◌∷◌, length, Some, None, refl, sym, ap, ◌∙◌, subst, ⊎_elim, arith}
 use Rattle.std.proofs.lemmas.Bool.{false≢true, cases_Bool, eqb-true, eq-eqb, or_left}
 use Rattle.std.specs.Prelude.{◌==◌, ◌||◌}
 use Rattle.jc_lexer.specs.declared.token.Sign.TheVariants as sign_of
 use Rattle.jc_lexer.specs.declared.token.Token.{Token}
 use Rattle.jc_tree.specs.declared.expression.Expr.{Expr}
-use Rattle.jc_reading.specs.Kinds.{kind_code, sign_code, is_in, front_code, one_of}
-use Rattle.jc_reading.specs.Reading.{Read, Found, Stopped, Run, noting, becoming, joined, ◌>>=◌, as_new, in_turn, on_pick, perhaps, perhaps_from, of_kind, before_it, each_behind, first_and_more, commas_run}
+use Rattle.jc_reading.specs.Kinds.{kind_code, sign_code, front_code, one_of}
+use Rattle.jc_reading.specs.Reading.{Read, Found, Stopped, Run, noting, becoming, joined, ◌>>=◌, on_pick, perhaps_from, of_kind, before_it, each_behind, first_and_more, commas_run}
 use Rattle.jc_reading.specs.Further.{with_room}
 use Rattle.jc_reading.proofs.Signs.{apart_sets}
 use Rattle.jc_reading.proofs.Steps.{Refuses, reach}
@@ -17,12 +17,12 @@ use Rattle.jc_expr_laws.proofs.EffectStrict.{Back, Nearly, effect_nearly, no_eff
 use Rattle.jc_expr_laws.proofs.ExprWhole.{expr_laws}
 use Rattle.jc_expr_laws.proofs.LevelPrefixes.{post_goes}
 use Rattle.jc_expr_laws.proofs.LevelKnot.{all_laws}
-use Rattle.jc_unit_laws.specs.UnitReading.{effect_in_run, or_no_effects}
+use Rattle.jc_unit_laws.specs.UnitReading.{effect_in_run}
 use Rattle.jc_parse_parts.specs.Lists.{Near, Inside}
 use Rattle.jc_parse_parts.proofs.Growths.{within_near}
 use Rattle.jc_parse_parts.proofs.Insides.{inside_commas}
 use Rattle.jc_parse_heads.proofs.Joinings.{room_gone, room_there}
-use Rattle.jc_parse_heads.specs.HeadCode.{effects_run, effects_in_run, no_updates, parens_end, updates_made, updates_run, updating_run}
+use Rattle.jc_parse_heads.specs.HeadCode.{effects_run, effects_in_run, no_updates, parens_end, updates_made, updates_run}
 
 -- an effect
 

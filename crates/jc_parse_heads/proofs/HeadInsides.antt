@@ -3,16 +3,14 @@ use Rattle.std.proofs.Common.{ℕ, zero, suc, [], ◌∷◌, arith}
 use Rattle.jc_lexer.specs.declared.token.Key.TheVariants as key_of
 use Rattle.jc_lexer.specs.declared.token.Sign.TheVariants as sign_of
 use Rattle.jc_reading.specs.Kinds.{sign_code, key_code}
-use Rattle.jc_reading.specs.Reading.{Run, in_turn, of_kind, at_kind, an_ident_at, each_behind}
-use Rattle.jc_reading.specs.Further.{with_room}
+use Rattle.jc_reading.specs.Reading.{in_turn, of_kind, at_kind, an_ident_at, each_behind}
 use Rattle.jc_parse_type.specs.TypeReading.{class_run, type_run}
 use Rattle.jc_parse_type.proofs.CodeSteps.{within_type}
-use Rattle.jc_part_laws.specs.PartReading.{closing_run, modifiers_run, modifier_run, rows_tail_run, which}
+use Rattle.jc_part_laws.specs.PartReading.{closing_run, modifiers_run, modifier_run, which}
 use Rattle.jc_part_laws.proofs.PartForms.{class_coded_laws}
 use Rattle.jc_expr_laws.specs.ExprReading.{exprs, readers}
 use Rattle.jc_expr_laws.proofs.ExprWhole.{expr_laws}
 use Rattle.jc_unit_laws.specs.UnitReading.{resource_made, resource_run, resources_made, resources_run}
-use Rattle.jc_unit_laws.specs.MemberReading.{levels}
 use Rattle.jc_parse_parts.specs.Lists.{Inside}
 use Rattle.jc_parse_parts.proofs.Growths.{within_near}
 use Rattle.jc_parse_parts.proofs.Insides.{inside_any, inside_as, inside_each, inside_either, inside_picking, inside_room, inside_turn}

@@ -1,5 +1,5 @@
 -- How what is read one behind the other goes together.
-use Rattle.std.proofs.Common.{◌≡◌, ℕ, zero, suc, min, true, false, cond, Bool, List, length, Result, Ok, Err, IfOk, ◌≤◌, refl, sym, ap, ◌∙◌, subst, arith}
+use Rattle.std.proofs.Common.{◌≡◌, ℕ, zero, suc, min, true, false, List, length, Result, Ok, Err, IfOk, ◌≤◌, refl, sym, ap, ◌∙◌, subst, arith}
 use Rattle.std.proofs.lemmas.Bool.{cond-true, cond-false}
 use Rattle.jc_lexer.specs.declared.token.Sign.{Sign}
 use Rattle.jc_lexer.specs.declared.token.Token.{Token}
@@ -18,9 +18,6 @@ use Rattle.jc_parse_heads.specs.Joins.{behind, closing, Joined}
 pub noted_halts : {A : Type 0} (left : ℕ) (e : Halt) (m : Read A) → Halts e m → Halts (behind left e) (noting left m)
 noted_halts left (halt_of.Stopped reach) m h = ap (noting left) h
 noted_halts left halt_of.WantOfMemory m h = tt
-
-pub noted_found : {A : Type 0} (left : ℕ) (m : Read A) (a : A) (r : List Token) (l : ℕ) → m ≡ Found a r l → noting left m ≡ Found a r (min left l)
-noted_found left m a r l e = ap (noting left) e
 
 pub found_same : {A : Type 0} (m : Read A) (a b : A) (q r : List Token) (l k : ℕ) → m ≡ Found a q l → b ≡ a → r ≡ q → k ≡ l → m ≡ Found b r k
 found_same m a b q r l k e f g h = e ∙ ap (λ x. Found x q l) (sym f) ∙ ap (λ x. Found b x l) (sym g) ∙ ap (λ x. Found b r x) (sym h)

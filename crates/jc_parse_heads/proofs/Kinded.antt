@@ -1,5 +1,5 @@
 -- What stands at the front is of the codes that it is to be of.
-use Rattle.std.proofs.Common.{◌≡◌, ◌==◌, ◌∷◌, [], Bool, true, false, refl, sym, ap, ◌∙◌, List, length, Result, subst}
+use Rattle.std.proofs.Common.{◌≡◌, ◌==◌, ◌∷◌, [], true, false, refl, ◌∙◌, List, length}
 use Rattle.std.proofs.lemmas.Bool.{cond-true, cond-false}
 use Rattle.jc_lexer.specs.declared.token.Token.{Token}
 use Rattle.jc_reading.specs.Reading.{Read, noting}

@@ -1,7 +1,6 @@
 -- What is read of statements, members and declarations at each height takes a token at least.
-use Rattle.std.proofs.Common.{ℕ, zero, suc, refl, arith}
+use Rattle.std.proofs.Common.{ℕ, refl, arith}
 use Rattle.jc_tree.specs.declared.statement.Member.{Member}
-use Rattle.jc_tree.specs.declared.statement.Stmt.{Stmt}
 use Rattle.jc_tree.specs.declared.statement.TopLevel.{TopLevel}
 use Rattle.jc_reading.proofs.Coded.{formed}
 use Rattle.jc_reading.proofs.Turns.{Advances, lawful_advances}
@@ -9,23 +8,14 @@ use Rattle.jc_expr_laws.specs.ExprReading.{exprs}
 use Rattle.jc_expr_laws.proofs.ExprWhole.{expr_laws}
 use Rattle.jc_unit_laws.specs.MemberReading.{levels, member_run, top_run}
 use Rattle.jc_unit_laws.proofs.Files.{top_coded, top_laws}
-use Rattle.jc_unit_laws.proofs.Items.{item_form, item_laws}
 use Rattle.jc_unit_laws.proofs.Levels.{known}
 use Rattle.jc_unit_laws.proofs.Members.{member_laws}
-use Rattle.jc_unit_laws.proofs.RestForms.{member_coded, rest_laws}
+use Rattle.jc_unit_laws.proofs.RestForms.{member_coded}
 
 pub member_advances : (h : ℕ) → Advances Member (member_run exprs h (levels exprs h))
 member_advances h =
     let k = known exprs expr_laws h in
     lawful_advances Member (formed (member_coded exprs h (levels exprs h))) (member_laws exprs expr_laws h (levels exprs h) k.laws k.rest) refl
-
-pub item_advances : (h : ℕ) → Advances Stmt (levels exprs h).item
-unfolding levels
-item_advances zero = record { within = λ ts. omega arith; shorter = λ ts. tt }
-item_advances (suc h) =
-    let k = known exprs expr_laws h in
-    let lr = rest_laws exprs h (levels exprs h) (member_laws exprs expr_laws h (levels exprs h) k.laws k.rest) in
-    lawful_advances Stmt (formed (item_form exprs expr_laws h (levels exprs h))) (item_laws exprs expr_laws h (levels exprs h) k.laws lr) refl
 
 pub top_advances : (h : ℕ) → Advances TopLevel (top_run exprs h)
 top_advances h = lawful_advances TopLevel (formed (top_coded exprs h)) (top_laws exprs expr_laws h) refl

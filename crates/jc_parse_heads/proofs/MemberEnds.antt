@@ -1,5 +1,5 @@
 -- What stands behind the head of a member, and the first statement of a constructor.
-use Rattle.std.proofs.Common.{◌≡◌, ◌==◌, ℕ, Bool, true, false, cond, List, [], ◌∷◌, length, Option, Some, None, refl, sym, ap, ◌∙◌, subst, arith}
+use Rattle.std.proofs.Common.{◌≡◌, ◌==◌, ℕ, Bool, true, false, cond, List, [], ◌∷◌, length, Option, Some, refl, sym, ap, ◌∙◌, arith}
 use Rattle.std.proofs.lemmas.Bool.{cond-true, cond-false}
 use Rattle.jc_lexer.specs.declared.token.Key.TheVariants as key_of
 use Rattle.jc_lexer.specs.declared.token.Sign.TheVariants as sign_of
@@ -15,14 +15,12 @@ use Rattle.jc_reading.specs.declared.reading.Halt.{Halt}
 use Rattle.jc_reading.specs.declared.reading.Halt.TheVariants as halt_of
 use Rattle.jc_reading.specs.Giving.{Halts}
 use Rattle.jc_reading.specs.Kinds.{key_code, kind_code, one_of, sign_code}
-use Rattle.jc_reading.specs.Reading.{Read, Found, Stopped, Run, Either, This, That, any_number, as_new, at_kind, becoming, before_it, behind_it, commas_run, either, in_turn, joined, noting, of_kind, perhaps, ◌>>=◌}
+use Rattle.jc_reading.specs.Reading.{Read, Found, Stopped, Run, Either, This, That, any_number, as_new, at_kind, becoming, before_it, behind_it, commas_run, in_turn, joined, noting, of_kind, perhaps, ◌>>=◌}
 use Rattle.jc_reading.specs.Further.{by_second, either_one, past, second_is}
 use Rattle.jc_expr_laws.specs.ExprReading.{exprs}
 use Rattle.jc_unit_laws.specs.UnitReading.{Braces, braced_run, expr_in_run, semicolon_run}
 use Rattle.jc_unit_laws.specs.MemberReading.{Actuals, actuals_run, constructor_items, constructor_items_run, first_run, item_run, levels, or_no_actuals, paren_codes, super_made, super_run, this_made, this_run}
-use Rattle.jc_parse_parts.specs.Lists.{Inside}
-use Rattle.jc_parse_parts.proofs.Insides.{inside_room}
-use Rattle.jc_parse_heads.specs.MemberCode.{ConstructorEnd, MethodEnd, actual_list, actual_list_run, between, code_head_run, constructor_end, constructor_end_run, constructor_list, constructor_list_run, ended_actuals_run, finish, first_ended_run, first_items_run, first_row_run, method_end, method_end_run, method_items, method_items_run, method_member, no_items, no_items_run, no_statements, no_statements_run, some_exprs_run, super_or_item_run, with_head}
+use Rattle.jc_parse_heads.specs.MemberCode.{MethodEnd, actual_list, actual_list_run, between, code_head_run, constructor_end, constructor_end_run, constructor_list, constructor_list_run, ended_actuals_run, finish, first_ended_run, first_items_run, first_row_run, method_end, method_end_run, method_items, method_items_run, method_member, no_items_run, no_statements_run, some_exprs_run, super_or_item_run, with_head}
 use Rattle.jc_parse_heads.specs.UnitCode.{braced_items_run, braces_list, coded_member_run, listed}
 use Rattle.jc_parse_heads.specs.declared.heads.MemberHead.{MemberHead}
 use Rattle.jc_parse_heads.specs.declared.heads.MemberHead.TheVariants as head_of

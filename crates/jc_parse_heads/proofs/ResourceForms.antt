@@ -1,5 +1,5 @@
 -- Resources of a `try`, as the code reads them.
-use Rattle.std.proofs.Common.{◌≡◌, ℕ, Bool, List, map, length, refl, sym, ap, ◌∙◌, subst}
+use Rattle.std.proofs.Common.{◌≡◌, ℕ, Bool, List, map, length, refl, sym, ◌∙◌, subst}
 use Rattle.jc_lexer.specs.declared.token.Sign.TheVariants as sign_of
 use Rattle.jc_lexer.specs.declared.token.Token.{Token}
 use Rattle.jc_tree.specs.declared.name.Ident.{Ident}
@@ -11,7 +11,7 @@ use Rattle.jc_tree.specs.declared.types.TypeTree.{TypeTree}
 use Rattle.jc_reading.specs.declared.reading.Halt.{Halt}
 use Rattle.jc_reading.specs.Giving.{Halts}
 use Rattle.jc_reading.specs.Kinds.{sign_code}
-use Rattle.jc_reading.specs.Reading.{Read, Found, Stopped, Run, becoming, noting, as_new, in_turn, of_kind, an_ident_at, before_it, behind_it, each_behind}
+use Rattle.jc_reading.specs.Reading.{Read, Found, Stopped, Run, noting, as_new, in_turn, of_kind, an_ident_at, before_it, behind_it, each_behind}
 use Rattle.jc_parse_type.specs.TypeReading.{type_run}
 use Rattle.jc_part_laws.specs.PartReading.{closing_run, modifiers_run, rows_tail_run}
 use Rattle.jc_expr_laws.specs.ExprReading.{exprs}
@@ -22,7 +22,6 @@ use Rattle.jc_parse_heads.specs.HeadCode.{assigned_name_run, valued_made, valued
 use Rattle.jc_parse_heads.specs.declared.head_parts.MoreResources.{MoreResources}
 use Rattle.jc_parse_heads.specs.declared.head_parts.TypedValue.{TypedValue}
 use Rattle.jc_parse_heads.specs.declared.head_parts.Valued.{Valued}
-use Rattle.jc_parse_heads.proofs.Chains.{both_made}
 use Rattle.jc_parse_heads.proofs.Joinings.{cut, first_made, grouped, room_gone, room_there, second_made, split_behind, split_here, two_halts}
 
 abbrev pub valued_node : (Ident × Expr) → Valued

@@ -1,13 +1,13 @@
 -- Heads of members, as the code reads them.
-use Rattle.std.proofs.Common.{◌≡◌, ◌==◌, ℕ, zero, suc, Bool, true, false, cond, List, [], ◌∷◌, length, map, Option, Some, None, refl, sym, ap, ◌∙◌}
+use Rattle.std.proofs.Common.{◌≡◌, ◌==◌, ℕ, zero, suc, Bool, true, false, cond, List, [], ◌∷◌, length, map, Option, Some, None, refl, ap, ◌∙◌}
 use Rattle.std.proofs.lemmas.Bool.{cond-true, cond-false}
 use Rattle.jc_lexer.specs.declared.token.Key.TheVariants as key_of
 use Rattle.jc_lexer.specs.declared.token.Sign.TheVariants as sign_of
 use Rattle.jc_lexer.specs.declared.token.Token.{Token}
 use Rattle.jc_reading.specs.Kinds.{key_code, kind_code, one_of, sign_code, word_code}
 use Rattle.jc_reading.specs.Reading.{Read, Found, Stopped, Run, Either, This, That, an_ident_at, as_new, becoming, before_it, behind_it, each_behind, either, in_turn, joined, noting, of_kind, perhaps, ◌>>=◌}
-use Rattle.jc_reading.specs.Further.{by_second, either_one, past, roomy_second, second_is, with_room}
-use Rattle.jc_unit_laws.specs.MemberReading.{field_tail_run, levels, paren_codes}
+use Rattle.jc_reading.specs.Further.{either_one, past, roomy_second, second_is, with_room}
+use Rattle.jc_unit_laws.specs.MemberReading.{field_tail_run, paren_codes}
 use Rattle.jc_unit_laws.specs.UnitReading.{semicolon_run}
 use Rattle.jc_expr_laws.specs.ExprReading.{exprs}
 use Rattle.jc_parse_type.specs.TypeReading.{class_run, dims_run}
@@ -21,7 +21,6 @@ use Rattle.jc_parse_heads.specs.declared.heads.NamedTail.{NamedTail}
 use Rattle.jc_parse_heads.specs.declared.heads.NamedTail.TheVariants as tail_of
 use Rattle.jc_parse_heads.specs.declared.heads.Signature.{Signature}
 use Rattle.jc_parse_heads.specs.MemberCode.{code_head_run, ended_more_run, fields_run, fields_tail_made, generic_head, generic_head_run, named_tail_run, plain_head, plain_head_run, signature_run, tail_made, constructor_shape_run, generic_shape_run, method_shape_run, named_shape_run, typed_shape_run, void_shape_run}
-use Rattle.jc_parse_heads.specs.declared.heads.Shape.{Shape}
 use Rattle.jc_parse_heads.proofs.Joinings.{cut, either_this, either_that, first_made, first_read, noted_bind, noted_made, or_this, or_that, second_read, second_same}
 
 module _ {A : Type 0} (m n : Run A) where

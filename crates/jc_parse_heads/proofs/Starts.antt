@@ -1,6 +1,5 @@
 -- What statements begin with, as the code reads it.
-use Rattle.std.proofs.Common.{◌≡◌, ℕ, zero, suc, min, true, false, cond, Bool, List, [], ◌∷◌, length, Option, Some, None, refl, sym, ap, ◌∙◌, subst, arith}
-use Rattle.std.proofs.lemmas.Bool.{cond-true, cond-false}
+use Rattle.std.proofs.Common.{◌≡◌, ℕ, true, false, List, [], ◌∷◌, length, Option, refl, ap, ◌∙◌, arith}
 use Rattle.jc_lexer.specs.declared.token.Key.{Key}
 use Rattle.jc_lexer.specs.declared.token.Key.TheVariants as key_of
 use Rattle.jc_lexer.specs.declared.token.Sign.TheVariants as sign_of
@@ -9,23 +8,20 @@ use Rattle.jc_tree.specs.declared.expression.Expr.{Expr}
 use Rattle.jc_tree.specs.declared.name.Ident.{Ident}
 use Rattle.jc_tree.specs.declared.statement.Clause.{Clause}
 use Rattle.jc_tree.specs.declared.statement.ClauseHead.TheVariants as clause_of
-use Rattle.jc_tree.specs.declared.statement.ForHead.{ForHead}
 use Rattle.jc_tree.specs.declared.statement.Stmt.{Stmt}
 use Rattle.jc_tree.specs.declared.statement.Stmt.TheVariants as stmt_of
-use Rattle.jc_reading.specs.Kinds.{kind_code, sign_code, key_code, word_code, one_of}
-use Rattle.jc_reading.specs.Reading.{Read, Found, Stopped, Run, noting, becoming, joined, ◌>>=◌, as_new, in_turn, any_number, perhaps, of_kind, at_kind, an_ident_at, before_it, Either, This, That, either}
-use Rattle.jc_reading.specs.Further.{with_room, by_second, second_is, past}
-use Rattle.jc_expr_laws.specs.ExprReading.{exprs, strict_effect}
-use Rattle.jc_expr_laws.proofs.EffectEndings.{effect_and_semicolon}
-use Rattle.jc_unit_laws.specs.UnitReading.{Braces, CaseLabel, Level, arm_made, arm_run, block_made, block_run, braced_run, break_made, break_run, case_made, case_run, continue_made, continue_run, do_made, do_run, effect_made, expr_in_run, finally_made, finally_run, for_head_run, for_made, for_run, label_run, labeled_made, labeled_or, parens_run, plain_run, return_made, return_run, semicolon_run, switch_made, switch_run, throw_made, throw_run, while_made, while_run, word_run}
+use Rattle.jc_reading.specs.Kinds.{sign_code, key_code, one_of}
+use Rattle.jc_reading.specs.Reading.{Read, Found, Stopped, Run, noting, becoming, joined, ◌>>=◌, as_new, in_turn, any_number, perhaps, of_kind, at_kind, an_ident_at, before_it, This, That, either}
+use Rattle.jc_reading.specs.Further.{with_room}
+use Rattle.jc_expr_laws.specs.ExprReading.{exprs}
+use Rattle.jc_unit_laws.specs.UnitReading.{Braces, CaseLabel, Level, arm_made, arm_run, block_made, block_run, braced_run, break_made, break_run, case_made, case_run, continue_made, continue_run, expr_in_run, for_head_run, for_made, for_run, label_run, labeled_made, parens_run, return_made, return_run, semicolon_run, switch_made, switch_run, throw_made, throw_run, while_made, while_run}
 use Rattle.jc_unit_laws.specs.MemberReading.{levels}
 use Rattle.jc_parse_heads.specs.Joins.{alone}
 use Rattle.jc_parse_heads.specs.UnitCode as code
-use Rattle.jc_parse_heads.specs.UnitCode.{inner, inner_run, tested_made, tested_run, roomy_tested_run, ended_value_run, some_name_run, ended_label_run, ended_expr_run, until_brace, braces_list, items_until_run, braced_items_run, groups_until_run, braced_groups_run, clause_made, opening_of_label, case_label_run, default_label_run, for_opening, for_opening_run, named_label_run, do_test, do_test_run}
+use Rattle.jc_parse_heads.specs.UnitCode.{tested_made, tested_run, roomy_tested_run, ended_value_run, ended_label_run, ended_expr_run, braces_list, items_until_run, braced_groups_run, clause_made, opening_of_label, case_label_run, default_label_run, for_opening, for_opening_run, named_label_run}
 use Rattle.jc_parse_heads.specs.declared.pieces.ForOpening.{ForOpening}
-use Rattle.jc_parse_heads.specs.declared.pieces.Opening.{Opening}
 use Rattle.jc_parse_heads.specs.declared.pieces.Tested.{Tested}
-use Rattle.jc_parse_heads.proofs.Joinings.{Splits, split_here, split_behind, split_room, grouped, first_made, second_made, remade, cut, either_this, either_that, noted_bind, room_gone, room_there}
+use Rattle.jc_parse_heads.proofs.Joinings.{split_here, split_behind, split_room, grouped, first_made, second_made, either_this, either_that, noted_bind, room_gone, room_there}
 
 abbrev Case : List ℕ
 Case = key_code key_of.Case ∷ []

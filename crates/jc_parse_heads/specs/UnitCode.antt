@@ -119,6 +119,10 @@ case_opening p = record { at = p.0; head = clause_of.Case p.1.0 }
 abbrev pub default_opening : (ℕ × Unit {0}) → Opening
 default_opening p = record { at = p.0; head = clause_of.Default }
 
+-- the value of a case and its colon
+unfoldable pub case_value_run : ℕ → Run Expr
+case_value_run h = as_new before_it (in_turn (exprs.conditional h) (of_kind (sign_code sign_of.Colon)))
+
 unfoldable pub case_label_run : ℕ → Run Opening
 case_label_run h = as_new case_opening (with_room h (in_turn (at_kind (key_code key_of.Case)) (in_turn (exprs.conditional h) (of_kind (sign_code sign_of.Colon)))))
 

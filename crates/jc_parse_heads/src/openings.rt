@@ -4,7 +4,7 @@ ghost use Rattle.jc_reading.specs.Giving.{Gives, Is};
 ghost use Rattle.jc_reading.specs.Reading.{perhaps};
 ghost use Rattle.jc_expr_laws.specs.ExprReading.{exprs};
 ghost use Rattle.jc_unit_laws.specs.UnitReading.{expr_in_run};
-ghost use Rattle.jc_parse_heads.specs.UnitCode.{case_label_run, default_label_run, do_test_run, ended_expr_run, ended_label_run, ended_value_run, inner_run, label_run, named_label_run, roomy_tested_run, some_name_run, tested_run};
+ghost use Rattle.jc_parse_heads.specs.UnitCode.{case_label_run, case_value_run, default_label_run, do_test_run, ended_expr_run, ended_label_run, ended_value_run, inner_run, label_run, named_label_run, roomy_tested_run, some_name_run, tested_run};
 
 use crate::fronts::word_stands;
 use crate::joins::{closed, reaching};
@@ -183,8 +183,19 @@ pub fn do_test(alloc: Global, tokens: &[Token], height: u32) -> Result<Found<'_,
     closed(Sign::Semicolon, test)
 }
 
+/// The value of a case and its colon.
+#[tactic(auto, unfolding(crate::specs::UnitCode::case_value_run))]
+fn case_value(alloc: Global, tokens: &[Token], height: u32) -> Result<Found<'_, Expr>, Halt>
+    requires { length tokens.now < 2 ^ 32 }
+    ensures read { Gives result (case_value_run height tokens.now) }
+    ensures shorter { IfOk result (λ f. length f.rest.now ≤ length tokens.now) }
+{
+    let value = conditional_within(alloc, tokens, height)?;
+    closed(Sign::Colon, value)
+}
+
 /// The label of a case.
-#[tactic(auto, unfolding(crate::specs::UnitCode::case_label_run), using(crate::proofs::Joinings::room_there, crate::proofs::Joinings::room_gone))]
+#[tactic(auto, unfolding(crate::specs::UnitCode::case_label_run, crate::specs::UnitCode::case_value_run), using(crate::proofs::Joinings::room_there, crate::proofs::Joinings::room_gone))]
 fn case_label(alloc: Global, tokens: &[Token], height: u32) -> Result<Found<'_, Opening>, Halt>
     requires { length tokens.now < 2 ^ 32 }
     ensures read { Gives result (case_label_run height tokens.now) }
@@ -194,8 +205,7 @@ fn case_label(alloc: Global, tokens: &[Token], height: u32) -> Result<Found<'_, 
         return Err(Halt::Stopped(tokens.len()));
     }
     let at = word_at(Key::Case, tokens)?;
-    let value = reaching(at.left, conditional_within(alloc, at.rest, height))?;
-    let value = closed(Sign::Colon, value)?;
+    let value = reaching(at.left, case_value(alloc, at.rest, height))?;
     Ok(Found {
         value: Opening {
             at: at.value,

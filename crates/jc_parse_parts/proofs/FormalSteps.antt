@@ -158,9 +158,6 @@ formals_off formal whole list left rest l (suc n) le w e v =
 pub formals_stop : (b : Bool) (formal : Run Formal) (whole : Read (List Formal)) (list : List Formal) (left : ℕ) (rest : List Token) (l : ℕ) → b ≡ false → Continues b formal whole list left rest → as_new behind_it (in_turn (of_kind (sign_code sign_of.Comma)) formal) rest ≡ Stopped l → l ≤ length rest → whole ≡ Found list rest (min left l)
 formals_stop b formal whole list left rest l s c e v = let w = going b formal whole list left rest s c in formals_off formal whole list left rest l w.0 w.1 w.2 e v
 
-pub formals_halt : (h : ℕ) (ts : List Token) (l : ℕ) → formal_run exprs h ts ≡ Stopped l → some_formals_run h ts ≡ Stopped l
-formals_halt h ts l e = ap (λ (v : Read Formal). becoming first_formals (v >>= unless is_variable [] (λ ts. formals_tail_run (length ts) (formal_run exprs h) ts))) e
-
 -- between parentheses
 
 abbrev Optional : ℕ → Run (Option (Formal × List Formal))

@@ -8,7 +8,7 @@ use Rattle.jc_reading.specs.declared.reading.Halt.{Halt}
 use Rattle.jc_reading.specs.Giving.{Gives}
 use Rattle.jc_reading.specs.Kinds.{sign_code, one_of}
 use Rattle.jc_reading.specs.Reading.{Read, Found, Stopped, Run, found, becoming, joined, noting, on_pick, ◌>>=◌, picking, any_number, as_new, in_turn, perhaps, perhaps_from, either, This, That, of_kind, at_kind, first_and_more, each_behind, commas_run}
-use Rattle.jc_reading.specs.Further.{with_room, by_value, followed, unless, preferring, or_else}
+use Rattle.jc_reading.specs.Further.{with_room, preferring, or_else}
 use Rattle.jc_parse_parts.specs.Lists.{Ahead, GoesAhead, Near, Inside}
 use Rattle.jc_parse_parts.proofs.Growths.{within_times, within_near}
 
@@ -106,11 +106,6 @@ unfolding with_room
 inside_room zero m w ts = omega arith
 inside_room (suc h) m w ts = w ts
 
-pub ahead_room : {A : Type 0} (h : ℕ) (m : Run A) → GoesAhead m → GoesAhead (with_room h m)
-unfolding with_room
-ahead_room zero m w ts = omega arith
-ahead_room (suc h) m w ts = w ts
-
 near_else : {A B : Type 0} (ts : List Token) (m : Read A) (n : Run B) → Near ts m → Near ts (n ts) → Near ts (or_else ts m n)
 near_else ts (Found a r l) n v w = v
 near_else ts (Stopped l) n v w = near_noting ts l (becoming That (n ts)) (near_becoming ts That (n ts) w)
@@ -121,15 +116,6 @@ inside_preferring m n v w ts = near_else ts (m ts) n (v ts) (w ts)
 near_unless : {A T : Type 0} (closes : A → Bool) (none : T) (more : Run T) (a : A) (b : Bool) (q : List Token) → Near q (more q) → Near q (cond b (found (a, none) q) (becoming (joined a) (more q)))
 near_unless closes none more a true q w = (omega arith, omega arith)
 near_unless closes none more a false q w = near_becoming q (joined a) (more q) w
-
-pub inside_followed : {A T : Type 0} (closes : A → Bool) (none : T) (m : Run A) (more : Run T) → Inside m → Inside more → Inside (followed closes none m more)
-inside_followed closes none m more v w ts = near_bind ts (m ts) (unless closes none more) (v ts) (λ a q. near_unless closes none more a (closes a) q (w q))
-
-pub ahead_followed : {A T : Type 0} (closes : A → Bool) (none : T) (m : Run A) (more : Run T) → GoesAhead m → Inside more → GoesAhead (followed closes none m more)
-ahead_followed closes none m more v w ts = near_on ts (m ts) (unless closes none more) (v ts) (λ a q. near_unless closes none more a (closes a) q (w q))
-
-pub inside_value : {A B : Type 0} (m : Run A) (n : A → Run B) → Inside m → ((a : A) → Inside (n a)) → Inside (by_value m n)
-inside_value m n v w ts = near_bind ts (m ts) (λ a q. becoming (joined a) (n a q)) (v ts) (λ a q. near_becoming q (joined a) (n a q) (w a q))
 
 -- fewer tokens are left
 

@@ -6,16 +6,10 @@ use Rattle.jc_reading.specs.Kinds.{sign_code, key_code}
 use Rattle.jc_reading.specs.Reading.{in_turn, perhaps, either, of_kind, at_kind, an_ident_at, picks, picks_at, picks_ident}
 use Rattle.jc_part_laws.specs.PartReading.{more_names_run}
 use Rattle.jc_unit_laws.specs.UnitReading.{semicolon_run}
-use Rattle.jc_unit_laws.specs.MemberReading.{import_made, import_run, package_made, package_run}
+use Rattle.jc_unit_laws.specs.MemberReading.{import_made, import_run}
 use Rattle.jc_parse_parts.specs.Lists.{GoesAhead, Inside}
 use Rattle.jc_parse_parts.proofs.Insides.{ahead_as, ahead_picking, ahead_turn, inside_either, inside_perhaps, inside_picking, inside_turn}
 use Rattle.jc_parse_parts.proofs.PartInsides.{names_inside}
-
-pub package_ahead : GoesAhead package_run
-unfolding package_run
-package_ahead =
-    ahead_as package_made _ (ahead_turn (at_kind (key_code key_of.Package)) (in_turn an_ident_at (in_turn more_names_run semicolon_run)) (ahead_picking (picks_at (key_code key_of.Package)))
-    (inside_turn an_ident_at (in_turn more_names_run semicolon_run) (inside_picking picks_ident) (inside_turn more_names_run semicolon_run names_inside (inside_picking (picks (sign_code sign_of.Semicolon))))))
 
 end_inside : Inside (either (sign_code sign_of.Dot ∷ []) (in_turn (of_kind (sign_code sign_of.Dot)) (in_turn (of_kind (sign_code sign_of.Star)) semicolon_run)) semicolon_run)
 end_inside =

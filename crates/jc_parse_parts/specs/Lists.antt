@@ -26,11 +26,6 @@ Inside run = (ts : List Token) → Near ts (run ts)
 abbrev pub onto : {A : Type 0} → List A → ℕ → Read (List A) → Read (List A)
 onto list left m = noting left (becoming (λ more. list ++ more) m)
 
--- the answer is what is read, which holds it within other parts
-abbrev pub Wraps : {A B : Type 0} → (A → B) → Result (answer.Found A) Halt → Read B → Type 0
-Wraps wrap (Ok f) read = read ≡ Found (wrap f.value) f.rest.now f.left
-Wraps wrap (Err halt) read = Halts halt read
-
 abbrev pub or_no_list : {A : Type 0} → Option (List A) → List A
 or_no_list None = []
 or_no_list (Some list) = list

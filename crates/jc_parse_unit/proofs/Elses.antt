@@ -12,7 +12,7 @@ use Rattle.jc_tree.specs.declared.statement.Clause.{Clause}
 use Rattle.jc_tree.specs.declared.statement.Stmt.{Stmt}
 use Rattle.jc_tree.specs.declared.statement.Stmt.TheVariants as stmt_of
 use Rattle.jc_reading.specs.Kinds.{key_code, one_of}
-use Rattle.jc_reading.specs.Reading.{Read, Found, Stopped, Run, found, noting, becoming, joined, ◌>>=◌, as_new, in_turn, of_kind, perhaps, perhaps_from, Either, This, That, either}
+use Rattle.jc_reading.specs.Reading.{Read, Found, Stopped, Run, found, noting, becoming, joined, ◌>>=◌, as_new, in_turn, of_kind, perhaps_from, Either, This, That, either}
 use Rattle.jc_reading.specs.Further.{followed, unless}
 use Rattle.jc_unit_laws.specs.UnitReading.{arm_open, branch_made, branch_run, no_more, or_none}
 use Rattle.jc_unit_laws.specs.UnitReading.{Branch as UnitBranch}

@@ -1,13 +1,11 @@
 -- Statements and declarations of a height, by those of one less.
-use Rattle.std.proofs.Common.{◌≡◌, ℕ, zero, suc, ◌-◌, List, length, refl, sym, ap, ◌∙◌, arith}
+use Rattle.std.proofs.Common.{◌≡◌, ℕ, zero, suc, ◌-◌, List, length, refl, ap, arith}
 use Rattle.jc_lexer.specs.declared.token.Token.{Token}
-use Rattle.jc_reading.specs.Reading.{Read, Stopped, as_new}
-use Rattle.jc_tree.specs.declared.statement.Stmt.{Stmt}
+use Rattle.jc_reading.specs.Reading.{Stopped, as_new}
 use Rattle.jc_expr_laws.specs.ExprReading.{exprs}
 use Rattle.jc_unit_laws.specs.UnitReading.{body_run, case_item_run, other_run}
 use Rattle.jc_unit_laws.specs.MemberReading.{first_run, item_run, levels, rest_run}
 use Rattle.jc_parse_heads.specs.UnitCode.{body_made, declaration_rest_run}
-use Rattle.jc_parse_heads.specs.declared.pieces.Body.{Body}
 
 less : (k : ℕ) → k ≡ suc k - 1
 less k = omega arith

@@ -1,27 +1,26 @@
 -- The head of a member leaves no more tokens than there are.
-use Rattle.std.proofs.Common.{◌≡◌, ◌==◌, ℕ, zero, suc, ◌≤◌, min, Bool, true, false, cond, List, [], ◌∷◌, length, map, refl, subst, arith}
+use Rattle.std.proofs.Common.{◌≡◌, ◌==◌, ℕ, zero, suc, ◌≤◌, Bool, true, false, cond, List, [], ◌∷◌, length, subst, arith}
 use Rattle.jc_lexer.specs.declared.token.Key.TheVariants as key_of
 use Rattle.jc_lexer.specs.declared.token.Sign.TheVariants as sign_of
 use Rattle.jc_lexer.specs.declared.token.Token.{Token}
 use Rattle.jc_tree.specs.declared.statement.Modifier.{Modifier}
-use Rattle.jc_reading.specs.Kinds.{key_code, kind_code, one_of, sign_code, word_code}
-use Rattle.jc_reading.specs.Reading.{Read, Found, Stopped, Run, Either, This, That, an_ident_at, as_new, at_kind, becoming, commas_run, each_behind, either, in_turn, noting, of_kind, perhaps}
-use Rattle.jc_reading.specs.Further.{by_second, either_one, past, roomy_second, second_is, with_room}
+use Rattle.jc_reading.specs.Kinds.{key_code, kind_code, sign_code, word_code}
+use Rattle.jc_reading.specs.Reading.{Read, Found, Stopped, Run, This, That, an_ident_at, as_new, at_kind, becoming, commas_run, each_behind, either, in_turn, noting, of_kind, perhaps}
+use Rattle.jc_reading.specs.Further.{either_one, past, roomy_second, second_is, with_room}
 use Rattle.jc_parse_type.specs.TypeReading.{class_run, dims_run, type_run}
 use Rattle.jc_parse_type.proofs.CodeSteps.{within_type}
 use Rattle.jc_parse_type.proofs.TypeForms.{dims_laws}
 use Rattle.jc_part_laws.specs.PartReading.{formal_run, formals_run, keyed_run, or_nothing, params_of_run, var_made, var_run}
 use Rattle.jc_part_laws.proofs.FormalForms.{formals_laws}
 use Rattle.jc_part_laws.proofs.PartForms.{class_coded_laws, params_of_laws}
-use Rattle.jc_expr_laws.specs.ExprReading.{exprs, readers}
+use Rattle.jc_expr_laws.specs.ExprReading.{exprs}
 use Rattle.jc_expr_laws.proofs.ExprWhole.{expr_laws}
 use Rattle.jc_unit_laws.specs.UnitReading.{or_others, semicolon_run}
-use Rattle.jc_unit_laws.specs.MemberReading.{field_tail_run, levels, paren_codes}
+use Rattle.jc_unit_laws.specs.MemberReading.{field_tail_run, paren_codes}
 use Rattle.jc_parse_parts.specs.Lists.{Inside, Near}
 use Rattle.jc_parse_parts.proofs.Growths.{within_near}
 use Rattle.jc_parse_parts.proofs.Insides.{inside_as, inside_commas, inside_each, inside_either, inside_perhaps, inside_picking, inside_turn}
 use Rattle.jc_parse_heads.specs.MemberCode.{code_head_run, constructor_shape_run, fields_run, fields_tail_made, generic_head, generic_shape_run, method_shape, method_shape_run, named_made, named_shape_run, named_signature_run, named_tail_run, plain_head, signature_made, signature_run, tail_made, typed_shape, typed_shape_run, void_shape, void_shape_run, with_head}
-use Rattle.jc_parse_heads.specs.declared.heads.CodeHead.{CodeHead}
 use Rattle.jc_parse_heads.specs.declared.heads.MemberHead.{MemberHead}
 use Rattle.jc_parse_heads.specs.declared.heads.Shape.{Shape}
 use Rattle.jc_parse_heads.specs.declared.heads.Shape.TheVariants as shape_of

@@ -15,11 +15,11 @@ use Rattle.jc_tree.specs.declared.statement.Stmt.{Stmt}
 use Rattle.jc_tree.specs.declared.statement.Stmt.TheVariants as stmt_of
 use Rattle.jc_reading.specs.Kinds.{key_code, kind_code, one_of, sign_code}
 use Rattle.jc_reading.specs.Reading.{Read, Found, Stopped, Run, Either, This, That, any_number, as_new, at_kind, becoming, before_it, either, in_turn, joined, noting, of_kind, ◌>>=◌}
-use Rattle.jc_reading.specs.Further.{by_second, by_value, either_one, past, second_is}
+use Rattle.jc_reading.specs.Further.{by_second, either_one, past, second_is}
 use Rattle.jc_parse_type.specs.TypeReading.{class_run, type_run}
 use Rattle.jc_part_laws.specs.PartReading.{HeadRest, head_made, head_rest_run, modifiers_run}
 use Rattle.jc_expr_laws.specs.ExprReading.{exprs}
-use Rattle.jc_unit_laws.specs.UnitReading.{Braces, DeclarationRest, PlacedBraces, Variables, braced_at_run, braced_run, declaration_made, moded_made, or_others, variables_run}
+use Rattle.jc_unit_laws.specs.UnitReading.{Braces, DeclarationRest, Variables, braced_at_run, braced_run, declaration_made, moded_made, or_others, variables_run}
 use Rattle.jc_unit_laws.specs.MemberReading.{MemberRest, code_rest_run, instance_made, is_low, item_rest_run, levels, member_made, member_rest_run, member_run, moded_item_run, moded_member, moded_member_run, rest_codes, rest_run, static_made}
 use Rattle.jc_parse_parts.specs.declared.trees.HeadTree.{HeadTree}
 use Rattle.jc_parse_parts.specs.Parts.{head_tree}

@@ -1,22 +1,21 @@
 -- What is read behind what statements begin with, as the code reads it.
-use Rattle.std.proofs.Common.{◌≡◌, ◌==◌, ℕ, zero, suc, min, true, false, cond, Bool, List, [], ◌∷◌, ◌++◌, length, Option, Some, None, refl, sym, ap, ◌∙◌, subst, arith}
+use Rattle.std.proofs.Common.{◌≡◌, ◌==◌, ℕ, true, false, cond, Bool, List, [], ◌∷◌, length, None, refl, sym, ap, ◌∙◌, subst, arith}
 use Rattle.std.proofs.lemmas.Bool.{cond-true, cond-false}
 use Rattle.jc_lexer.specs.declared.token.Key.TheVariants as key_of
 use Rattle.jc_lexer.specs.declared.token.Sign.TheVariants as sign_of
 use Rattle.jc_lexer.specs.declared.token.Token.{Token}
 use Rattle.jc_tree.specs.declared.expression.Expr.{Expr}
-use Rattle.jc_tree.specs.declared.name.Ident.{Ident}
 use Rattle.jc_tree.specs.declared.statement.Clause.{Clause}
 use Rattle.jc_tree.specs.declared.statement.Resources.{Resources}
 use Rattle.jc_tree.specs.declared.statement.Stmt.{Stmt}
 use Rattle.jc_tree.specs.declared.statement.Stmt.TheVariants as stmt_of
 use Rattle.jc_reading.specs.Kinds.{kind_code, sign_code, key_code, word_code, one_of}
-use Rattle.jc_reading.specs.Reading.{Read, Found, Stopped, Run, found, noting, becoming, joined, ◌>>=◌, as_new, in_turn, any_number, perhaps, of_kind, at_kind, an_ident_at, each_behind, before_it, Either, This, That, either}
+use Rattle.jc_reading.specs.Reading.{Read, Found, Stopped, Run, found, noting, becoming, joined, ◌>>=◌, as_new, in_turn, any_number, perhaps, of_kind, at_kind, an_ident_at, each_behind, This, That, either}
 use Rattle.jc_reading.specs.Further.{with_room, by_second, second_is, past, followed, unless, trying}
 use Rattle.jc_parse_type.specs.TypeReading.{class_run, type_run}
 use Rattle.jc_part_laws.specs.PartReading.{modifiers_run}
-use Rattle.jc_expr_laws.specs.ExprReading.{exprs, strict_effect}
-use Rattle.jc_unit_laws.specs.UnitReading.{Branch, Braces, arm_open, arm_run, branch_run, braced_run, catch_made, catch_run, clauses_made, clauses_run, do_made, do_run, effect_made, finally_made, finally_run, if_made, if_run, label_run, labeled_made, labeled_or, local_or_effect, no_more, parens_run, plain_run, resources_run, semicolon_run, some_clauses_made, some_clauses_run, try_made, try_run, variables_run, word_run}
+use Rattle.jc_expr_laws.specs.ExprReading.{exprs}
+use Rattle.jc_unit_laws.specs.UnitReading.{Branch, Braces, arm_open, arm_run, branch_run, braced_run, catch_made, catch_run, clauses_run, do_made, do_run, effect_made, finally_made, finally_run, if_made, if_run, label_run, labeled_made, labeled_or, local_or_effect, no_more, parens_run, plain_run, resources_run, semicolon_run, some_clauses_made, some_clauses_run, try_made, try_run, variables_run, word_run}
 use Rattle.jc_unit_laws.specs.MemberReading.{levels}
 use Rattle.jc_parse_heads.specs.Joins.{alone}
 use Rattle.jc_parse_heads.specs.UnitCode as code
@@ -26,7 +25,7 @@ use Rattle.jc_reading.specs.Giving.{Halts}
 use Rattle.jc_parse_heads.specs.declared.pieces.Branch.TheVariants as branch_is
 use Rattle.jc_parse_heads.specs.declared.pieces.Guarded.{Guarded}
 use Rattle.jc_parse_heads.specs.declared.pieces.Opening.{Opening}
-use Rattle.jc_parse_heads.proofs.Joinings.{Splits, Two, split_here, split_behind, split_room, grouped, first_made, second_made, remade, cut, either_this, either_that, halts_as, halts_bind, two_halts, noted_two, room_first, room_there, room_gone}
+use Rattle.jc_parse_heads.proofs.Joinings.{Two, split_here, split_behind, grouped, first_made, second_made, remade, cut, either_this, either_that, halts_as, halts_bind, two_halts, noted_two, room_first, room_there, room_gone}
 
 module _ (h : ℕ) (ts : List Token) where
   -- `do`

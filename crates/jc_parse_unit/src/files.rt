@@ -13,7 +13,7 @@ use crate::members::rest_at;
 use jc_lexer::{Sign, Token};
 use jc_parse_heads::{sign_stands, top_of};
 use jc_parse_parts::{import, many, modifiers_within, package, sign_at};
-use jc_reading::{Found, Halt};
+use jc_reading::{Found, Halt, without};
 use jc_rules::{Items, WantOfMemory};
 use jc_tree::{Import, Package, SourceFile, TopLevel};
 use std::alloc::Global;
@@ -105,8 +105,12 @@ pub fn file(alloc: Global, tokens: &[Token]) -> Result<Found<'_, SourceFile>, Wa
     ensures { IfOk result (λ f. Is f (file_run exprs 199 tokens.now)) }
 {
     let package = some_package(alloc, tokens)?;
-    let imports = imports(alloc, package.rest)?;
-    let types = tops(alloc, imports.rest)?;
+    let Ok(imports) = imports(alloc, package.rest) else {
+        return Err(without(package, WantOfMemory));
+    };
+    let Ok(types) = tops(alloc, imports.rest) else {
+        return Err(without((package, imports), WantOfMemory));
+    };
     Ok(Found {
         value: SourceFile {
             package: package.value,

@@ -18,7 +18,7 @@ use jc_parse_heads::{
     throw_at, try_of, try_with_of, while_of, with_last, word_stands,
 };
 use jc_parse_parts::{many, row, sign, sign_at, word, word_at};
-use jc_reading::{Found, Halt};
+use jc_reading::{Found, Halt, pushed, without};
 use jc_rules::{Items, WantOfMemory};
 use jc_tree::{Clause, Stmt};
 use std::alloc::Global;
@@ -455,8 +455,7 @@ fn arms<'a>(alloc: Global, first: Found<'a, Clause>, height: u32) -> Result<Foun
     let mut open = is_open(&first.value);
     let mut rest = first.rest;
     let mut left = first.left;
-    let mut arms = Items::new(alloc);
-    arms.push(first.value)?;
+    let mut arms = pushed(Items::new(alloc), first.value)?;
     'arms: loop {
         if open {
             return Ok(if_of(alloc, arms, rest, left.min(rest.len())));
@@ -471,7 +470,7 @@ fn arms<'a>(alloc: Global, first: Found<'a, Clause>, height: u32) -> Result<Foun
                 match value {
                     Branch::Arm(arm) => {
                         open = is_open(&arm);
-                        arms.push(arm)?;
+                        arms = pushed(arms, arm)?;
                         left = left.min(reach);
                         rest = after;
                     }
@@ -483,7 +482,7 @@ fn arms<'a>(alloc: Global, first: Found<'a, Clause>, height: u32) -> Result<Foun
             Err(Halt::Stopped(reach)) => {
                 return Ok(if_of(alloc, arms, rest, left.min(reach)));
             }
-            Err(Halt::WantOfMemory) => return Err(Halt::WantOfMemory),
+            Err(Halt::WantOfMemory) => return Err(without(arms, Halt::WantOfMemory)),
         }
     }
 }

@@ -1,25 +1,21 @@
 -- The class of a program has a class file: its numbers have room, and its pool has room for its constants.
-use Rattle.std.proofs.Common.{◌≡◌, ◌≤◌, ◌<◌, ℕ, zero, suc, ◌+◌, ◌-◌, ◌*◌, ◌^◌, Bool, true, false, List, [], ◌∷◌, ◌++◌, length, refl, sym, ap, ◌∙◌, subst, append_assoc, arith, Option, Some, None, leb-true, length-append, codes, inl, inr, ◌⊎◌, if◌then◌else◌}
+use Rattle.std.proofs.Common.{◌≡◌, ◌≤◌, ◌<◌, ℕ, zero, suc, ◌+◌, ◌-◌, ◌*◌, Bool, true, false, List, [], ◌∷◌, ◌++◌, length, refl, sym, ap, ◌∙◌, subst, arith, leb-true, length-append, codes, inl, inr, ◌⊎◌}
 use Rattle.std.proofs.lemmas.Bool.{lt-ltb, le-leb}
 use Rattle.std.proofs.lemmas.List.{append-nil}
-use Rattle.std.specs.Prelude.{flat_map, ℤ, pos, nat_le, nat_lt, ◌&&◌, ◌||◌, ◌==◌, not}
+use Rattle.std.specs.Prelude.{flat_map, pos, nat_le, ◌&&◌, ◌||◌}
 use Rattle.std.specs.List.{AllByRecursion, list_all, list_any}
 use Rattle.jc_class_out.specs.declared.model.Ins.{Ins}
-use Rattle.jc_class_out.specs.declared.model.ClassModel.{ClassModel}
-use Rattle.jc_class_out.specs.declared.model.MethodModel.{MethodModel}
-use Rattle.jc_class_out.specs.declared.model.CodeModel.{CodeModel}
 use Rattle.jc_class_out.specs.declared.model.Item.{Item}
 use Rattle.jc_class_out.specs.declared.model.Loaded.TheVariants.{Whole}
 use Rattle.jc_class_out.specs.declared.model.Operand.TheVariants.{Nothing, Number, Load}
-use Rattle.jc_class_out.specs.Pool.{Known, KnownText, KnownWhole, KnownClass, KnownField, KnownMethod, KnownPair}
-use Rattle.jc_class_out.specs.Texts.{text_bytes}
-use Rattle.jc_class_out.specs.Descriptors.{is_method_descriptor, parameter_units, name_end, type_end, parameters_on}
+use Rattle.jc_class_out.specs.Pool.{Known, KnownText, KnownClass, KnownField, KnownMethod, KnownPair}
+use Rattle.jc_class_out.specs.Descriptors.{parameter_units, name_end, type_end, parameters_on}
 use Rattle.jc_class_out.specs.Instructions.{kind_of, branch_kind, member_kind, ins_size, operand_size}
 use Rattle.jc_class_out.specs.Code.{marks_of, marks_from, size_from}
-use Rattle.jc_class_out.specs.Spelling.{same_known, has, add, adds, ins_uses, ins_first_uses, operand_uses, member_uses, code_uses, method_uses, members_uses, loads_of, uses, method_first_uses, entry_of_method}
-use Rattle.jc_class_out.specs.Fitting.{is_u16, text_fits, known_fits, places, operand_fits, ins_fits, all_fit, ins_lands, ins_all_fit, tables_fit, frames_fit, frames_within, code_fits, method_fits, counts_fit, members_fit, pool_fits, fits_of}
+use Rattle.jc_class_out.specs.Spelling.{same_known, has, add, adds, ins_uses, ins_first_uses, operand_uses, member_uses, code_uses, method_uses, members_uses, loads_of, uses, entry_of_method}
+use Rattle.jc_class_out.specs.Fitting.{text_fits, known_fits, operand_fits, ins_fits, all_fit, ins_lands, ins_all_fit, tables_fit, frames_fit, frames_within, code_fits, method_fits, counts_fit, members_fit, pool_fits, fits_of}
 use Rattle.jc_small.specs.Small.{Program, IsSum}
-use Rattle.jc_small.specs.ClassOf.{ins, const_ins, more_code, sum_code, write_code, main_code, main_class, out_ins, write_ins, init_code, init_method, main_method}
+use Rattle.jc_small.specs.ClassOf.{ins, const_ins, more_code, write_code, main_code, main_class, out_ins, write_ins, init_method, main_method}
 
 and_true : (a b : Bool) → a ≡ true → b ≡ true → (a && b) ≡ true
 and_true a b e f = rw (e, f) refl

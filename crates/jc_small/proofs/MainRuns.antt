@@ -1,8 +1,8 @@
 -- The machine puts out what a program says.
-use Rattle.std.proofs.Common.{◌≡◌, ◌≤◌, ◌<◌, ℕ, zero, suc, ◌+◌, ◌-◌, ◌*◌, Bool, true, false, List, [], ◌∷◌, ◌++◌, length, map, refl, sym, ap, ◌∙◌, subst, append_assoc, arith, Option, Some, None, leb-true, length-append}
+use Rattle.std.proofs.Common.{◌≡◌, ◌≤◌, ◌<◌, ℕ, zero, suc, ◌+◌, ◌-◌, Bool, true, false, List, [], ◌∷◌, ◌++◌, length, refl, ap, ◌∙◌, subst, append_assoc, arith, Option, Some, leb-true, length-append}
 use Rattle.std.proofs.lemmas.Bool.{leb-false, ltb-true, ltb-false, le-ltb, lt-ltb}
 use Rattle.jc_machine.specs.declared.machine.Ran.{Ran}
-use Rattle.std.specs.Prelude.{flat_map, ℤ, pos, nat_le, nat_lt, ◌%◌, take, if◌then◌else◌}
+use Rattle.std.specs.Prelude.{flat_map, ℤ, pos, nat_le, nat_lt, ◌%◌, if◌then◌else◌}
 use Rattle.std.specs.List.{AllByRecursion}
 use Rattle.std.specs.Int.{w32, int_wrapping_add, cast_unsigned}
 use Rattle.jc_class_out.specs.declared.model.Ins.{Ins}
@@ -21,8 +21,8 @@ use Rattle.jc_machine.specs.Rows.{row_of, plain_row}
 use Rattle.jc_machine.specs.Table.{State, Going, Over, Move, step_of, act_if}
 use Rattle.jc_machine.specs.Runs.{Seen, first, run_of, run_after}
 use Rattle.jc_small.specs.Small.{Program, IsSum}
-use Rattle.jc_small.specs.Meaning.{sum_after, sum_of, byte_of, source_shows, Ended as SourceEnded, Going as SourceGoing}
-use Rattle.jc_small.specs.ClassOf.{ins, const_ins, more_code, sum_code, write_code, main_code, main_class, out_ins, write_ins}
+use Rattle.jc_small.specs.Meaning.{sum_after, byte_of, source_shows, Ended as SourceEnded, Going as SourceGoing}
+use Rattle.jc_small.specs.ClassOf.{ins, const_ins, more_code, write_code, main_code, main_class, out_ins, write_ins}
 use Rattle.jc_small.specs.Same.{Matches, EndsAs}
 use Rattle.jc_small.proofs.Quiet.{Quiet, quiet_none, quiet_step}
 use Rattle.jc_small.proofs.Standing.{Stands, stands_next, placed}

@@ -1,5 +1,5 @@
 -- Steps of the machine that show nothing.
-use Rattle.std.proofs.Common.{◌≡◌, ◌≤◌, ◌<◌, ℕ, zero, suc, ◌+◌, ◌-◌, List, [], ◌∷◌, ◌++◌, refl, sym, ap, ◌∙◌, subst, arith}
+use Rattle.std.proofs.Common.{◌≡◌, ◌≤◌, ℕ, zero, suc, ◌+◌, List, [], refl, ap, ◌∙◌, arith}
 use Rattle.jc_class_out.specs.declared.model.ClassModel.{ClassModel}
 use Rattle.jc_machine.specs.declared.machine.Ran.TheVariants.{StepsReached}
 use Rattle.jc_machine.specs.declared.machine.Stepped.TheVariants.{Went}

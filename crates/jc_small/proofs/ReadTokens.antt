@@ -1,5 +1,5 @@
 -- What is read from tokens is the program that they are, and no other.
-use Rattle.std.proofs.Common.{◌≡◌, ◌≤◌, ℕ, zero, suc, ◌+◌, Bool, true, false, List, [], ◌∷◌, ◌++◌, length, refl, sym, ap, ◌∙◌, subst, append_assoc, arith, Option, Some, None, codes, map, le-leb, leb-true}
+use Rattle.std.proofs.Common.{◌≡◌, ◌≤◌, ℕ, zero, suc, ◌+◌, Bool, true, false, List, [], ◌∷◌, ◌++◌, length, refl, sym, ap, ◌∙◌, append_assoc, arith, Option, Some, None, codes, map, le-leb, leb-true}
 use Rattle.std.specs.Prelude.{flat_map, if◌then◌else◌, slice_get, ◌==◌, nat_le}
 use Rattle.std.specs.Str.{bytes_eq}
 use Rattle.std.proofs.Common.{take, inl, inr, ◌⊎◌, ◌<◌, add-one, eqb-true, Result, Ok, Err, IfOk, MatchOption}
@@ -16,7 +16,7 @@ use Rattle.jc_lexer.specs.declared.token.TokenKind.TheVariants as kind_of
 use Rattle.jc_small.specs.declared.fixed.Fixed.{Fixed}
 use Rattle.jc_small.specs.declared.fixed.Fixed.TheVariants as fixed_of
 use Rattle.jc_small.specs.declared.reading.Moved.{Moved}
-use Rattle.jc_small.specs.declared.reading.Effect.TheVariants.{Nothing, Add, Close}
+use Rattle.jc_small.specs.declared.reading.Effect.TheVariants.{Nothing, Add}
 use Rattle.std.proofs.lemmas.List.{append-nil}
 use Rattle.std.specs.List.{AllByRecursion}
 use Rattle.jc_small.specs.declared.reading.Point.{Point}

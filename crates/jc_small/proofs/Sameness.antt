@@ -1,15 +1,14 @@
 -- The class of a program shows what the program shows.
-use Rattle.std.proofs.Common.{◌≡◌, ◌≤◌, ℕ, ◌+◌, ◌*◌, List, [], ◌∷◌, length, refl, sym, ap, ◌∙◌, subst, arith, Option, Some, None, codes}
+use Rattle.std.proofs.Common.{◌≡◌, ◌≤◌, ℕ, List, [], ◌∷◌, length, refl, ap, arith, Some, codes}
 use Rattle.std.specs.List.{AllByRecursion}
 use Rattle.std.specs.Str.{chars}
 use Rattle.jc_lexer.specs.declared.token.Token.{Token}
 use Rattle.jc_machine.specs.Names.{spelling}
-use Rattle.jc_machine.specs.Table.{State, Going}
 use Rattle.jc_machine.specs.Start.{start_of, first_frame, begins}
 use Rattle.std.specs.Option.{option_map}
 use Rattle.jc_small.specs.Small.{Program, IsSum, IsProgram}
 use Rattle.jc_small.specs.ClassOf.{main_class, main_code, init_method, main_method}
-use Rattle.jc_small.specs.Same.{Same, ShowsSame, HasMembers, Compiled}
+use Rattle.jc_small.specs.Same.{ShowsSame, HasMembers, Compiled}
 use Rattle.jc_small.proofs.Short.{code_short}
 use Rattle.jc_small.proofs.Standing.{Stands, rest_here}
 use Rattle.jc_class_out.proofs.Exact.{spelled}

@@ -1,12 +1,12 @@
 -- A program's code has no more instructions than the program has tokens.
-use Rattle.std.proofs.Common.{◌≡◌, ◌≤◌, ℕ, suc, ◌+◌, List, [], ◌∷◌, ◌++◌, length, arith, length-append, map, ap}
+use Rattle.std.proofs.Common.{◌≤◌, ℕ, ◌+◌, List, [], ◌∷◌, length, arith, length-append, ap}
 use Rattle.std.proofs.lemmas.List.{length-map}
 use Rattle.std.specs.Prelude.{flat_map}
 use Rattle.std.specs.List.{AllByRecursion}
 use Rattle.jc_lexer.specs.declared.token.Token.{Token}
 use Rattle.jc_class_out.specs.declared.model.Operand.TheVariants.{Nothing}
-use Rattle.jc_small.specs.Small.{Program, IsSum, IsProgram, sum_kinds, write_kinds, program_kinds, kinds, head}
-use Rattle.jc_small.specs.ClassOf.{ins, const_ins, more_code, sum_code, write_code, main_code, write_ins}
+use Rattle.jc_small.specs.Small.{Program, IsSum, IsProgram, sum_kinds, write_kinds}
+use Rattle.jc_small.specs.ClassOf.{ins, more_code, write_code, main_code, write_ins}
 use Rattle.jc_small.specs.declared.fixed.Fixed.TheVariants.{RightParen, Semicolon, RightBrace}
 use Rattle.jc_small.specs.Lexemes.{kind_of_fixed}
 

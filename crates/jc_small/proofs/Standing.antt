@@ -1,15 +1,12 @@
 -- Where the instructions of `main` stand.
-use Rattle.std.proofs.Common.{◌≡◌, ◌≤◌, ◌<◌, ℕ, zero, suc, ◌+◌, ◌-◌, ◌*◌, Bool, true, false, List, [], ◌∷◌, ◌++◌, length, refl, sym, ap, ◌∙◌, subst, arith, Option, Some, None, if◌then◌else◌, le-leb, nat_eq}
-use Rattle.std.specs.Prelude.{◌==◌, option_and_then, nat_le}
+use Rattle.std.proofs.Common.{◌≡◌, ◌≤◌, ◌<◌, ℕ, ◌+◌, ◌-◌, ◌*◌, Bool, true, false, List, [], ◌∷◌, length, refl, ap, ◌∙◌, arith, Some, if◌then◌else◌, le-leb}
+use Rattle.std.specs.Prelude.{◌==◌}
 use Rattle.std.proofs.Common.{eqb-true}
 use Rattle.std.proofs.lemmas.Bool.Decides.{Decides-eqb}
-use Rattle.std.specs.Option.{option_map}
 use Rattle.jc_class_out.specs.declared.model.Ins.{Ins}
-use Rattle.jc_class_out.specs.declared.model.ClassModel.{ClassModel}
 use Rattle.jc_machine.specs.declared.rows.Row.{Row}
-use Rattle.jc_machine.specs.declared.rows.Placed.{Placed}
 use Rattle.jc_machine.specs.Rows.{row_of}
-use Rattle.jc_machine.specs.Code.{size_of, rest_from, place_of, end_of, first_place}
+use Rattle.jc_machine.specs.Code.{size_of, rest_from, place_of, first_place}
 use Rattle.jc_machine.specs.Names.{placed_at}
 use Rattle.jc_small.specs.Small.{Program}
 use Rattle.jc_small.specs.ClassOf.{main_code, main_class}

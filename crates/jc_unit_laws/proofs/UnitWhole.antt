@@ -2,13 +2,12 @@
 use Rattle.std.proofs.Common.{◌≡◌, ℕ, ◌-◌, List, [], ◌∷◌, length, refl, ◌⊎◌, inl, inr}
 use Rattle.jc_lexer.specs.declared.token.Token.{Token}
 use Rattle.jc_tree.specs.declared.statement.SourceFile.{SourceFile}
-use Rattle.jc_reading.proofs.Steps.{IsFound}
 use Rattle.jc_reading.specs.Reading.{Read, Found, Stopped}
 use Rattle.jc_expr_laws.specs.ExprReading.{exprs}
 use Rattle.jc_expr_laws.proofs.ExprWhole.{expr_laws}
 use Rattle.jc_unit_laws.specs.MemberReading.{file_run}
 use Rattle.jc_unit_laws.specs.UnitAnswers.{FileStands, FilesAreTold, NoFileStands}
-use Rattle.jc_unit_laws.proofs.UnitPlaces.{found_all, all_found, one_file, left_over, none_there}
+use Rattle.jc_unit_laws.proofs.UnitPlaces.{found_all, one_file, left_over, none_there}
 
 pub file_found : (tokens : List Token) (file : SourceFile) (l : ℕ) → file_run exprs 199 tokens ≡ Found file [] l → FileStands tokens file
 file_found tokens file l e = found_all exprs expr_laws tokens file l e

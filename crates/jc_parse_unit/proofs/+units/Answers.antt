@@ -1,17 +1,16 @@
-use Rattle.std.proofs.Common.{◌≡◌, ◌+◌, ◌<◌, ◌≤◌, ◌^◌, ℕ, min, List, [], ◌∷◌, ◌++◌, length, Option, Some, None, Result, Ok, Err, IfOk, refl, sym, ap, ◌∙◌, subst, arith, rules}
+use Rattle.std.proofs.Common.{◌≡◌, ◌+◌, ℕ, min, List, [], ◌∷◌, ◌++◌, length, Ok, Err, refl, sym, ap, ◌∙◌, subst, arith, rules}
 use Rattle.std.proofs.lemmas.Result.{err_from_is_err_and}
 use Rattle.jc_lexer.specs.declared.token.Key.TheVariants as key_of
 use Rattle.jc_lexer.specs.declared.token.Sign.TheVariants as sign_of
-use Rattle.jc_lexer.specs.declared.token.Token.{Token}
 use Rattle.jc_tree.specs.declared.statement.Clause.{Clause}
 use Rattle.jc_tree.specs.declared.statement.Member.{Member}
 use Rattle.jc_tree.specs.declared.statement.Stmt.{Stmt}
 use Rattle.jc_reading.specs.Giving.{Gives, Halts, Is}
 use Rattle.jc_reading.specs.Kinds.{key_code, sign_code}
-use Rattle.jc_reading.specs.Reading.{Read, Run, Found, Stopped, any_number, as_new, at_kind, becoming, in_turn, noting, of_kind, perhaps}
+use Rattle.jc_reading.specs.Reading.{Read, Found, Stopped, any_number, as_new, at_kind, becoming, in_turn, noting, perhaps}
 use Rattle.jc_expr_laws.specs.ExprReading.{exprs}
 use Rattle.jc_unit_laws.specs.MemberReading.{levels, member_run}
-use Rattle.jc_parse_heads.proofs.Joinings.{closed_is, cut, joined_gives, two_gives, two_halts}
+use Rattle.jc_parse_heads.proofs.Joinings.{cut, joined_gives, two_gives, two_halts}
 use Rattle.jc_unit_laws.specs.UnitReading.{case_run, catch_run, clauses_run, do_made, some_clauses_run}
 use Rattle.jc_parse_parts.proofs.Insides.{ahead_inside, kept, shorter_by}
 use Rattle.jc_parse_heads.specs.Joins.{alone}
@@ -240,7 +239,7 @@ statements::arms-arms-init t c =
     let arm = arm_run exprs c.args.height (levels exprs c.args.height) in
     let other = (levels exprs c.args.height).other in
     let whole = noting first.left (arms_run c.args.height first.value first.rest.now) in
-    let held : c.push.new.self ≡ first.value ∷ [] = c.in_ok-push.ensures.ok ∙ ap (λ (l : List Clause). l ++ first.value ∷ []) c.new-arms.ensures in (
+    let held : c.in_ok-arms.arms ≡ first.value ∷ [] = c.in_ok-arms.ensures ∙ ap (λ (l : List Clause). l ++ first.value ∷ []) c.new.ensures in (
       subst (λ (list : List Clause). Turns arm other whole list first.left c.is_open-open.result first.rest.now) (sym held)
           (subst (λ (b : Bool). Turns arm other whole (first.value ∷ []) first.left b first.rest.now) (sym c.is_open-open.ensures) (record { room = length first.rest.now; enough = omega arith; rest = refl })),
       c.requires,
@@ -303,7 +302,7 @@ statements::arms-arms-preserved t c =
     let next : branch_once_run h c.arms.rest.now ≡ Found (branch_is.Arm c.in-Arm.arm) found.rest.now found.left = c.in_Ok-found.ensures ∙ ap (λ (v : Branch). Found v found.rest.now found.left) c.in-Arm.is in
     let lt = ahead_less (branch_once_run h) c.arms.rest.now found.rest.now found.value found.left (branch_ahead h) c.in_Ok-found.ensures in
     let s = turn_arm arm other whole c.arms.arms c.arms.left c.arms.rest.now found.rest.now c.in-Arm.arm found.left at next lt in
-    let held : c.push-in-Arm.new.self ≡ c.arms.arms ++ c.in-Arm.arm ∷ [] = c.in_ok-push-in-Arm.ensures.ok in (
+    let held : c.in_ok-arms-in-Arm.arms ≡ c.arms.arms ++ c.in-Arm.arm ∷ [] = c.in_ok-arms-in-Arm.ensures in (
       subst (λ (list : List Clause). Turns arm other whole list c.min-left.result c.is_open-open-in-Arm.result found.rest.now) (sym held)
           (subst (λ (j : ℕ). Turns arm other whole (c.arms.arms ++ c.in-Arm.arm ∷ []) j c.is_open-open-in-Arm.result found.rest.now) (sym c.min-left.ensures)
           (subst (λ (b : Bool). Turns arm other whole (c.arms.arms ++ c.in-Arm.arm ∷ []) (min c.arms.left found.left) b found.rest.now) (sym c.is_open-open-in-Arm.ensures) s)),

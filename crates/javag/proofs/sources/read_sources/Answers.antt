@@ -1,5 +1,4 @@
-use Rattle.std.proofs.Common.{◌≡◌, ◌∙◌, ap, sym, subst, rules, arith, List, ℕ}
-use Rattle.javag.specs.Objects.{HasBytes, HaveTexts}
+use Rattle.std.proofs.Common.{◌∙◌, arith}
 use Rattle.javag.proofs.Texts.{texts_more, take_one}
 use Rattle.javag.proofs.sources.read_sources.Goals as goal
 

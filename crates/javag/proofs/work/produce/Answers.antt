@@ -1,4 +1,4 @@
-use Rattle.std.proofs.Common.{◌≡◌, ◌∙◌, sym, ap, inr, Ok}
+use Rattle.std.proofs.Common.{◌∙◌, sym, ap, inr, Ok}
 use Rattle.javag.proofs.Works.{start, started, has_main, has_outcome, did_nothing, did_run, cut_short, stays}
 use Rattle.javag.proofs.work.produce.Goals as goal
 

@@ -1,19 +1,12 @@
-use Rattle.std.proofs.Common.{◌≡◌, ℕ, List, Option, map, length, sym, ap, ◌∙◌, subst, arith, rules}
-use Rattle.std.proofs.lemmas.Result.{err_from_is_err_and}
+use Rattle.std.proofs.Common.{sym, subst, arith}
 use Rattle.jc_lexer.specs.declared.token.Key.TheVariants as key_of
 use Rattle.jc_lexer.specs.declared.token.Sign.TheVariants as sign_of
 use Rattle.jc_tree.specs.declared.statement.ClauseHead.{ClauseHead}
-use Rattle.jc_tree.specs.declared.statement.ForHead.{ForHead}
-use Rattle.jc_tree.specs.declared.statement.Resource.{Resource}
-use Rattle.jc_tree.specs.declared.statement.Resources.{Resources}
-use Rattle.jc_reading.specs.Giving.{Gives, Halts, Is}
-use Rattle.jc_reading.specs.Reading.{Read, as_new, behind_it, each_behind}
-use Rattle.jc_parse_type.specs.TypeReading.{class_run, dims_run, type_run}
-use Rattle.jc_part_laws.specs.PartReading.{closing_run, modifier_run, modifiers_run}
+use Rattle.jc_reading.specs.Giving.{Gives}
+use Rattle.jc_reading.specs.Reading.{Read}
+use Rattle.jc_part_laws.specs.PartReading.{modifiers_run}
 use Rattle.jc_expr_laws.specs.ExprReading.{exprs}
-use Rattle.jc_parse_heads.specs.declared.pieces.Opening.{Opening}
-use Rattle.jc_parse_heads.specs.declared.pieces.ForOpening.{ForOpening}
-use Rattle.jc_parse_heads.proofs.Joinings.{cut, joined_gives, two_gives, two_halts}
+use Rattle.jc_parse_heads.proofs.Joinings.{two_gives}
 use Rattle.jc_parse_heads.specs.HeadCode.{caught_types_run}
 use Rattle.jc_parse_heads.proofs.CatchForms.{catch_head_is, catch_head_node}
 use Rattle.jc_parse_heads.proofs.catching.catch_head.Goals as goal

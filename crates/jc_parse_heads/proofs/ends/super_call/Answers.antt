@@ -1,16 +1,13 @@
-use Rattle.std.proofs.Common.{◌≡◌, ℕ, List, [], ◌∷◌, length, Result, Ok, Err, refl, sym, ap, ◌∙◌, subst, arith, rules}
+use Rattle.std.proofs.Common.{sym, subst, arith}
 use Rattle.std.proofs.lemmas.Result.{err_from_is_err_and}
 use Rattle.jc_lexer.specs.declared.token.Key.TheVariants as key_of
 use Rattle.jc_tree.specs.declared.statement.Stmt.{Stmt}
-use Rattle.jc_reading.specs.Giving.{Gives, Halts, Is}
+use Rattle.jc_reading.specs.Giving.{Gives, Halts}
 use Rattle.jc_reading.specs.Kinds.{key_code}
 use Rattle.jc_reading.specs.Reading.{Read, at_kind}
-use Rattle.jc_expr_laws.specs.ExprReading.{exprs}
-use Rattle.jc_unit_laws.specs.UnitReading.{expr_in_run}
 use Rattle.jc_parse_heads.specs.MemberCode.{ended_actuals_run}
 use Rattle.jc_parse_heads.proofs.Joinings.{two_gives, two_halts}
-use Rattle.jc_parse_heads.proofs.MemberEnds.{super_is, super_node, this_is, this_node}
-use Rattle.jc_parse_heads.proofs.Aheads.{expr_in_inside}
+use Rattle.jc_parse_heads.proofs.MemberEnds.{super_is, super_node}
 use Rattle.jc_parse_heads.proofs.ends.super_call.Goals as goal
 
 pub returns-in_err-at : goal.returns-in_err-at

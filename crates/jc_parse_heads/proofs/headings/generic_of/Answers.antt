@@ -1,4 +1,4 @@
-use Rattle.std.proofs.Common.{ℕ, List, Option, Some, None, Bool, rules}
+use Rattle.std.proofs.Common.{Some, rules}
 use Rattle.jc_parse_heads.specs.declared.heads.Shape.{Shape}
 use Rattle.jc_tree.specs.declared.statement.TypeParams.{TypeParams}
 use Rattle.jc_parse_heads.proofs.headings.generic_of.Goals as goal

@@ -1,4 +1,4 @@
-use Rattle.std.proofs.Common.{ℕ, List, Option, Some, None, Bool, rules}
+use Rattle.std.proofs.Common.{List, Option, rules}
 use Rattle.jc_tree.specs.declared.statement.Stmt.{Stmt}
 use Rattle.jc_tree.specs.declared.statement.MethodHead.{MethodHead}
 use Rattle.jc_parse_heads.specs.MemberCode.{method_member}

@@ -1,4 +1,4 @@
-use Rattle.std.proofs.Common.{ℕ, List, Option, Some, None, Bool, rules}
+use Rattle.std.proofs.Common.{rules}
 use Rattle.jc_tree.specs.declared.name.Ident.{Ident}
 use Rattle.jc_parse_heads.specs.declared.heads.NamedTail.TheVariants as tail_of
 use Rattle.jc_parse_heads.specs.declared.heads.Signature.{Signature}

@@ -1,4 +1,4 @@
-use Rattle.std.proofs.Common.{ℕ, List, Option, Some, None, Bool, rules}
+use Rattle.std.proofs.Common.{List, Option, rules}
 use Rattle.jc_tree.specs.declared.expression.Init.{Init}
 use Rattle.jc_tree.specs.declared.statement.Var.{Var}
 use Rattle.jc_parse_heads.proofs.headings.parts_of.Goals as goal

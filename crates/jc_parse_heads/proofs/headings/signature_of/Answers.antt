@@ -1,4 +1,4 @@
-use Rattle.std.proofs.Common.{ℕ, List, Option, Some, None, Bool, rules}
+use Rattle.std.proofs.Common.{List, rules}
 use Rattle.jc_tree.specs.declared.types.ClassTree.{ClassTree}
 use Rattle.jc_tree.specs.declared.statement.Formal.{Formal}
 use Rattle.jc_parse_heads.proofs.headings.signature_of.Goals as goal

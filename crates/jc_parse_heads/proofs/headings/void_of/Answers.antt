@@ -1,4 +1,4 @@
-use Rattle.std.proofs.Common.{ℕ, List, Option, Some, None, Bool, rules}
+use Rattle.std.proofs.Common.{ℕ, rules}
 use Rattle.jc_parse_heads.specs.declared.heads.Named.{Named}
 use Rattle.jc_parse_heads.specs.declared.heads.Shape.TheVariants as shape_of
 use Rattle.jc_tree.specs.declared.statement.ResultType.TheVariants as result_of

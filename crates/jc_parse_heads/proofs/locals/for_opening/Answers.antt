@@ -1,25 +1,17 @@
-use Rattle.std.proofs.Common.{◌≡◌, ℕ, List, Option, map, length, sym, ap, ◌∙◌, subst, arith, rules}
+use Rattle.std.proofs.Common.{sym, subst, arith}
 use Rattle.std.proofs.lemmas.Result.{err_from_is_err_and}
 use Rattle.jc_lexer.specs.declared.token.Key.TheVariants as key_of
 use Rattle.jc_lexer.specs.declared.token.Sign.TheVariants as sign_of
-use Rattle.jc_tree.specs.declared.statement.ClauseHead.{ClauseHead}
-use Rattle.jc_tree.specs.declared.statement.ForHead.{ForHead}
-use Rattle.jc_tree.specs.declared.statement.Resource.{Resource}
-use Rattle.jc_tree.specs.declared.statement.Resources.{Resources}
-use Rattle.jc_reading.specs.Giving.{Gives, Halts, Is}
-use Rattle.jc_reading.specs.Reading.{Read, as_new, behind_it, each_behind}
-use Rattle.jc_parse_type.specs.TypeReading.{class_run, dims_run, type_run}
-use Rattle.jc_part_laws.specs.PartReading.{closing_run, modifier_run, modifiers_run}
-use Rattle.jc_expr_laws.specs.ExprReading.{exprs}
-use Rattle.jc_parse_heads.specs.declared.pieces.Opening.{Opening}
+use Rattle.jc_reading.specs.Giving.{Gives, Halts}
+use Rattle.jc_reading.specs.Reading.{Read}
 use Rattle.jc_parse_heads.specs.declared.pieces.ForOpening.{ForOpening}
-use Rattle.jc_parse_heads.proofs.Joinings.{cut, joined_gives, two_gives, two_halts}
+use Rattle.jc_parse_heads.proofs.Joinings.{two_gives, two_halts}
 use Rattle.jc_parse_heads.specs.UnitCode.{for_opening_run}
 use Rattle.jc_parse_heads.specs.HeadCode.{for_ended_run, opened_run}
 use Rattle.jc_parse_heads.proofs.ForForms.{for_opening_is, for_opening_node}
 use Rattle.jc_parse_heads.proofs.ForUpdates.{positive}
 use Rattle.jc_parse_heads.proofs.ForInsides.{for_inside}
-use Rattle.jc_parse_parts.proofs.Insides.{kept, shorter_by}
+use Rattle.jc_parse_parts.proofs.Insides.{shorter_by}
 use Rattle.jc_parse_heads.proofs.locals.for_opening.Goals as goal
 
 pub for_ended-requires : goal.for_ended-requires

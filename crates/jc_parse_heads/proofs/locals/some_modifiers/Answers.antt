@@ -1,11 +1,11 @@
-use Rattle.std.proofs.Common.{◌≡◌, ◌∙◌, ◌∷◌, List, length, sym, ap, subst, arith, rules}
+use Rattle.std.proofs.Common.{◌∙◌, List, sym, subst, arith, rules}
 use Rattle.std.proofs.lemmas.Result.{err_from_is_err_and}
 use Rattle.jc_tree.specs.declared.statement.Modifier.{Modifier}
-use Rattle.jc_reading.specs.Giving.{Gives, Halts, Is}
-use Rattle.jc_reading.specs.Reading.{Read, Stopped, any_number, as_new, in_turn, noting}
+use Rattle.jc_reading.specs.Giving.{Halts, Is}
+use Rattle.jc_reading.specs.Reading.{Read}
 use Rattle.jc_expr_laws.specs.ExprReading.{exprs}
 use Rattle.jc_part_laws.specs.PartReading.{modifier_run, modifiers_run}
-use Rattle.jc_parse_heads.specs.UnitCode.{listed, roomy_modifiers_run}
+use Rattle.jc_parse_heads.specs.UnitCode.{listed}
 use Rattle.jc_parse_heads.proofs.Aheads.{modifier_ahead}
 use Rattle.jc_parse_heads.proofs.Effects.{modifiers_none, modifiers_there}
 use Rattle.jc_parse_heads.proofs.Joinings.{cut, two_halts}

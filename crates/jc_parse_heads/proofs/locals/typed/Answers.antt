@@ -1,10 +1,8 @@
-use Rattle.std.proofs.Common.{◌≡◌, ◌∙◌, ◌∷◌, List, length, sym, ap, subst, arith, rules}
+use Rattle.std.proofs.Common.{sym, subst, arith}
 use Rattle.std.proofs.lemmas.Result.{err_from_is_err_and}
-use Rattle.jc_reading.specs.Giving.{Gives, Halts, Is}
-use Rattle.jc_reading.specs.Reading.{Read, any_number, as_new, in_turn, noting}
-use Rattle.jc_expr_laws.specs.ExprReading.{exprs}
-use Rattle.jc_tree.specs.declared.statement.Stmt.{Stmt}
-use Rattle.jc_parse_heads.proofs.Joinings.{cut, joined_gives, two_gives, two_halts}
+use Rattle.jc_reading.specs.Giving.{Gives, Halts}
+use Rattle.jc_reading.specs.Reading.{Read}
+use Rattle.jc_parse_heads.proofs.Joinings.{two_gives, two_halts}
 use Rattle.jc_parse_type.specs.TypeReading.{type_run}
 use Rattle.jc_parse_heads.specs.declared.pieces.Typed.{Typed}
 use Rattle.jc_parse_heads.specs.UnitCode.{ended_vars_run}

@@ -1,4 +1,4 @@
-use Rattle.std.proofs.Common.{ℕ, List, Option, Some, None, Bool, rules}
+use Rattle.std.proofs.Common.{List, rules}
 use Rattle.jc_tree.specs.declared.statement.Member.{Member}
 use Rattle.jc_parse_parts.specs.declared.trees.HeadTree.{HeadTree}
 use Rattle.jc_parse_heads.proofs.nodes.body_of.Goals as goal

@@ -1,4 +1,4 @@
-use Rattle.std.proofs.Common.{ℕ, List, Option, Some, None, Bool, rules}
+use Rattle.std.proofs.Common.{ℕ, rules}
 use Rattle.jc_tree.specs.declared.statement.ForHead.{ForHead}
 use Rattle.jc_parse_heads.proofs.nodes.for_opening_of.Goals as goal
 

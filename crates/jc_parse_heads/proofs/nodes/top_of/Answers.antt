@@ -1,4 +1,4 @@
-use Rattle.std.proofs.Common.{ℕ, List, Option, Some, None, Bool, rules}
+use Rattle.std.proofs.Common.{List, rules}
 use Rattle.jc_tree.specs.declared.statement.Modifier.{Modifier}
 use Rattle.jc_parse_heads.specs.UnitCode.{declaration_of}
 use Rattle.jc_parse_heads.specs.declared.pieces.Body.{Body}

@@ -1,4 +1,4 @@
-use Rattle.std.proofs.Common.{ℕ, List, Option, Some, None, Bool, rules}
+use Rattle.std.proofs.Common.{ℕ, None, rules}
 use Rattle.jc_tree.specs.declared.statement.Stmt.TheVariants as stmt_of
 use Rattle.jc_parse_heads.specs.declared.pieces.Guarded.{Guarded}
 use Rattle.jc_parse_heads.proofs.nodes.try_of.Goals as goal

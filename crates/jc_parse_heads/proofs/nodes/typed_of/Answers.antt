@@ -1,4 +1,4 @@
-use Rattle.std.proofs.Common.{ℕ, List, Option, Some, None, Bool, rules}
+use Rattle.std.proofs.Common.{rules}
 use Rattle.jc_tree.specs.declared.types.TypeTree.{TypeTree}
 use Rattle.jc_parse_parts.specs.declared.trees.Vars.{Vars}
 use Rattle.jc_parse_heads.proofs.nodes.typed_of.Goals as goal

@@ -1,17 +1,14 @@
-use Rattle.std.proofs.Common.{◌≡◌, ◌+◌, ◌<◌, ◌≤◌, ◌^◌, ℕ, min, List, [], ◌∷◌, ◌++◌, length, Option, Some, None, Result, Ok, Err, IfOk, refl, sym, ap, ◌∙◌, subst, arith, rules}
+use Rattle.std.proofs.Common.{sym, subst, arith}
 use Rattle.std.proofs.lemmas.Result.{err_from_is_err_and}
 use Rattle.jc_lexer.specs.declared.token.Key.TheVariants as key_of
 use Rattle.jc_lexer.specs.declared.token.Sign.TheVariants as sign_of
-use Rattle.jc_lexer.specs.declared.token.Token.{Token}
-use Rattle.jc_tree.specs.declared.statement.Clause.{Clause}
-use Rattle.jc_tree.specs.declared.statement.Member.{Member}
 use Rattle.jc_tree.specs.declared.statement.Stmt.{Stmt}
-use Rattle.jc_reading.specs.Giving.{Gives, Halts, Is}
-use Rattle.jc_reading.specs.Kinds.{key_code, sign_code}
-use Rattle.jc_reading.specs.Reading.{Read, Run, Found, Stopped, any_number, as_new, at_kind, becoming, in_turn, noting, of_kind, perhaps}
+use Rattle.jc_reading.specs.Giving.{Gives, Halts}
+use Rattle.jc_reading.specs.Kinds.{key_code}
+use Rattle.jc_reading.specs.Reading.{Read, at_kind}
 use Rattle.jc_expr_laws.specs.ExprReading.{exprs}
-use Rattle.jc_unit_laws.specs.MemberReading.{levels, member_run}
-use Rattle.jc_parse_heads.proofs.Joinings.{closed_is, cut, joined_gives, two_gives, two_halts}
+use Rattle.jc_unit_laws.specs.MemberReading.{levels}
+use Rattle.jc_parse_heads.proofs.Joinings.{two_gives, two_halts}
 use Rattle.jc_parse_heads.specs.UnitCode.{ended_value_run}
 use Rattle.jc_parse_heads.proofs.Starts.{return_is, return_node}
 use Rattle.jc_parse_heads.proofs.simple.return_at.Goals as goal

@@ -1,9 +1,8 @@
-use Rattle.std.proofs.Common.{◌≡◌, ◌∙◌, ◌∷◌, List, length, sym, ap, subst, arith, rules}
-use Rattle.jc_reading.specs.Giving.{Gives, Halts, Is}
-use Rattle.jc_reading.specs.Reading.{Read, any_number, as_new, in_turn, noting}
+use Rattle.std.proofs.Common.{sym, subst, arith}
+use Rattle.jc_reading.specs.Giving.{Gives}
+use Rattle.jc_reading.specs.Reading.{Read}
 use Rattle.jc_expr_laws.specs.ExprReading.{exprs}
-use Rattle.jc_tree.specs.declared.statement.Stmt.{Stmt}
-use Rattle.jc_parse_heads.proofs.Joinings.{cut, joined_gives, two_gives, two_halts}
+use Rattle.jc_parse_heads.proofs.Joinings.{two_gives}
 use Rattle.jc_part_laws.specs.PartReading.{modifiers_run}
 use Rattle.jc_tree.specs.declared.statement.TopLevel.{TopLevel}
 use Rattle.jc_parse_heads.specs.UnitCode.{declaration_rest_run}

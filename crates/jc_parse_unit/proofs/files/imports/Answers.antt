@@ -1,4 +1,4 @@
-use Rattle.std.proofs.Common.{◌≡◌, rules, arith}
+use Rattle.std.proofs.Common.{rules, arith}
 use Rattle.jc_unit_laws.specs.MemberReading.{import_run}
 use Rattle.jc_parse_unit.proofs.Filing.{import_ahead}
 use Rattle.jc_parse_unit.proofs.files.imports.Goals as goal

@@ -1,6 +1,6 @@
 use Rattle.std.proofs.Common.{◌≡◌, ◌≤◌, drop, ◌++◌}
 use Rattle.std.specs.List.{AllByRecursion}
-use Rattle.jc_small.specs.ClassOf.{sum_code, more_code}
+use Rattle.jc_small.specs.ClassOf.{more_code}
 use Rattle.jc_small.proofs.emitting.emit_sum.Given as goal
 
 abbrev pub invariant-loop-n : goal.invariant-loop-n

@@ -1,4 +1,4 @@
-use Rattle.std.proofs.Common.{◌≡◌, rules, ◌∙◌, arith}
+use Rattle.std.proofs.Common.{arith}
 use Rattle.jc_small.proofs.ReadTokens.{parsed}
 use Rattle.jc_small.proofs.reading.parse.Goals as goal
 

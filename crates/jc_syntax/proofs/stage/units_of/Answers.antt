@@ -1,9 +1,9 @@
-use Rattle.std.proofs.Common.{◌≡◌, ◌<◌, ◌^◌, ℕ, List, [], length, get_or, sym, ap, ◌∙◌, subst, arith}
+use Rattle.std.proofs.Common.{◌<◌, ◌^◌, ℕ, List, [], length, sym, ap, ◌∙◌, subst, arith}
 use Rattle.std.proofs.lemmas.List.{get_or_read}
 use Rattle.std.proofs.lemmas.Result.{err_from_is_err_and}
 use Rattle.jc_lexer.specs.declared.token.Token.{Token}
 use Rattle.jc_syntax.proofs.Counts.{as_many, short_at, short_lists}
-use Rattle.jc_syntax.proofs.Turns.{unit_on, unit_stops, units_end}
+use Rattle.jc_syntax.proofs.Turns.{unit_on, unit_stops}
 use Rattle.jc_syntax.proofs.stage.units_of.Goals as goal
 
 pub bounds-texts-n : goal.bounds-texts-n

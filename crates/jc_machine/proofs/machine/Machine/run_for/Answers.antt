@@ -1,8 +1,5 @@
-use Rattle.std.proofs.Common.{◌≡◌, ◌≢◌, ◌≤◌, ◌<◌, ◌+◌, ◌-◌, [], ◌∷◌, ◌++◌, ℕ, List, IfOk, refl, sym, ap, ◌∙◌, subst, arith, Ok}
-use Rattle.jc_outside.specs.Told.{Gets, GetsPart, Stays}
-use Rattle.jc_machine.specs.Table.{state_of, classes_of}
-use Rattle.jc_machine.specs.Runs.{run_of, run_turn}
-use Rattle.jc_machine.proofs.Running.{Far, after_step, waits_more, put_some, part_put, part_put_more, part_stays, finish_all, finish_ran, at_end}
+use Rattle.std.proofs.Common.{◌+◌, ◌-◌, ◌++◌, ap, ◌∙◌, arith, Ok}
+use Rattle.jc_machine.proofs.Running.{after_step, waits_more, put_some, part_put, part_put_more, part_stays, finish_all, finish_ran, at_end}
 use Rattle.jc_machine.proofs.machine.Machine.run_for.Goals as goal
 use Rattle.jc_machine.proofs.machine.Machine.run_for.Goals.{in-Goes, in-Puts+in_ok-put_byte-in-Puts+else-not-branch}
 

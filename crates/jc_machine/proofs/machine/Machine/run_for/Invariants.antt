@@ -1,4 +1,4 @@
-use Rattle.std.proofs.Common.{◌≡◌, ◌≤◌, ◌-◌, List, ℕ, ◌++◌}
+use Rattle.std.proofs.Common.{◌≡◌, ◌-◌, List, ℕ}
 use Rattle.jc_machine.specs.Table.{state_of, classes_of}
 use Rattle.jc_machine.specs.Runs.{run_of}
 use Rattle.jc_machine.proofs.Running.{Far}
