@@ -85,7 +85,7 @@ module _ (H : Heads) where
 
   -- ---- canonical names
 
-  abbrev FoundIn : Found → Type 0
+  abbrev pub FoundIn : Found → Type 0
   FoundIn (InPackage p) = Unit {0}
   FoundIn (AtClass c) = c < length H.classes
   FoundIn Nowhere = Unit {0}
@@ -107,7 +107,7 @@ module _ (H : Heads) where
   all_next_in f [] l = l
   all_next_in f (n ∷ ns) l = all_next_in (next_part H f n) ns (next_in f n)
 
-  imported_in : (i : ImportHead) → FoundIn (imported H i)
+  pub imported_in : (i : ImportHead) → FoundIn (imported H i)
   imported_in i = all_next_in (InPackage i.path.first) i.path.more tt
 
   single_in : (i : ImportHead) (f : Found) → FoundIn f → AllIn (length H.classes) (single_of i f)
