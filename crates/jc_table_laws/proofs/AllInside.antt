@@ -161,7 +161,7 @@ module _ (S : Sites) (some : 0 < class_count (table_of S)) where
       by_form (scope_of.Class c) = in_body_in H K (known_in H) c n
       by_form (scope_of.Method m) = in_method_in H K (known_in H) m (class_of_method (slice_get H.methods m)) n
 
-  abbrev WroteIn : Wrote → Type 0
+  abbrev pub WroteIn : Wrote → Type 0
   WroteIn w = is_inside T w.ty ≡ true
 
   part_in : (r : Reading) → ((n : List ℕ) → LookIn H (r.find n)) → (p : BodyPart) → Each WroteIn (wrote_in_part H K r p)
@@ -178,12 +178,14 @@ module _ (S : Sites) (some : 0 < class_count (table_of S)) where
   with_in u [] a = tt
   with_in u (w ∷ ws) a = (a.0, with_in u ws a.1)
 
+  pub use_wrote_in : (u : UseSite) → Each WroteIn (wrote_in_use H K u)
+  use_wrote_in u = part_in (reading_of H K u.scope (u.is_static || is_interface H u.class)) (finds_in (slice_get H.scopes u.scope) (u.is_static || is_interface H u.class)) u.part
+
   uses_in : (us : List UseSite) → Each UseIn (use_decls H K us)
   uses_in [] = tt
   uses_in (u ∷ us) =
       each_joined UseIn (use_with H u (wrote_in_use H K u)) (use_decls H K us)
-      (with_in u (wrote_in_use H K u)
-      (part_in (reading_of H K u.scope (u.is_static || is_interface H u.class)) (finds_in (slice_get H.scopes u.scope) (u.is_static || is_interface H u.class)) u.part))
+      (with_in u (wrote_in_use H K u) (use_wrote_in u))
       (uses_in us)
 
   pub uses_inside : Each UseIn (table_of S).uses

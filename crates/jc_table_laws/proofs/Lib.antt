@@ -3,6 +3,7 @@ pub mod AllInside
 pub mod Chains
 pub mod Edges
 pub mod Fitting
+pub mod IdsFit
 pub mod Indexed
 pub mod Leading
 pub mod Meant
