@@ -1,5 +1,6 @@
 pub mod Acyclic
 pub mod AllInside
+pub mod AllKnown
 pub mod Chains
 pub mod Edges
 pub mod Fitting
@@ -7,5 +8,6 @@ pub mod IdsFit
 pub mod Indexed
 pub mod Leading
 pub mod Meant
+pub mod PlacesZip
 pub mod Ranges
 pub mod TypesInside
