@@ -7,15 +7,10 @@ use Rattle.jc_tree.specs.declared.statement.ResultType.TheVariants as result_of
 use Rattle.jc_tree.specs.declared.types.ClassTree.{ClassTree}
 use Rattle.jc_tree.specs.declared.types.TypeTree.{TypeTree}
 use Rattle.jc_tree.specs.Offsets.{first_offset_of_head}
-use Rattle.jc_types.specs.declared.declarations.ClassDecl.{ClassDecl}
-use Rattle.jc_types.specs.declared.declarations.FieldDecl.{FieldDecl}
-use Rattle.jc_types.specs.declared.declarations.MethodDecl.{MethodDecl}
 use Rattle.jc_types.specs.declared.declarations.Owner.{Owner}
 use Rattle.jc_types.specs.declared.declarations.Owner.TheVariants as owner
-use Rattle.jc_types.specs.declared.declarations.VariableDecl.{VariableDecl}
 use Rattle.jc_types.specs.declared.declarations.Written.{Written}
 use Rattle.jc_types.specs.declared.form.Ty.{Ty}
-use Rattle.jc_types.specs.declared.scopes.Use.{Use}
 use Rattle.jc_types.specs.declared.table.Table.{Table}
 use Rattle.jc_types.specs.Accessors.{class_count}
 use Rattle.jc_types.specs.Tables.{if_any, are_inside, is_inside}
@@ -28,14 +23,12 @@ use Rattle.jc_declares.specs.HeadBreaks.{class_in}
 use Rattle.jc_declares.specs.Heads.{heads_of, is_interface, class_head, variable_head, superclass_trees, interface_trees}
 use Rattle.jc_declares.specs.Knowing.{known}
 use Rattle.jc_declares.specs.Looking.{Knowledge}
-use Rattle.jc_declares.specs.Making.{object, or_object, written_classes, written_formal, written_result, one_more, class_decl, method_decl, method_decl_of, field_decl, variable_decl, owner_reading, use_with, use_decls, numbered, table_of}
+use Rattle.jc_declares.specs.Making.{object, or_object, written_classes, written_formal, written_result, one_more, class_decl, method_decl_of, field_decl, variable_decl, owner_reading, numbered, table_of}
 use Rattle.jc_declares.specs.Readings.{head_reading, body_reading, method_reading, class_of_method, reading_in, reading_of, wrote_in_part, wrote_in_use}
 use Rattle.jc_declares.specs.Sites.{Sites, ClassSite, MethodSite, FieldSite, VariableSite, UseSite, BodyPart, OfType, OfClassType, OfDiamond, OfElement, OfVariable, MethodForm, Headed, ImpliedConstructor, StaticInitialiser}
 use Rattle.jc_declares.specs.Words.{says_static}
 use Rattle.jc_declares.specs.Writing.{Reading, Wrote, wrote_class, wrote_type}
-use Rattle.jc_table_laws.specs.WrittenTypes.{AreWrittenInside}
-use Rattle.jc_table_laws.proofs.Chains.{from_at}
-use Rattle.jc_table_laws.proofs.Fitting.{Each, each_joined, each_at}
+use Rattle.jc_table_laws.proofs.Fitting.{Each}
 use Rattle.jc_table_laws.proofs.Ranges.{LookIn, unit_in, in_head_in, in_body_in, in_method_in, known_in}
 use Rattle.jc_table_laws.proofs.TypesInside.{object_in, dims_in, base_tree_in, class_tree_in, type_tree_in}
 
@@ -171,34 +164,5 @@ module _ (S : Sites) (some : 0 < class_count (table_of S)) where
   part_in r f (OfElement t) = (base_tree_in T H classes variables some_head K (known_in H) r f t, tt)
   part_in r f (OfVariable modifiers at) = tt
 
-  abbrev UseIn : Use → Type 0
-  UseIn u = is_inside T u.ty.ty ≡ true
-
-  with_in : (u : UseSite) (ws : List Wrote) → Each WroteIn ws → Each UseIn (use_with H u ws)
-  with_in u [] a = tt
-  with_in u (w ∷ ws) a = (a.0, with_in u ws a.1)
-
   pub use_wrote_in : (u : UseSite) → Each WroteIn (wrote_in_use H K u)
   use_wrote_in u = part_in (reading_of H K u.scope (u.is_static || is_interface H u.class)) (finds_in (slice_get H.scopes u.scope) (u.is_static || is_interface H u.class)) u.part
-
-  uses_in : (us : List UseSite) → Each UseIn (use_decls H K us)
-  uses_in [] = tt
-  uses_in (u ∷ us) =
-      each_joined UseIn (use_with H u (wrote_in_use H K u)) (use_decls H K us)
-      (with_in u (wrote_in_use H K u) (use_wrote_in u))
-      (uses_in us)
-
-  pub uses_inside : Each UseIn (table_of S).uses
-  uses_inside = uses_in S.uses
-
-  pub all_inside : AreWrittenInside (table_of S)
-  all_inside =
-      record {
-        supers = λ n d e. let x = from_at (class_decl H K) 0 S.classes n d e in subst (λ (y : ClassDecl). IsTrue (are_inside T y.supers.types)) x.2 (is_true _ (supers_inside (0 + n) x.0));
-        params = λ n d e. let x = from_at (method_decl H K) 0 S.methods n d e in subst (λ (y : MethodDecl). IsTrue (are_inside T y.params.types)) x.2 (is_true _ (params_inside (0 + n) x.0 x.0.form));
-        results = λ n d e. let x = from_at (method_decl H K) 0 S.methods n d e in subst (λ (y : MethodDecl). IsTrue (if_any (λ (w : Written). is_inside T w.ty) y.result)) x.2 (is_true _ (result_inside (0 + n) x.0 x.0.form));
-        thrown = λ n d e. let x = from_at (method_decl H K) 0 S.methods n d e in subst (λ (y : MethodDecl). IsTrue (are_inside T y.thrown.types)) x.2 (is_true _ (thrown_inside (0 + n) x.0 x.0.form));
-        fields = λ n d e. let x = from_at (field_decl H K) 0 S.fields n d e in subst (λ (y : FieldDecl). IsTrue (is_inside T y.ty.ty)) x.2 (is_true _ (field_inside (0 + n) x.0));
-        bounds = λ n d e. let x = from_at (variable_decl H K) 0 S.variables n d e in subst (λ (y : VariableDecl). IsTrue (are_inside T y.bounds.types)) x.2 (is_true _ (bounds_inside (0 + n) x.0));
-        uses = λ n u e. is_true _ (each_at UseIn (table_of S).uses n u e uses_inside);
-      }

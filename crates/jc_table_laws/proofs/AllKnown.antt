@@ -5,23 +5,14 @@ use Rattle.std.specs.Prelude.{cond, codes, nat_lt}
 use Rattle.std.proofs.lemmas.Bool.Decides.{nat_tests}
 use Rattle.std.proofs.lemmas.Grind.{common_steps}
 use Rattle.jc_types.specs.Names.{named}
-use Rattle.jc_declares.specs.declared.heads.ClassHead.{ClassHead}
 use Rattle.jc_declares.specs.declared.heads.Heads.{Heads}
 use Rattle.jc_declares.specs.declared.heads.Path.{Path}
 use Rattle.jc_declares.specs.Heads.{Named, declared_of, class_variables, types_of_package, types_of_unit, imports_of, unit_package, unit_of, round_of, supers_of}
-use Rattle.jc_declares.specs.Looking.{Knowledge, Look, Meaning, AClass, AVariable, Asker, has, once, demanded, open_class, singles, classes, one_class, one_variable, or_next, in_unit, all_named, inherits, in_class, in_classes, in_head, member, with_parts, or_longer, in_packages, or_package, look_up}
+use Rattle.jc_declares.specs.Looking.{Knowledge, Look, Meaning, AClass, AVariable, Asker, has, once, demanded, open_class, singles, classes, one_class, one_variable, or_next, in_unit, all_named, inherits, in_class, in_classes, in_head, member, with_parts, or_longer, in_packages, or_package}
 use Rattle.jc_declares.specs.Knowing.{meant_in_head, meant_class, and_class, written_supers, is_some, inherited_of, with_inherited, or_unknown, inherited_from, passed, passed_or_longer, passed_in_packages, passed_all, passed_by, passed_by_all, needs, all_known, if_all, settled_by, settled, rounds, known, Needs, needed, further}
+use Rattle.jc_settling.proofs.Rounds.{all_known as every_round}
 use Rattle.jc_table_laws.proofs.Fitting.{Each, each_joined, IsBelow}
 use Rattle.jc_table_laws.proofs.Ranges.{LookIn, OneIn, SomeIn, found_in, in_head_in, member_in, package_types_in, known_in}
-
-record Under0 (o p : Option Named) : Type 0 where
-  at : (x : Named) → o ≡ Some x → p ≡ Some x
-
-record More0 (K L : Knowledge) : Type 0 where
-  of : (c : ℕ) → Under0 (K c) (L c)
-
-every_round : (H : Heads) (n : ℕ) → More0 (rounds H n) (known H)
-every_round H n = ?
 
 -- ---- tests
 
@@ -183,7 +174,7 @@ module _ (H : Heads) (K : Knowledge) where
   abbrev Sure : Look → Type 0
   Sure look = is_some look ≡ true
 
-  sure_next : (ms : List Meaning) (rest : Look) → Sure rest → Sure (or_next ms rest)
+  pub sure_next : (ms : List Meaning) (rest : Look) → Sure rest → Sure (or_next ms rest)
   sure_next [] rest s = s
   sure_next (m ∷ ms) rest s = refl
 
@@ -191,7 +182,7 @@ module _ (H : Heads) (K : Knowledge) where
   sure_inherits n None rest k s = k
   sure_inherits n (Some es) rest k s = sure_next (classes (all_named n es)) rest s
 
-  sure_unit : (u : ℕ) (n : List ℕ) → Sure (in_unit H u n)
+  pub sure_unit : (u : ℕ) (n : List ℕ) → Sure (in_unit H u n)
   sure_unit u n =
       let asker : Asker = record { «package» = unit_package H u; top = None } in
       let last : Look = Some (classes (once [] (demanded H asker n (imports_of H u) ++ open_class H asker (named n (types_of_package H (codes "java.lang")))))) in
@@ -331,7 +322,7 @@ module _ (H : Heads) (K : Knowledge) (known_below : (c : ℕ) → SomeIn H (K c)
 
 -- ---- the whole
 
-placed : {X : Type 0} (xs : List X) (n : ℕ) → n < length xs → is_some (slice_get xs n) ≡ true
+pub placed : {X : Type 0} (xs : List X) (n : ℕ) → n < length xs → is_some (slice_get xs n) ≡ true
 placed [] n l = absurd (omega (arith, l))
 placed (x ∷ xs) zero l = refl
 placed (x ∷ xs) (suc n) l = placed xs n (omega (arith, l))

@@ -1,5 +1,5 @@
 -- Every id in the table that a program has is a place in its list.
-use Rattle.std.proofs.Common.{◌≡◌, ◌<◌, ◌≤◌, ◌+◌, ◌==◌, ◌&&◌, ℕ, zero, suc, Bool, true, false, IsTrue, Option, Some, None, List, [], ◌∷◌, ◌++◌, map, length, slice_get, arith, refl, sym, ap, subst, ◌∙◌}
+use Rattle.std.proofs.Common.{◌≡◌, ◌<◌, ◌≤◌, ◌+◌, ◌==◌, ◌&&◌, ℕ, suc, Bool, true, false, Option, Some, None, List, [], ◌∷◌, ◌++◌, map, length, slice_get, arith, refl, sym, subst, ◌∙◌}
 use Rattle.std.specs.Prelude.{cond, nat_lt}
 use Rattle.std.specs.List.{list_all}
 use Rattle.std.proofs.lemmas.Bool.Decides.{nat_tests}
@@ -11,11 +11,8 @@ use Rattle.jc_types.specs.declared.declarations.Owner.TheVariants as owner
 use Rattle.jc_types.specs.declared.declarations.VariableDecl.{VariableDecl}
 use Rattle.jc_types.specs.declared.declarations.Written.{Written}
 use Rattle.jc_types.specs.declared.constant.ConstantExpr.{ConstantExpr}
-use Rattle.jc_types.specs.declared.ids.ClassId.{ClassId}
 use Rattle.jc_types.specs.declared.ids.FieldId.{FieldId}
 use Rattle.jc_types.specs.declared.ids.MethodId.{MethodId}
-use Rattle.jc_types.specs.declared.ids.ScopeId.{ScopeId}
-use Rattle.jc_types.specs.declared.ids.VarId.{VarId}
 use Rattle.jc_types.specs.declared.scopes.Demand.{Demand}
 use Rattle.jc_types.specs.declared.scopes.Scope.{Scope}
 use Rattle.jc_types.specs.declared.scopes.Use.{Use}
@@ -32,7 +29,6 @@ use Rattle.jc_declares.specs.declared.heads.ScopeForm.{ScopeForm}
 use Rattle.jc_declares.specs.declared.heads.ScopeForm.TheVariants as scope_of
 use Rattle.jc_declares.specs.declared.heads.ScopeHead.{ScopeHead}
 use Rattle.jc_declares.specs.declared.unit.SourceUnit.{SourceUnit}
-use Rattle.jc_declares.specs.Breaks.{is_static_field}
 use Rattle.jc_declares.specs.Heads.{Named, heads_of, class_head, method_place, field_head, variable_head, declared_of, types_of_unit, class_variables, method_variables, imports_of, round_in, round_of}
 use Rattle.jc_declares.specs.Knowing.{known, is_some}
 use Rattle.jc_declares.specs.Looking.{Knowledge, Found, InPackage, AtClass, Nowhere, imported, singles}
@@ -40,8 +36,8 @@ use Rattle.jc_declares.specs.Making.{class_id, numbers, outer_id, methods_from, 
 use Rattle.jc_declares.specs.Readings.{wrote_in_use}
 use Rattle.jc_declares.specs.Sites.{Sites, ClassSite, MethodSite, FieldSite, VariableSite, UseSite, MethodForm, Headed, ImpliedConstructor, StaticInitialiser, sites_of}
 use Rattle.jc_declares.specs.Writing.{Wrote}
-use Rattle.jc_table_laws.proofs.AllInside.{counted, mapped, both_true, classes, variables, supers_inside, params_inside, result_inside, thrown_inside, field_inside, bounds_inside, use_wrote_in}
-use Rattle.jc_table_laws.proofs.Fitting.{Each, each_joined, each_at, each_given, each_mapped, IsBelow, Sizes, ClassFits, MethodFits, FieldFits, OwnerFits, VariableFits, OuterFits, FormFits, ScopeFits, UseFits, SitesFit, sizes, all_fit}
+use Rattle.jc_table_laws.proofs.AllInside.{counted, mapped, both_true, supers_inside, params_inside, result_inside, thrown_inside, field_inside, bounds_inside, use_wrote_in}
+use Rattle.jc_table_laws.proofs.Fitting.{Each, each_joined, each_at, each_mapped, IsBelow, ClassFits, MethodFits, FieldFits, OwnerFits, VariableFits, OuterFits, FormFits, ScopeFits, UseFits, SitesFit, sizes, all_fit}
 use Rattle.jc_table_laws.proofs.Ranges.{AllIn, FoundIn, SomeIn, declared_in, unit_types_in, class_variables_in, method_variables_in, imported_in, singles_in, known_in}
 
 less : (a b : ℕ) → a < b → nat_lt a b ≡ true
@@ -367,9 +363,10 @@ module _ (units : List SourceUnit) where
 
   with_is : (u : UseSite) → UseFits (sizes S) u → (ws : List Wrote) → Each (λ (w : Wrote). is_inside T w.ty ≡ true) ws → Each UseIs (use_with H u ws)
   with_is u f [] a = tt
-  with_is u f (w ∷ ws) a =
-      (both (is_class T (class_id u.class) && is_scope T (record { 0 = u.scope })) (is_inside T w.ty) (both (is_class T (class_id u.class)) (is_scope T (record { 0 = u.scope })) (a_class u.class f.class) (a_scope u.scope f.scope)) a.0,
-      with_is u f ws a.1)
+  with_is u f (w ∷ ws) a = (
+    both (is_class T (class_id u.class) && is_scope T (record { 0 = u.scope })) (is_inside T w.ty) (both (is_class T (class_id u.class)) (is_scope T (record { 0 = u.scope })) (a_class u.class f.class) (a_scope u.scope f.scope)) a.0,
+    with_is u f ws a.1,
+  )
 
   uses_each : (us : List UseSite) → Each (UseFits (sizes S)) us → Each UseIs (use_decls H K us)
   uses_each [] a = tt

@@ -8,6 +8,8 @@ pub mod IdsFit
 pub mod Indexed
 pub mod Leading
 pub mod Meant
+pub mod Owned
+pub mod PlacesFit
 pub mod PlacesZip
 pub mod Ranges
 pub mod TypesInside

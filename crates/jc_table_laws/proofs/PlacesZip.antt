@@ -1,5 +1,5 @@
 -- A written type whose names break no rule has a place for each class type inside it.
-use Rattle.std.proofs.Common.{◌≡◌, ◌<◌, ◌+◌, ◌&&◌, ◌||◌, ℕ, zero, suc, Bool, true, false, Option, Some, None, List, [], ◌∷◌, ◌++◌, map, length, slice_get, arith, refl, sym, ap, subst, ◌∙◌}
+use Rattle.std.proofs.Common.{◌≡◌, ◌<◌, ◌+◌, ℕ, zero, suc, Bool, true, false, Option, Some, None, List, [], ◌∷◌, ◌++◌, map, length, refl, sym, ap, subst, ◌∙◌}
 use Rattle.std.specs.Prelude.{cond, codes}
 use Rattle.std.proofs.lemmas.List.{length-append}
 use Rattle.jc_tree.specs.declared.types.BaseTree.{BaseTree, BaseTree-F, fold-roll-BaseTree, map-BaseTree, roll-BaseTree, ind-BaseTree}
@@ -9,7 +9,6 @@ use Rattle.jc_tree.specs.declared.types.TypePart.{TypePart, TypePart-F, fold-rol
 use Rattle.jc_tree.specs.declared.types.TypeTree.{TypeTree, TypeTree-F, fold-roll-TypeTree, map-TypeTree, roll-TypeTree, ind-TypeTree}
 use Rattle.jc_types.specs.declared.form.Arg.{Arg}
 use Rattle.jc_types.specs.declared.form.Arg.TheVariants as anArg
-use Rattle.jc_types.specs.declared.form.Primitive.{Primitive}
 use Rattle.jc_types.specs.declared.form.Ty.{Ty, Ty-F, out-Ty, roll-Ty, roll-out-Ty}
 use Rattle.jc_types.specs.declared.form.Ty.TheVariants as aTy
 use Rattle.jc_types.specs.Arrays.{array_over, array_over_at}
@@ -17,13 +16,12 @@ use Rattle.jc_types.specs.Inside.{inside, inside_arg, inside_args}
 use Rattle.jc_types.specs.Names.{named}
 use Rattle.jc_types.proofs.Insides.{inside-Class, inside-Raw, inside-Array, inside-Prim, inside-Variable, inside_arg-Exact, inside_arg-Any, inside_arg-Extends, inside_arg-Super}
 use Rattle.jc_declares.specs.declared.heads.Heads.{Heads}
-use Rattle.jc_declares.specs.Heads.{class_variables, owner_of, types_of_package}
+use Rattle.jc_declares.specs.Heads.{class_variables, types_of_package}
 use Rattle.jc_declares.specs.Knowing.{is_some}
-use Rattle.jc_declares.specs.Looking.{Knowledge, Look, Meaning, AClass, AVariable, Asker, all_accessible, is_own, member, with_parts, or_longer, in_packages, or_package, look_up}
+use Rattle.jc_declares.specs.Looking.{Knowledge, Look, AClass, AVariable, Asker, all_accessible, member, with_parts, or_longer, in_packages, or_package, look_up}
 use Rattle.jc_declares.specs.Writing.{Reading, Broken, Wrote, WroteArg, WrotePart, is_empty, name_of_part, args_in, last_args, class_type, meant_type, is_class_meant, arg_places, arg_broken, part_broken, early_args, meaning_broken, if_accessible, name_broken, with_dims, primitive_of, base_wrote, arg_wrote, class_tree_wrote, class_wrote, part_wrote, type_wrote, wrote_base, wrote_arg, wrote_class, wrote_part, wrote_type}
 use Rattle.jc_declares.specs.Knowing.{passed_all}
 use Rattle.jc_table_laws.proofs.AllKnown.{sure_member}
-use Rattle.jc_table_laws.proofs.Fitting.{Each}
 use Rattle.jc_table_laws.proofs.Ranges.{LookIn, OneIn, SomeIn, found_in, member_in, package_types_in}
 
 -- ---- lists that are empty
@@ -247,7 +245,7 @@ module _ (H : Heads) (K : Knowledge) (known_in : (c : ℕ) → SomeIn H (K c)) (
 
     base_layer : (y : BaseTree-F SomeBase SomeArg SomeClass SomePart SomeTree)
         → Zips (base_wrote (map-BaseTree BaseTree TypeArg ClassTree TypePart TypeTree Wrote WroteArg Wrote WrotePart Wrote (wrote_base H K r) (wrote_arg H K r) (wrote_class H K r) (wrote_part H K r) (wrote_type H K r) (plain_base y)))
-            (base_wrote (map-BaseTree BaseTree TypeArg ClassTree TypePart TypeTree Wrote WroteArg Wrote WrotePart Wrote (wrote_base H K s) (wrote_arg H K s) (wrote_class H K s) (wrote_part H K s) (wrote_type H K s) (plain_base y)))
+        (base_wrote (map-BaseTree BaseTree TypeArg ClassTree TypePart TypeTree Wrote WroteArg Wrote WrotePart Wrote (wrote_base H K s) (wrote_arg H K s) (wrote_class H K s) (wrote_part H K s) (wrote_type H K s) (plain_base y)))
     base_layer (BaseTree-F.Primitive at w) = λ e. sym (ap length (inside-Prim (primitive_of w)))
     base_layer (BaseTree-F.Class c) = c.1
 
@@ -260,7 +258,7 @@ module _ (H : Heads) (K : Knowledge) (known_in : (c : ℕ) → SomeIn H (K c)) (
 
     arg_layer : (y : TypeArg-F SomeBase SomeArg SomeClass SomePart SomeTree)
         → ArgZips (arg_wrote (map-TypeArg BaseTree TypeArg ClassTree TypePart TypeTree Wrote WroteArg Wrote WrotePart Wrote (wrote_base H K r) (wrote_arg H K r) (wrote_class H K r) (wrote_part H K r) (wrote_type H K r) (plain_arg y)))
-            (arg_wrote (map-TypeArg BaseTree TypeArg ClassTree TypePart TypeTree Wrote WroteArg Wrote WrotePart Wrote (wrote_base H K s) (wrote_arg H K s) (wrote_class H K s) (wrote_part H K s) (wrote_type H K s) (plain_arg y)))
+        (arg_wrote (map-TypeArg BaseTree TypeArg ClassTree TypePart TypeTree Wrote WroteArg Wrote WrotePart Wrote (wrote_base H K s) (wrote_arg H K s) (wrote_class H K s) (wrote_part H K s) (wrote_type H K s) (plain_arg y)))
     arg_layer (TypeArg-F.Exact t) = λ e. arg_length (anArg.Exact (wrote_type H K s t.0).ty) (wrote_type H K s t.0).places _ (inside_arg-Exact (wrote_type H K s t.0).ty) (t.1 e)
     arg_layer (TypeArg-F.Any at) = λ e. sym (ap length inside_arg-Any)
     arg_layer (TypeArg-F.Extends at t) = λ e. arg_length (anArg.Extends (wrote_type H K s t.0).ty) (wrote_type H K s t.0).places _ (inside_arg-Extends (wrote_type H K s t.0).ty) (t.1 e)
