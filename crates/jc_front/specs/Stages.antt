@@ -13,6 +13,7 @@ use Rattle.jc_front.specs.Library.{AreLibrary, BreaksLibrary}
 use Rattle.jc_declares.specs.Sites.{sites_of}
 use Rattle.jc_declares.specs.Breaks.{BreaksNames}
 use Rattle.jc_names.specs.Stage.{IsNamed}
+use Rattle.jc_types.specs.Accessors.{supers_of}
 use Rattle.jc_types.specs.Breaks.{IsLeast}
 use Rattle.jc_front.specs.declared.reading.Sources.{Sources}
 
@@ -35,10 +36,11 @@ pub record HaveTrees (texts : List (List ℕ)) (lists : List (List Token)) (unit
   pub all : units ≡ library ++ numbered_from 1 files
 
 -- sources that break no rule of a stage that is built, and what they are: their tokens, the trees of the library and of the sources, and the table of what these
--- declare
+-- declare, the first class of which is Object, which alone has no supertypes (JLS 8.1.4)
 pub record AreSources (texts : List (List ℕ)) (sources : Sources) : Type 0 where
   pub trees : HaveTrees texts sources.tokens sources.units
   pub names : IsNamed sources.units sources.table
+  pub object : supers_of sources.table (record { 0 = 0 }) ≡ []
 
 -- sources that break no rule of a stage that is built have these tokens
 pub record AreRead (texts : List (List ℕ)) (lists : List (List Token)) : Type 0 where
