@@ -12,6 +12,8 @@ use Rattle.jc_declares.specs.declared.unit.SourceUnit.{SourceUnit}
 use Rattle.jc_front.specs.Library.{AreLibrary, BreaksLibrary}
 use Rattle.jc_declares.specs.Sites.{sites_of}
 use Rattle.jc_declares.specs.Breaks.{BreaksNames}
+use Rattle.jc_names.specs.Stage.{IsNamed}
+use Rattle.jc_types.specs.Accessors.{supers_of}
 use Rattle.jc_types.specs.Breaks.{IsLeast}
 use Rattle.jc_front.specs.declared.reading.Sources.{Sources}
 
@@ -33,14 +35,12 @@ pub record HaveTrees (texts : List (List ℕ)) (lists : List (List Token)) (unit
   pub is_library : AreLibrary library
   pub all : units ≡ library ++ numbered_from 1 files
 
--- the names in units break no rule
-pub record AreNamed (units : List SourceUnit) : Type 0 where
-  pub unbroken : (refused : Refusal) → BreaksNames (sites_of units) refused → ⊥
-
--- sources that break no rule of a stage that is built, and what they are: their tokens, and the trees of the library and of the sources
+-- sources that break no rule of a stage that is built, and what they are: their tokens, the trees of the library and of the sources, and the table of what these
+-- declare, the first class of which is Object, which alone has no supertypes (JLS 8.1.4)
 pub record AreSources (texts : List (List ℕ)) (sources : Sources) : Type 0 where
   pub trees : HaveTrees texts sources.tokens sources.units
-  pub names : AreNamed sources.units
+  pub names : IsNamed sources.units sources.table
+  pub object : supers_of sources.table (record { 0 = 0 }) ≡ []
 
 -- sources that break no rule of a stage that is built have these tokens
 pub record AreRead (texts : List (List ℕ)) (lists : List (List Token)) : Type 0 where
@@ -73,7 +73,3 @@ Breaks texts refused = BreaksLibrary refused ⊎ (BreaksWords texts refused ⊎ 
 abbrev pub IsBreak : List (List ℕ) → Stop Refusal → Type 0
 IsBreak texts (stop_of.Refused refused) = Breaks texts refused
 IsBreak texts stop_of.WantOfMemory = Unit {0}
-
-abbrev pub IsNamesStop : List SourceUnit → Stop Refusal → Type 0
-IsNamesStop units (stop_of.Refused refused) = IsNamesBreak units refused
-IsNamesStop units stop_of.WantOfMemory = Unit {0}

@@ -1,34 +1,34 @@
 //! The stages one behind the other.
-ghost use Rattle.std.specs.Prelude.{IfErr, IfOk, OnOk};
-ghost use Rattle.jc_front.specs.Stages.{AreNamed, AreRead, AreSources, IsBreak, IsNamesStop};
+ghost use Rattle.std.specs.Prelude.{◌≡◌, ◌↔◌, [], IfErr, IfOk, IsTrue};
+ghost use Rattle.jc_types.specs.Accessors.{supers_of};
+ghost use Rattle.jc_front.specs.Stages.{AreRead, AreSources, IsBreak};
 
 use crate::units::all_units;
 use jc_declares::SourceUnit;
 use jc_lexer::{Token, lex_all};
-use jc_names::first_names_break;
+use jc_names::names;
 use jc_rules::{Items, Refusal, Stop};
+use jc_types::{ClassId, Table, class_supers};
 use std::alloc::Global;
 
-/// What sources are that break no rule of a stage that is built: the tokens of each, and the trees of the library and of the sources.
+/// What sources are that break no rule of a stage that is built: the tokens of each, the trees of the library and of the sources, and the table of
+/// what they declare.
 #[derive(Drop)]
 pub struct Sources {
     pub tokens: Items<Items<Token>>,
     pub units: Items<SourceUnit>,
+    pub table: Table,
 }
 
-/// The stage of names (JLS 6 to 9): refuses units by the first rule that their names break.
-#[tactic(auto, using(crate::proofs::Reached::are_named))]
-fn check_names(alloc: Global, units: &[SourceUnit]) -> Result<(), Stop<Refusal>>
-    ensures named { OnOk result (AreNamed units.now) }
-    ensures refused { IfErr result (λ stop. IsNamesStop units.now stop) }
+/// Whether the first class has no supertypes. It is the library's Object, which alone has none (JLS 8.1.4).
+fn begins_with_object(table: &Table) -> bool
+    ensures { IsTrue result ↔ supers_of table.now (record { 0 = 0 }) ≡ [] }
 {
-    match first_names_break(alloc, units)? {
-        Some(refusal) => Err(Stop::Refused(refusal)),
-        None => Ok(()),
-    }
+    class_supers(table, ClassId(0)).is_empty()
 }
 
-/// Reads the sources with these texts through all stages that are built. A refusal is the least break of the first stage that has one.
+/// Reads the sources with these texts through all stages that are built. A refusal is the least break of the first stage that has one. Want of memory
+/// would stand for a library that doesn't begin with Object.
 #[tactic(auto, using(crate::proofs::Reached::are_sources))]
 pub fn sources_of(alloc: Global, texts: &[Items<u8>]) -> Result<Sources, Stop<Refusal>>
     ensures sources { IfOk result (λ sources. AreSources texts.now sources) }
@@ -36,8 +36,15 @@ pub fn sources_of(alloc: Global, texts: &[Items<u8>]) -> Result<Sources, Stop<Re
 {
     let tokens = lex_all(alloc, texts)?;
     let units = all_units(alloc, texts, tokens.slice())?;
-    check_names(alloc, units.slice())?;
-    Ok(Sources { tokens, units })
+    let table = names(alloc, units.slice())?;
+    if !begins_with_object(&table) {
+        return Err(Stop::WantOfMemory);
+    }
+    Ok(Sources {
+        tokens,
+        units,
+        table,
+    })
 }
 
 /// The tokens of sources that break no rule of a stage that is built, where nothing else of them is asked.

@@ -1,6 +1,6 @@
-//! The stage of names (JLS 6 to 9): the first rule of names that the sources of a program break.
+//! The stage of names (JLS 6 to 9): the table of what a program declares, or the first rule of names that its sources break.
 #![tactic(auto)]
 
 mod stage;
 
-pub use stage::first_names_break;
+pub use stage::{first_names_break, names};

@@ -1,5 +1,5 @@
 -- Each list of a table's written types, by the trees that write them.
-use Rattle.std.proofs.Common.{◌≡◌, ◌<◌, ◌+◌, ◌==◌, ◌&&◌, ℕ, suc, Bool, true, false, IsTrue, Option, Some, None, List, [], ◌∷◌, ◌++◌, map, length, slice_get, refl, sym, ap, subst, ◌∙◌}
+use Rattle.std.proofs.Common.{◌≡◌, ◌<◌, ◌+◌, ◌==◌, ◌&&◌, ◌||◌, ℕ, suc, Bool, true, false, IsTrue, Option, Some, None, List, [], ◌∷◌, ◌++◌, map, length, slice_get, refl, sym, ap, subst, ◌∙◌}
 use Rattle.std.specs.Prelude.{cond}
 use Rattle.jc_tree.specs.declared.statement.Formal.{Formal}
 use Rattle.jc_tree.specs.declared.statement.ResultType.{ResultType}
@@ -7,45 +7,43 @@ use Rattle.jc_tree.specs.declared.statement.ResultType.TheVariants as result_of
 use Rattle.jc_tree.specs.declared.types.ClassTree.{ClassTree}
 use Rattle.jc_tree.specs.declared.types.TypeTree.{TypeTree}
 use Rattle.jc_tree.specs.Offsets.{first_offset_of_head}
-use Rattle.jc_types.specs.declared.declarations.ClassDecl.{ClassDecl}
-use Rattle.jc_types.specs.declared.declarations.FieldDecl.{FieldDecl}
-use Rattle.jc_types.specs.declared.declarations.MethodDecl.{MethodDecl}
 use Rattle.jc_types.specs.declared.declarations.Owner.{Owner}
 use Rattle.jc_types.specs.declared.declarations.Owner.TheVariants as owner
-use Rattle.jc_types.specs.declared.declarations.VariableDecl.{VariableDecl}
 use Rattle.jc_types.specs.declared.declarations.Written.{Written}
 use Rattle.jc_types.specs.declared.form.Ty.{Ty}
 use Rattle.jc_types.specs.declared.table.Table.{Table}
 use Rattle.jc_types.specs.Accessors.{class_count}
 use Rattle.jc_types.specs.Tables.{if_any, are_inside, is_inside}
 use Rattle.jc_declares.specs.declared.heads.Heads.{Heads}
+use Rattle.jc_declares.specs.declared.heads.ScopeForm.{ScopeForm}
+use Rattle.jc_declares.specs.declared.heads.ScopeForm.TheVariants as scope_of
+use Rattle.jc_declares.specs.declared.heads.ScopeHead.{ScopeHead}
 use Rattle.jc_declares.specs.Breaks.{is_static_field}
 use Rattle.jc_declares.specs.HeadBreaks.{class_in}
-use Rattle.jc_declares.specs.Heads.{heads_of, class_head, variable_head, superclass_trees, interface_trees}
+use Rattle.jc_declares.specs.Heads.{heads_of, is_interface, class_head, variable_head, superclass_trees, interface_trees}
 use Rattle.jc_declares.specs.Knowing.{known}
 use Rattle.jc_declares.specs.Looking.{Knowledge}
-use Rattle.jc_declares.specs.Making.{object, or_object, written_classes, written_formal, written_result, one_more, class_decl, method_decl, method_decl_of, field_decl, variable_decl, owner_reading, numbered, table_of}
-use Rattle.jc_declares.specs.Readings.{head_reading, body_reading, method_reading}
-use Rattle.jc_declares.specs.Sites.{Sites, ClassSite, MethodSite, FieldSite, VariableSite, MethodForm, Headed, ImpliedConstructor, StaticInitialiser}
+use Rattle.jc_declares.specs.Making.{object, or_object, written_classes, written_formal, written_result, one_more, class_decl, method_decl_of, field_decl, variable_decl, owner_reading, numbered, table_of}
+use Rattle.jc_declares.specs.Readings.{head_reading, body_reading, method_reading, class_of_method, reading_in, reading_of, wrote_in_part, wrote_in_use}
+use Rattle.jc_declares.specs.Sites.{Sites, ClassSite, MethodSite, FieldSite, VariableSite, UseSite, BodyPart, OfType, OfClassType, OfDiamond, OfElement, OfVariable, MethodForm, Headed, ImpliedConstructor, StaticInitialiser}
 use Rattle.jc_declares.specs.Words.{says_static}
-use Rattle.jc_declares.specs.Writing.{Reading, wrote_class, wrote_type}
-use Rattle.jc_table_laws.specs.WrittenTypes.{AreWrittenInside}
-use Rattle.jc_table_laws.proofs.Chains.{from_at}
-use Rattle.jc_table_laws.proofs.Ranges.{LookIn, in_head_in, in_body_in, in_method_in, known_in}
-use Rattle.jc_table_laws.proofs.TypesInside.{object_in, dims_in, class_tree_in, type_tree_in}
+use Rattle.jc_declares.specs.Writing.{Reading, Wrote, wrote_class, wrote_type}
+use Rattle.jc_table_laws.proofs.Fitting.{Each}
+use Rattle.jc_table_laws.proofs.Ranges.{LookIn, unit_in, in_head_in, in_body_in, in_method_in, known_in}
+use Rattle.jc_table_laws.proofs.TypesInside.{object_in, dims_in, base_tree_in, class_tree_in, type_tree_in}
 
 is_true : (b : Bool) → b ≡ true → IsTrue b
 is_true b e = e
 
-counted : {X Y : Type 0} (f : ℕ → X → Y) (i : ℕ) (xs : List X) → length (numbered f i xs) ≡ length xs
+pub counted : {X Y : Type 0} (f : ℕ → X → Y) (i : ℕ) (xs : List X) → length (numbered f i xs) ≡ length xs
 counted f i [] = refl
 counted f i (x ∷ xs) = ap suc (counted f (suc i) xs)
 
-mapped : {X Y : Type 0} (f : X → Y) (xs : List X) → length (map f xs) ≡ length xs
+pub mapped : {X Y : Type 0} (f : X → Y) (xs : List X) → length (map f xs) ≡ length xs
 mapped f [] = refl
 mapped f (x ∷ xs) = ap suc (mapped f xs)
 
-both_true : (a b : Bool) → a ≡ true → b ≡ true → (a && b) ≡ true
+pub both_true : (a b : Bool) → a ≡ true → b ≡ true → (a && b) ≡ true
 both_true true b e f = f
 both_true false b e f = cc
 
@@ -63,22 +61,22 @@ all_joined T (x ∷ xs) ys e f = split (is_inside T x.ty) (are_inside T (map (λ
     split false b is e go = cc
 
 module _ (S : Sites) (some : 0 < class_count (table_of S)) where
-  abbrev T : Table
+  abbrev pub T : Table
   T = table_of S
 
-  abbrev H : Heads
+  abbrev pub H : Heads
   H = heads_of S
 
-  abbrev K : Knowledge
+  abbrev pub K : Knowledge
   K = known (heads_of S)
 
-  classes : length (table_of S).classes ≡ length (heads_of S).classes
+  pub classes : length (table_of S).classes ≡ length (heads_of S).classes
   classes = counted (class_decl H K) 0 S.classes ∙ sym (mapped class_head S.classes)
 
-  variables : length (table_of S).variables ≡ length (heads_of S).variables
+  pub variables : length (table_of S).variables ≡ length (heads_of S).variables
   variables = counted (variable_decl H K) 0 S.variables ∙ sym (mapped variable_head S.variables)
 
-  some_head : 0 < length (heads_of S).classes
+  pub some_head : 0 < length (heads_of S).classes
   some_head = subst (λ (n : ℕ). 0 < n) classes some
 
   class_in_r : (r : Reading) → ((n : List ℕ) → LookIn H (r.find n)) → (t : ClassTree) → is_inside T (wrote_class H K r t).ty ≡ true
@@ -99,7 +97,7 @@ module _ (S : Sites) (some : 0 < class_count (table_of S)) where
   unless_object true ws e = refl
   unless_object false ws e = e
 
-  supers_inside : (c : ℕ) (s : ClassSite) → are_inside T (class_decl H K c s).supers.types ≡ true
+  pub supers_inside : (c : ℕ) (s : ClassSite) → are_inside T (class_decl H K c s).supers.types ≡ true
   supers_inside c s =
       let r : Reading = head_reading H K c in
       let ws : List Written = or_object s.file (first_offset_of_head s.head) (written_classes H K s.file r (superclass_trees s.head)) in
@@ -118,22 +116,22 @@ module _ (S : Sites) (some : 0 < class_count (table_of S)) where
   result_in r g file (Some (result_of.Void at)) = refl
   result_in r g file (Some (result_of.Type t)) = type_in_r r g t
 
-  params_inside : (m : ℕ) (s : MethodSite) (form : MethodForm) → are_inside T (method_decl_of H K m s form).params.types ≡ true
+  pub params_inside : (m : ℕ) (s : MethodSite) (form : MethodForm) → are_inside T (method_decl_of H K m s form).params.types ≡ true
   params_inside m s (Headed head b) = formals_in (method_reading H K m s.class (says_static head.modifiers)) (in_method_in H K (known_in H) m s.class) _ head.formals
   params_inside m s ImpliedConstructor = refl
   params_inside m s StaticInitialiser = refl
 
-  result_inside : (m : ℕ) (s : MethodSite) (form : MethodForm) → if_any (λ (w : Written). is_inside T w.ty) (method_decl_of H K m s form).result ≡ true
+  pub result_inside : (m : ℕ) (s : MethodSite) (form : MethodForm) → if_any (λ (w : Written). is_inside T w.ty) (method_decl_of H K m s form).result ≡ true
   result_inside m s (Headed head b) = result_in (method_reading H K m s.class (says_static head.modifiers)) (in_method_in H K (known_in H) m s.class) _ head.result
   result_inside m s ImpliedConstructor = refl
   result_inside m s StaticInitialiser = refl
 
-  thrown_inside : (m : ℕ) (s : MethodSite) (form : MethodForm) → are_inside T (method_decl_of H K m s form).thrown.types ≡ true
+  pub thrown_inside : (m : ℕ) (s : MethodSite) (form : MethodForm) → are_inside T (method_decl_of H K m s form).thrown.types ≡ true
   thrown_inside m s (Headed head b) = classes_in_r (method_reading H K m s.class (says_static head.modifiers)) (in_method_in H K (known_in H) m s.class) _ head.throws
   thrown_inside m s ImpliedConstructor = refl
   thrown_inside m s StaticInitialiser = refl
 
-  field_inside : (k : ℕ) (f : FieldSite) → is_inside T (field_decl H K k f).ty.ty ≡ true
+  pub field_inside : (k : ℕ) (f : FieldSite) → is_inside T (field_decl H K k f).ty.ty ≡ true
   field_inside k f =
       let r : Reading = body_reading H K f.class (is_static_field H f) in
       dims_in T f.var.dims (wrote_type H K r f.vars.ty).ty (type_in_r r (in_body_in H K (known_in H) f.class) f.vars.ty)
@@ -142,16 +140,29 @@ module _ (S : Sites) (some : 0 < class_count (table_of S)) where
   owner_in (owner.Class c) n = in_head_in H K (known_in H) c.0 n
   owner_in (owner.Method m) n = in_method_in H K (known_in H) m.0 (class_in (slice_get H.methods m.0)) n
 
-  bounds_inside : (k : ℕ) (v : VariableSite) → are_inside T (variable_decl H K k v).bounds.types ≡ true
+  pub bounds_inside : (k : ℕ) (v : VariableSite) → are_inside T (variable_decl H K k v).bounds.types ≡ true
   bounds_inside k v = or_object_in (owner_reading H K v.owner) (owner_in v.owner) _ v.param.name.at v.param.bounds
 
-  pub all_inside : AreWrittenInside (table_of S)
-  all_inside =
-      record {
-        supers = λ n d e. let x = from_at (class_decl H K) 0 S.classes n d e in subst (λ (y : ClassDecl). IsTrue (are_inside T y.supers.types)) x.2 (is_true _ (supers_inside (0 + n) x.0));
-        params = λ n d e. let x = from_at (method_decl H K) 0 S.methods n d e in subst (λ (y : MethodDecl). IsTrue (are_inside T y.params.types)) x.2 (is_true _ (params_inside (0 + n) x.0 x.0.form));
-        results = λ n d e. let x = from_at (method_decl H K) 0 S.methods n d e in subst (λ (y : MethodDecl). IsTrue (if_any (λ (w : Written). is_inside T w.ty) y.result)) x.2 (is_true _ (result_inside (0 + n) x.0 x.0.form));
-        thrown = λ n d e. let x = from_at (method_decl H K) 0 S.methods n d e in subst (λ (y : MethodDecl). IsTrue (are_inside T y.thrown.types)) x.2 (is_true _ (thrown_inside (0 + n) x.0 x.0.form));
-        fields = λ n d e. let x = from_at (field_decl H K) 0 S.fields n d e in subst (λ (y : FieldDecl). IsTrue (is_inside T y.ty.ty)) x.2 (is_true _ (field_inside (0 + n) x.0));
-        bounds = λ n d e. let x = from_at (variable_decl H K) 0 S.variables n d e in subst (λ (y : VariableDecl). IsTrue (are_inside T y.bounds.types)) x.2 (is_true _ (bounds_inside (0 + n) x.0));
-      }
+  -- ---- the types that bodies write
+
+  finds_in : (s : Option ScopeHead) (is_static : Bool) (n : List ℕ) → LookIn H ((reading_in H K s is_static).find n)
+  finds_in None b n = unit_in H 0 n
+  finds_in (Some s) b n = by_form s.form
+    where
+      by_form : (f : ScopeForm) → LookIn H ((reading_in H K (Some (record { outer = s.outer; form = f })) b).find n)
+      by_form (scope_of.Unit u) = unit_in H u n
+      by_form (scope_of.Class c) = in_body_in H K (known_in H) c n
+      by_form (scope_of.Method m) = in_method_in H K (known_in H) m (class_of_method (slice_get H.methods m)) n
+
+  abbrev pub WroteIn : Wrote → Type 0
+  WroteIn w = is_inside T w.ty ≡ true
+
+  part_in : (r : Reading) → ((n : List ℕ) → LookIn H (r.find n)) → (p : BodyPart) → Each WroteIn (wrote_in_part H K r p)
+  part_in r f (OfType t) = (type_in_r r f t, tt)
+  part_in r f (OfClassType t) = (class_in_r r f t, tt)
+  part_in r f (OfDiamond t) = (class_in_r r f t, tt)
+  part_in r f (OfElement t) = (base_tree_in T H classes variables some_head K (known_in H) r f t, tt)
+  part_in r f (OfVariable modifiers at) = tt
+
+  pub use_wrote_in : (u : UseSite) → Each WroteIn (wrote_in_use H K u)
+  use_wrote_in u = part_in (reading_of H K u.scope (u.is_static || is_interface H u.class)) (finds_in (slice_get H.scopes u.scope) (u.is_static || is_interface H u.class)) u.part

@@ -1,9 +1,15 @@
 pub mod Acyclic
 pub mod AllInside
+pub mod AllKnown
 pub mod Chains
 pub mod Edges
+pub mod Fitting
+pub mod IdsFit
 pub mod Indexed
 pub mod Leading
 pub mod Meant
+pub mod Owned
+pub mod PlacesFit
+pub mod PlacesZip
 pub mod Ranges
 pub mod TypesInside

@@ -74,7 +74,7 @@ module _ (H : Heads) where
   pub unit_types_in : (u : ℕ) → AllIn (length H.classes) (types_of_unit H u)
   unit_types_in u = counted (λ (c : ClassHead). is_top c.round && (u == c.unit))
 
-  package_types_in : (p : List ℕ) → AllIn (length H.classes) (types_of_package H p)
+  pub package_types_in : (p : List ℕ) → AllIn (length H.classes) (types_of_package H p)
   package_types_in p = counted (λ (c : ClassHead). is_top c.round && is_of_package (slice_get H.units c.unit) p)
 
   pub class_variables_in : (c : ℕ) → AllIn (length H.variables) (class_variables H c)
@@ -85,7 +85,7 @@ module _ (H : Heads) where
 
   -- ---- canonical names
 
-  abbrev FoundIn : Found → Type 0
+  abbrev pub FoundIn : Found → Type 0
   FoundIn (InPackage p) = Unit {0}
   FoundIn (AtClass c) = c < length H.classes
   FoundIn Nowhere = Unit {0}
@@ -107,7 +107,7 @@ module _ (H : Heads) where
   all_next_in f [] l = l
   all_next_in f (n ∷ ns) l = all_next_in (next_part H f n) ns (next_in f n)
 
-  imported_in : (i : ImportHead) → FoundIn (imported H i)
+  pub imported_in : (i : ImportHead) → FoundIn (imported H i)
   imported_in i = all_next_in (InPackage i.path.first) i.path.more tt
 
   single_in : (i : ImportHead) (f : Found) → FoundIn f → AllIn (length H.classes) (single_of i f)
@@ -233,7 +233,7 @@ module _ (H : Heads) where
     pub in_method_in : (m c : ℕ) (n : List ℕ) → LookIn (or_next (one_variable (named n (method_variables H m))) (in_body H K c n))
     in_method_in m c n = next_or (one_variable (named n (method_variables H m))) _ (named_variable_in n (method_variables H m) (method_variables_in m)) (in_body_in c n)
 
-    member_in : (c : ℕ) (n : List ℕ) → LookIn (member H K c n)
+    pub member_in : (c : ℕ) (n : List ℕ) → LookIn (member H K c n)
     member_in c n = next_or (one_class (named n (declared_of H c))) _ (named_class_in n (declared_of H c) (declared_in c)) (inherits_in n (K c) (Some []) (known_in c) tt)
 
     parts_in : (ps : List (List ℕ)) (o : Look) → LookIn o → LookIn (with_parts H K ps o)

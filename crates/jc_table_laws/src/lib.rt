@@ -4,9 +4,9 @@
 mod hierarchy;
 mod index;
 mod scopes;
-mod written;
+mod tables;
 
 pub use hierarchy::no_class_is_its_own_supertype;
 pub use index::index_has_the_first_classes;
 pub use scopes::scopes_of_classes_end_at_their_units;
-pub use written::written_types_are_inside_the_table;
+pub use tables::{ids_are_places, names_make_a_table};
