@@ -1,5 +1,5 @@
 -- Operators between constants (JLS 15.28): what they give is what they give of the constants' values in a running program.
-use Rattle.std.specs.Prelude.{ℕ, ◌==◌, ◌||◌, ◌&&◌, not, Bool, true, false, ℤ, pos, Option, Some, None, List, [], ◌∷◌, ◌++◌, codes, nat_eq, if◌then◌else◌}
+use Rattle.std.specs.Prelude.{ℕ, ◌||◌, ◌&&◌, not, Bool, true, false, ℤ, pos, Option, Some, None, List, [], ◌∷◌, ◌++◌, codes, nat_eq, if◌then◌else◌}
 use Rattle.std.specs.Fmt.{signed_decimal}
 use Rattle.std.specs.Int.{w16, cast_unsigned, int_wrap}
 use Rattle.jc_types.specs.declared.constant.Constant.{Constant}
@@ -7,7 +7,7 @@ use Rattle.jc_types.specs.declared.constant.Constant.TheVariants.{Whole, Text}
 use Rattle.jc_types.specs.declared.constant.Op.{Op}
 use Rattle.jc_types.specs.declared.constant.Op.TheVariants as op
 use Rattle.jc_types.specs.declared.form.Primitive.{Primitive}
-use Rattle.jc_types.specs.declared.form.Primitive.TheVariants.{Boolean, Byte, Short, Char, Int, Long}
+use Rattle.jc_types.specs.declared.form.Primitive.TheVariants.{Boolean, Char, Int, Long}
 use Rattle.jc_running.specs.declared.value.Value.{Value}
 use Rattle.jc_running.specs.declared.value.Value.TheVariants as value
 use Rattle.jc_heaps.specs.declared.given.Given.{Given}

@@ -1,1 +1,2 @@
 pub mod Repairing
+pub mod Looser

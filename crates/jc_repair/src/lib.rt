@@ -2,6 +2,8 @@
 //! known to be well formed in it is made looser.
 #![tactic(auto)]
 
+mod laws;
 mod repairing;
 
+pub use laws::repairs_are_above;
 pub use repairing::repair;
