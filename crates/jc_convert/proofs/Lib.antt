@@ -1,0 +1,3 @@
+pub mod Bounds
+pub mod Leading
+pub mod Legals

@@ -1,0 +1,4 @@
+pub mod Rows
+pub mod Converting
+pub mod Casting
+pub mod Steps
