@@ -1,23 +1,61 @@
 //! Inference.
-ghost use Rattle.std.specs.Prelude.{◌≡◌, IfOk};
+ghost use Rattle.std.specs.Prelude.{◌≡◌, IfOk, length};
 ghost use Rattle.std.specs.Option.{option_copied};
-ghost use Rattle.jc_infer.specs.Asked.{IsInferred};
+ghost use Rattle.jc_infer.specs.Asked.{AreAnswered, IsInferred, IsInferredFor};
 
 use crate::answering::{answers, parameters};
 use crate::asking::all_asked;
 use crate::collecting::by_call;
 use crate::late::late;
-use crate::outcome::Inference;
+use crate::outcome::{Inference, Parameter};
+use jc_constraints::Implied;
 use jc_overriding::MethodView;
 use jc_rules::WantOfMemory;
 use jc_types::{Env, Phase, Table, Ty};
 use std::alloc::Global;
 
+// The answers, and what is asked of them.
+#[tactic(auto, using(crate::proofs::Composed::answered_with, crate::proofs::Lengths::mapped_length))]
+fn answered(
+    alloc: Global,
+    table: &Table,
+    env: &Env,
+    method: &MethodView,
+    parameters: &[Parameter],
+    later: &[Implied],
+) -> Result<Inference, WantOfMemory>
+    requires { length method.now.vars ≡ length parameters.now }
+    ensures { IfOk result (λ r. AreAnswered table.now env.now.bounds method.now parameters.now later.now r) }
+{
+    let answers = answers(alloc, table, later, parameters)?;
+    let vars = method.vars.slice();
+    let found = all_asked(alloc, table, env, later, vars, answers, parameters)?;
+    Ok(found)
+}
+
+// The third step, and what follows.
+#[tactic(auto, using(crate::proofs::Composed::inferred_with))]
+fn inferred_for(
+    alloc: Global,
+    table: &Table,
+    env: &Env,
+    method: &MethodView,
+    parameters: &[Parameter],
+    target: Option<&Ty>,
+) -> Result<Inference, WantOfMemory>
+    requires { length method.now.vars ≡ length parameters.now }
+    ensures { IfOk result (λ r. IsInferredFor table.now env.now.bounds method.now parameters.now (option_copied target.entry) r) }
+{
+    let later = late(alloc, table, env.bounds.slice(), method, parameters, target)?;
+    let found = answered(alloc, table, env, method, parameters, later.slice())?;
+    Ok(found)
+}
+
 /// The type arguments of a call of a method (JLS 15.12.2.7, 15.12.2.8), from the types of its arguments in this phase and, where it has one, of its target.
 ///
 /// For each type parameter in order its answer is asked to be below each of its bounds, with the answers for the type parameters, and then to be well formed. The first
 /// question that isn't proved decides.
-#[tactic(auto, using(crate::proofs::Lengths::parameters_length, crate::proofs::Lengths::answers_length), unfolding(crate::specs::Asked::IsInferred))]
+#[tactic(auto, using(crate::proofs::Composed::inferred_by, crate::proofs::Lengths::parameters_length))]
 pub fn infer(
     alloc: Global,
     table: &Table,
@@ -40,15 +78,6 @@ pub fn infer(
         vars,
         method.bounds.slice(),
     )?;
-    let later = late(alloc, table, bounds, method, parameters.slice(), target)?;
-    let answers = answers(alloc, table, later.slice(), parameters.slice())?;
-    all_asked(
-        alloc,
-        table,
-        env,
-        later.slice(),
-        vars,
-        answers,
-        parameters.slice(),
-    )
+    let found = inferred_for(alloc, table, env, method, parameters.slice(), target)?;
+    Ok(found)
 }

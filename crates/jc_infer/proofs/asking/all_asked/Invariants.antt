@@ -5,7 +5,7 @@ use Rattle.jc_infer.proofs.asking.all_asked.Given as goal
 
 abbrev pub invariant-loop-rest : goal.invariant-loop-rest
 invariant-loop-rest l =
-    (r : Inference) → AreAsked l.table l.env.bounds l.later l.vars l.answers l.i l.rest r → AreAsked l.table l.env.bounds l.later l.vars l.answers 0 l.parameters r
+    (r : Inference) → AreAsked l.table l.env.bounds l.later l.vars l.fn.answers l.i l.rest r → AreAsked l.table l.env.bounds l.later l.vars l.fn.answers 0 l.parameters r
 
 abbrev pub decreases-loop-rest : goal.decreases-loop-rest
 decreases-loop-rest l = length l.rest
