@@ -11,12 +11,17 @@ use Rattle.jc_types.specs.declared.ids.ClassId.{ClassId}
 use Rattle.jc_types.specs.declared.ids.VarId.{VarId}
 use Rattle.jc_types.specs.declared.table.Table.{Table}
 use Rattle.jc_types.specs.Arrays.{element, element_at, lowered}
+use Rattle.jc_constraints.specs.declared.standing.ArgKind.{ArgKind}
+use Rattle.jc_constraints.specs.declared.standing.ArgKind.TheVariants as kind
 use Rattle.jc_constraints.specs.declared.standing.Implied.{Implied}
 use Rattle.jc_constraints.specs.declared.standing.Standing.{Standing}
 use Rattle.jc_constraints.specs.Standings.{kind_of, part_of, standing_of}
 use Rattle.jc_constraints.specs.Constraints.{ArgImplies, Implies, arg_step, args_for, beside, down, element_for, implied, implied_by_arg, implied_if, is_unknown, of_parts, on_element, type_step}
 use Rattle.jc_constraints.specs.Lines.{AtOnePlace, ByLines, parameter, elements, arguments}
 use Rattle.jc_constraints.proofs.Implications.{implied-Array, implied-Class, implied-Variable}
+
+abbrev kind_at : Arg-F Arg Ty → ArgKind
+kind_at l = kind_of l
 
 none_in : {X : Type 0} (x : X) → Contains [] x → ⊥
 none_in x (k, lt, e) = omega (arith, lt)
@@ -138,10 +143,10 @@ module _ (T : Table) (env : List Bounds) (unknown : List VarId) where
   of_part x s y i f (Some t) (Some q) ef by eo er h = record { formal = f; actual = t; standing = q; formal_is = ef; actual_is = eo; standing_is = er; lines = by q t i h }
 
   of_arg_layer : (l : Arg-F SomeArg SomeTy) (s : Standing) (y : Arg) (i : Implied) → Contains (rolled_arg_list (plain_arg l) s y) i → ByArgument (roll-Arg (plain_arg l)) s y i
-  of_arg_layer (Arg-F.Exact z) s y i h = of_part (roll-Arg (Arg-F.Exact z.0)) s y i z.0 (part_of (out-Arg y)) (standing_of s (kind_of (Arg-F.Exact z.0)) (kind_of (out-Arg y))) (ap part_of (out-roll-Arg (Arg-F.Exact z.0))) z.1 refl (ap (λ k. standing_of s k (kind_of (out-Arg y))) (ap kind_of (out-roll-Arg (Arg-F.Exact z.0)))) h
+  of_arg_layer (Arg-F.Exact z) s y i h = of_part (roll-Arg (Arg-F.Exact z.0)) s y i z.0 (part_of (out-Arg y)) (standing_of s kind.Exact (kind_of (out-Arg y))) (ap part_of (out-roll-Arg (Arg-F.Exact z.0))) z.1 refl (ap (λ k. standing_of s k (kind_of (out-Arg y))) (ap kind_at (out-roll-Arg (Arg-F.Exact z.0)))) h
   of_arg_layer Arg-F.Any s y i h = absurd (none_in i h)
-  of_arg_layer (Arg-F.Extends z) s y i h = of_part (roll-Arg (Arg-F.Extends z.0)) s y i z.0 (part_of (out-Arg y)) (standing_of s (kind_of (Arg-F.Extends z.0)) (kind_of (out-Arg y))) (ap part_of (out-roll-Arg (Arg-F.Extends z.0))) z.1 refl (ap (λ k. standing_of s k (kind_of (out-Arg y))) (ap kind_of (out-roll-Arg (Arg-F.Extends z.0)))) h
-  of_arg_layer (Arg-F.Super z) s y i h = of_part (roll-Arg (Arg-F.Super z.0)) s y i z.0 (part_of (out-Arg y)) (standing_of s (kind_of (Arg-F.Super z.0)) (kind_of (out-Arg y))) (ap part_of (out-roll-Arg (Arg-F.Super z.0))) z.1 refl (ap (λ k. standing_of s k (kind_of (out-Arg y))) (ap kind_of (out-roll-Arg (Arg-F.Super z.0)))) h
+  of_arg_layer (Arg-F.Extends z) s y i h = of_part (roll-Arg (Arg-F.Extends z.0)) s y i z.0 (part_of (out-Arg y)) (standing_of s kind.Extends (kind_of (out-Arg y))) (ap part_of (out-roll-Arg (Arg-F.Extends z.0))) z.1 refl (ap (λ k. standing_of s k (kind_of (out-Arg y))) (ap kind_at (out-roll-Arg (Arg-F.Extends z.0)))) h
+  of_arg_layer (Arg-F.Super z) s y i h = of_part (roll-Arg (Arg-F.Super z.0)) s y i z.0 (part_of (out-Arg y)) (standing_of s kind.Super (kind_of (out-Arg y))) (ap part_of (out-roll-Arg (Arg-F.Super z.0))) z.1 refl (ap (λ k. standing_of s k (kind_of (out-Arg y))) (ap kind_at (out-roll-Arg (Arg-F.Super z.0)))) h
 
   listed : (f : Ty) → Listed f
   listed = ind-Ty ListedArg Listed

@@ -5,7 +5,6 @@ ghost use Rattle.jc_unit_laws.specs.UnitAnswers.{FileStands, NoUnitStands, NoWho
 use crate::files::file;
 use jc_left_out::{first_left_out_form, first_left_out_word};
 use jc_lexer::Token;
-use jc_reading::without;
 use jc_rules::{Rule, Stop};
 use jc_tree::{ParseFault, SourceFile};
 use std::alloc::Global;
@@ -26,13 +25,10 @@ pub fn unit(alloc: Global, tokens: &[Token], prelude: bool) -> Result<SourceFile
     }
     let file = whole(alloc, tokens)?;
     match first_left_out_form(tokens, &file) {
-        Some(token) => {
-            let fault = ParseFault::LeftOut {
-                rule: Rule::known(203),
-                token,
-            };
-            Err(without(file, Stop::Refused(fault)))
-        }
+        Some(token) => Err(Stop::Refused(ParseFault::LeftOut {
+            rule: Rule::known(203),
+            token,
+        })),
         None => Ok(file),
     }
 }
@@ -48,10 +44,9 @@ fn whole(alloc: Global, tokens: &[Token]) -> Result<SourceFile, Stop<ParseFault>
     if found.rest.len() < 1 {
         return Ok(found.value);
     }
-    let fault = ParseFault::Syntax {
+    Err(Stop::Refused(ParseFault::Syntax {
         token: place(tokens, found.left),
-    };
-    Err(without(found, Stop::Refused(fault)))
+    }))
 }
 
 /// The number of the token at which so many are left.
