@@ -6,5 +6,5 @@ mod Quoted
 mod Slices
 mod Steps
 mod Tables
-mod Telling
+pub mod Telling
 mod WholeNumbers

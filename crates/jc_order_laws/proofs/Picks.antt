@@ -1,17 +1,15 @@
 -- Offsets that stand in the tokens that a tree tells, in their order.
-use Rattle.std.proofs.Common.{◌≡◌, ◌<◌, ◌≤◌, ◌+◌, ℕ, zero, suc, Bool, true, false, Option, Some, None, List, [], ◌∷◌, ◌++◌, map, arith, refl, sym, ap, subst, ◌∙◌}
+use Rattle.std.proofs.Common.{◌≡◌, ℕ, Bool, true, false, Option, Some, None, List, [], ◌∷◌, ◌++◌, map, refl, sym, ap, subst}
 use Rattle.jc_lexer.specs.declared.token.Sign.TheVariants as sign_of
 use Rattle.jc_lexer.specs.declared.token.Key.TheVariants as key_of
 use Rattle.jc_tree.specs.declared.expression.Init.{Init}
 use Rattle.jc_tree.specs.declared.statement.DeclarationHead.{DeclarationHead}
 use Rattle.jc_tree.specs.declared.statement.DeclarationHead.TheVariants as head_of
 use Rattle.jc_tree.specs.declared.statement.Formal.{Formal}
-use Rattle.jc_tree.specs.declared.statement.Import.{Import}
 use Rattle.jc_tree.specs.declared.statement.LocalVars.{LocalVars}
 use Rattle.jc_tree.specs.declared.statement.MethodHead.{MethodHead}
 use Rattle.jc_tree.specs.declared.statement.Modifier.{Modifier}
 use Rattle.jc_tree.specs.declared.statement.Modifier.TheVariants as modifier_of
-use Rattle.jc_tree.specs.declared.statement.Package.{Package}
 use Rattle.jc_tree.specs.declared.statement.ResultType.{ResultType}
 use Rattle.jc_tree.specs.declared.statement.ResultType.TheVariants as result_of
 use Rattle.jc_tree.specs.declared.statement.TypeParam.{TypeParam}
@@ -24,14 +22,13 @@ use Rattle.jc_tree.specs.declared.types.TypePart.{TypePart}
 use Rattle.jc_tree.specs.declared.types.TypeTree.{TypeTree, out-TypeTree}
 use Rattle.jc_tree.specs.Offsets.{base_first, first_offset_of_base, first_offset_of_arg, first_offset_of_class, first_offset_of_part, first_offset_of_type, modifiers_first, params_first, result_first, first_offset_of_head, first_offset_of_method}
 use Rattle.jc_tree.proofs.OffsetsOfTypes.{first_offset_of_base-out, first_offset_of_class-parts, first_offset_of_part-parts, first_offset_of_type-parts}
-use Rattle.jc_grammar.specs.Told.{Told, Spelled, sign, ident, key, key_at, each, after_commas, commas, brackets}
-use Rattle.jc_grammar.specs.Types.{base_told, base_tokens, arg_tokens, class_tokens, part_tokens, type_tokens, angled}
-use Rattle.jc_grammar.specs.Expressions.{init_tokens}
+use Rattle.jc_grammar.specs.Told.{Told, Spelled, sign, ident, key, key_at, after_commas, commas, brackets}
+use Rattle.jc_grammar.specs.Types.{base_told, base_tokens, arg_tokens, class_tokens, part_tokens, type_tokens}
 use Rattle.jc_grammar.specs.Parts.{if_some, modifiers_tokens, after_ands, bounds_tokens, param_tokens, params_tokens, params_of_tokens, formal_tokens, initialised, var_tokens, local_tokens, result_tokens, extended, keyed_list, head_tokens, method_tokens}
 use Rattle.jc_grammar.specs.Firsts.{BeginsAt}
-use Rattle.jc_grammar.proofs.Framed.{Frames, nothing, token, seq, AllFrame, ended, all_frame, after_commas_frames, commas_frames, keyed_list_frames, brackets_frame, if_there_frames, if_some_frames}
+use Rattle.jc_grammar.proofs.Framed.{Frames, nothing, token, seq, all_frame, commas_frames, keyed_list_frames, brackets_frame, if_there_frames, if_some_frames}
 use Rattle.jc_grammar.proofs.FramedExpressions.{init_frames}
-use Rattle.jc_grammar.proofs.FramedParts.{modifiers_frame, head_frames, method_frames}
+use Rattle.jc_grammar.proofs.FramedParts.{modifiers_frame, head_frames}
 use Rattle.jc_grammar.proofs.FramedTypes.{class_frames, type_frames}
 use Rattle.jc_grammar.proofs.TokensOfTypes.{base_tokens-out, class_tokens-parts, part_tokens-parts, type_tokens-parts}
 use Rattle.jc_declares.specs.Sites.{listed_params, params_of_head}

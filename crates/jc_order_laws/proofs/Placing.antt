@@ -1,5 +1,5 @@
 -- The offsets of what a program declares stand in the tokens of its sources, in the order of the declarations.
-use Rattle.std.proofs.Common.{◌≡◌, ◌<◌, ◌≤◌, ◌+◌, ℕ, zero, suc, Bool, true, false, Option, Some, None, List, [], ◌∷◌, ◌++◌, map, length, slice_get, arith, refl, sym, ap, subst, ◌∙◌}
+use Rattle.std.proofs.Common.{◌≡◌, ◌+◌, ℕ, zero, suc, Bool, true, false, Some, List, [], ◌∷◌, ◌++◌, map, length, slice_get, arith, refl, sym, ap, subst, ◌∙◌}
 use Rattle.std.specs.Prelude.{cond}
 use Rattle.jc_lexer.specs.declared.token.Key.TheVariants as key_of
 use Rattle.jc_lexer.specs.declared.token.Sign.TheVariants as sign_of
@@ -25,14 +25,14 @@ use Rattle.jc_declares.specs.declared.heads.Standing.{Standing}
 use Rattle.jc_declares.specs.declared.unit.SourceUnit.{SourceUnit}
 use Rattle.jc_declares.specs.Words.{says_static}
 use Rattle.jc_declares.specs.Sites.{Sites, ClassSite, MethodSite, FieldSite, VariableSite, UseSite, MethodForm, Headed, ImpliedConstructor, StaticInitialiser, Counts, Walk, Uses, Membered, no_sites, joined, behind, innermost, used_at, only_uses, uses_of_lists, uses_in_each, uses_of_var, is_constructor_implied, is_static_initialiser_implied, walked, within, field_sites, variable_sites, listed_params, params_of_head, class_sites, implied_sites, implied_forms, declaration_walk, declaration_sites, member_sites, stmt_uses, clause_uses, membered, uses_of_stmt, uses_of_clause, sites_of_declaration, sites_of_top, unit_front, sites_of_unit}
-use Rattle.jc_grammar.specs.Told.{Told, Spelled, sign, sign_at, ident, key, key_at, each, names_after}
+use Rattle.jc_grammar.specs.Told.{Told, Spelled, sign, sign_at, ident, key, key_at, each}
 use Rattle.jc_grammar.specs.Parts.{if_some, local_tokens, head_tokens, method_tokens}
 use Rattle.jc_grammar.specs.Statements.{braced, braced_at, member_told, stmt_told, clause_told, declaration_told, stmt_tokens, member_tokens, clause_tokens, declaration_tokens, package_tokens, static_tokens, on_demand_tokens, import_tokens, top_tokens, file_tokens}
 use Rattle.jc_grammar.specs.Firsts.{BeginsAt}
-use Rattle.jc_grammar.proofs.Framed.{Frames, nothing, token, seq, AllFrame, all_frame, each_frames, names_frame, if_some_frames}
+use Rattle.jc_grammar.proofs.Framed.{Frames, nothing, token, seq, all_frame, each_frames, names_frame, if_some_frames}
 use Rattle.jc_grammar.proofs.FramedParts.{head_frames, method_frames, locals_frame}
-use Rattle.jc_grammar.proofs.FramedStatements.{stmt_frames, member_frames}
-use Rattle.jc_order_laws.proofs.Picks.{Goes, here, skip, both, framed, first_picked, again_first, begins_framed, head_begins, method_begins, param_offsets, head_params_picked, method_params_picked, var_offsets, locals_picked}
+use Rattle.jc_grammar.proofs.FramedStatements.{stmt_frames}
+use Rattle.jc_order_laws.proofs.Picks.{Goes, both, framed, first_picked, again_first, head_begins, method_begins, param_offsets, head_params_picked, method_params_picked, var_offsets, locals_picked}
 
 -- ---- lists
 
@@ -234,8 +234,8 @@ module _ (file_of offset_of class_of : ℕ → ℕ) where
           classes = framed false f h r;
           methods = framed true f h r;
           fields =
-          subst (λ (xs : List ℕ). Goes false xs (f r) r) (sym (field_offsets_are at vars (vars.first ∷ vars.more)))
-          (then_framed false (var_offsets (vars.first ∷ vars.more)) (λ r. sign sign_of.Semicolon ∷ r) (token (sign sign_of.Semicolon)) (f r) r (locals_picked vars (sign sign_of.Semicolon ∷ r)));
+              subst (λ (xs : List ℕ). Goes false xs (f r) r) (sym (field_offsets_are at vars (vars.first ∷ vars.more)))
+              (then_framed false (var_offsets (vars.first ∷ vars.more)) (λ r. sign sign_of.Semicolon ∷ r) (token (sign sign_of.Semicolon)) (f r) r (locals_picked vars (sign sign_of.Semicolon ∷ r)));
           variables = framed false f h r;
         };
       }
@@ -244,7 +244,7 @@ module _ (file_of offset_of class_of : ℕ → ℕ) where
       → file_of (innermost at.round) ≡ at.file
       → class_of (n.methods + 0) ≡ innermost at.round
       → Reads at.file (record { units = []; classes = []; methods = record { class = innermost at.round; scope = n.scopes; form = Headed head has_block } ∷ []; fields = []; variables = variable_sites (owner.Method (record { 0 = n.methods })) (listed_params head.params); scopes = scopes; uses = uses })
-          (λ r. method_tokens head (g r))
+      (λ r. method_tokens head (g r))
   method_read at n head has_block scopes uses g k i c =
       let f : Spelled = λ (r : List Told). method_tokens head (g r) in
       let h : Frames f = seq (method_frames head) k in
@@ -256,8 +256,8 @@ module _ (file_of offset_of class_of : ℕ → ℕ) where
           methods = first_picked true f h (first_offset_of_method head) (method_begins head (g [])) r;
           fields = framed false f h r;
           variables =
-          subst (λ (xs : List ℕ). Goes false xs (f r) r) (sym (variable_offsets_are (owner.Method (record { 0 = n.methods })) (listed_params head.params)))
-          (then_framed false (param_offsets (listed_params head.params)) g k (f r) r (method_params_picked head (g r)));
+              subst (λ (xs : List ℕ). Goes false xs (f r) r) (sym (variable_offsets_are (owner.Method (record { 0 = n.methods })) (listed_params head.params)))
+              (then_framed false (param_offsets (listed_params head.params)) g k (f r) r (method_params_picked head (g r)));
         };
       }
 
@@ -301,8 +301,8 @@ module _ (file_of offset_of class_of : ℕ → ℕ) where
         in_file = record { classes = rest.in_file.classes; methods = (i, rest.in_file.methods); fields = rest.in_file.fields; variables = rest.in_file.variables };
         classes = rest.classes;
         methods = λ r.
-        again_first (form_offset (innermost at.round) form) (map method_offset t.methods) (h (each fs r)) r
-        (subst (λ (y : ℕ). BeginsAt y (h (each fs r))) (sym (form_is (innermost at.round) x o form q.0)) (b (each fs r))) (rest.methods r);
+            again_first (form_offset (innermost at.round) form) (map method_offset t.methods) (h (each fs r)) r
+            (subst (λ (y : ℕ). BeginsAt y (h (each fs r))) (sym (form_is (innermost at.round) x o form q.0)) (b (each fs r))) (rest.methods r);
         fields = rest.fields;
         variables = rest.variables;
       }
@@ -350,7 +350,7 @@ module _ (file_of offset_of class_of : ℕ → ℕ) where
       implied_behind (implied_forms head members) (forms_not_written head members) ws fs g h k x (λ r. head_begins head (sign sign_of.LeftBrace ∷ r)) (within head at n) (behind n own) (agrees_right n own w a) file_is offset_is in
       record {
         in_file = in_file_joined at.file own w
-        (record { classes = (refl, tt); methods = tt; fields = tt; variables = variables_in at.file (owner.Class (record { 0 = n.classes })) (params_of_head head) file_is }) behind_it.in_file;
+            (record { classes = (refl, tt); methods = tt; fields = tt; variables = variables_in at.file (owner.Class (record { 0 = n.classes })) (params_of_head head) file_is }) behind_it.in_file;
         stand = λ r. declared_stand head at n w fs behind_it r;
       }
     where
@@ -362,16 +362,16 @@ module _ (file_of offset_of class_of : ℕ → ℕ) where
           let body : List Told = each fs (closed r) in
           record {
             classes =
-            together false class_offset own.classes w.classes (h body) body r (first_picked false h k (first_offset_of_head head) (head_begins head (sign sign_of.LeftBrace ∷ [])) body)
-            (then_framed false (map class_offset w.classes) closed closed_frames body r (b.classes (closed r)));
+                together false class_offset own.classes w.classes (h body) body r (first_picked false h k (first_offset_of_head head) (head_begins head (sign sign_of.LeftBrace ∷ [])) body)
+                (then_framed false (map class_offset w.classes) closed closed_frames body r (b.classes (closed r)));
             methods = then_framed true (map method_offset w.methods) closed closed_frames (h body) r (b.methods (closed r));
             fields =
-            both false [] (map field_offset w.fields) (h body) body r (framed false h k body) (then_framed false (map field_offset w.fields) closed closed_frames body r (b.fields (closed r)));
+                both false [] (map field_offset w.fields) (h body) body r (framed false h k body) (then_framed false (map field_offset w.fields) closed closed_frames body r (b.fields (closed r)));
             variables =
-            together false variable_offset own.variables w.variables (h body) body r
-            (subst (λ (xs : List ℕ). Goes false xs (h body) body) (sym (variable_offsets_are (owner.Class (record { 0 = n.classes })) (params_of_head head)))
-            (then_framed false (param_offsets (params_of_head head)) (λ r. sign sign_of.LeftBrace ∷ r) (token (sign sign_of.LeftBrace)) (h body) body (head_params_picked head (sign sign_of.LeftBrace ∷ body))))
-            (then_framed false (map variable_offset w.variables) closed closed_frames body r (b.variables (closed r)));
+                together false variable_offset own.variables w.variables (h body) body r
+                (subst (λ (xs : List ℕ). Goes false xs (h body) body) (sym (variable_offsets_are (owner.Class (record { 0 = n.classes })) (params_of_head head)))
+                (then_framed false (param_offsets (params_of_head head)) (λ r. sign sign_of.LeftBrace ∷ r) (token (sign sign_of.LeftBrace)) (h body) body (head_params_picked head (sign sign_of.LeftBrace ∷ body))))
+                (then_framed false (map variable_offset w.variables) closed closed_frames body r (b.variables (closed r)));
           }
 
   -- ---- declarations
@@ -408,7 +408,7 @@ module _ (file_of offset_of class_of : ℕ → ℕ) where
 
   member_layer : (y : Member-F SomeMember SomeStmt SomeClause SomeDeclaration)
       → Goes_inside (member_sites (map-Member Member Stmt Clause Declaration Membered Uses Uses Walk membered uses_of_stmt uses_of_clause sites_of_declaration (plain_member y))).walk
-          (member_told (map-Member Member Stmt Clause Declaration Spelled Spelled Spelled Spelled member_tokens stmt_tokens clause_tokens declaration_tokens (plain_member y)))
+      (member_told (map-Member Member Stmt Clause Declaration Spelled Spelled Spelled Spelled member_tokens stmt_tokens clause_tokens declaration_tokens (plain_member y)))
   member_layer (Member-F.Semicolon at) = λ s n a i. none_reads s.file (λ r. sign_at sign_of.Semicolon at ∷ r) (token (sign_at sign_of.Semicolon at))
   member_layer (Member-F.Initialiser at true items) =
       λ s n a i. uses_read s.file (used_at s s.scope true (uses_of_lists (map uses_of_stmt (plain_items items)))) (λ r. key_at key_of.Static at ∷ braced (map stmt_tokens (plain_items items)) r) (seq (token (key_at key_of.Static at)) (braced_frame (plain_items items)))
@@ -446,7 +446,7 @@ module _ (file_of offset_of class_of : ℕ → ℕ) where
 
   declaration_layer : (y : Declaration-F SomeMember SomeStmt SomeClause SomeDeclaration)
       → Goes_free (declaration_sites (map-Declaration Member Stmt Clause Declaration Membered Uses Uses Walk membered uses_of_stmt uses_of_clause sites_of_declaration (plain_declaration y)))
-          (declaration_told (map-Declaration Member Stmt Clause Declaration Spelled Spelled Spelled Spelled member_tokens stmt_tokens clause_tokens declaration_tokens (plain_declaration y)))
+      (declaration_told (map-Declaration Member Stmt Clause Declaration Spelled Spelled Spelled Spelled member_tokens stmt_tokens clause_tokens declaration_tokens (plain_declaration y)))
   declaration_layer y = declaration_reads y.head (map membered (map (λ (z : SomeMember). z.0) y.members)) (map member_tokens (map (λ (z : SomeMember). z.0) y.members)) (all_given y.members)
 
   declaration_rolled : (y : Declaration-F SomeMember SomeStmt SomeClause SomeDeclaration) → DeclarationReads (roll-Declaration (plain_declaration y))
