@@ -1,5 +1,5 @@
 -- The repair of each variant.
-use Rattle.std.proofs.Common.{◌≡◌, ℕ, Bool, List, [], ◌∷◌, map, refl, ap, sym, ◌∙◌, if◌then◌else◌}
+use Rattle.std.proofs.Common.{◌≡◌, ℕ, List, [], ◌∷◌, map, refl, ap, sym, ◌∙◌, if◌then◌else◌}
 use Rattle.jc_types.specs.declared.environment.Bounds.{Bounds}
 use Rattle.jc_types.specs.declared.form.Arg.{Arg, Arg-F, roll-Arg, map-Arg, para-roll-Arg}
 use Rattle.jc_types.specs.declared.form.Arg.TheVariants.{Exact, Any, Extends, Super, rolls-Exact, rolls-Any, rolls-Extends, rolls-Super}

@@ -1,5 +1,6 @@
 -- The repair of a type is above it.
-use Rattle.std.proofs.Common.{◌≡◌, ℕ, ◌==◌, ◌&&◌, Bool, true, false, List, [], ◌∷◌, ◌++◌, map, refl, ap, sym, subst, ◌∙◌, if◌then◌else◌, arith, nat_tests}
+use Rattle.std.proofs.Common.{◌≡◌, ℕ, ◌==◌, ◌&&◌, Bool, true, false, List, [], ◌∷◌, ◌++◌, map, refl, ap, sym, subst, ◌∙◌, if◌then◌else◌, arith}
+use Rattle.std.proofs.lemmas.Bool.Decides.{nat_tests}
 use Rattle.jc_types.specs.declared.environment.Bounds.{Bounds}
 use Rattle.jc_types.specs.declared.form.Arg.{Arg, Arg-F, out-Arg, roll-Arg, map-Arg, para-roll-Arg}
 use Rattle.jc_types.specs.declared.form.Arg.TheVariants.{Exact, Any, Extends, Super, outs-Exact, outs-Any, outs-Extends, outs-Super, rolls-Exact, rolls-Any, rolls-Extends, rolls-Super}
@@ -217,7 +218,7 @@ module _ (T : Table) (env : List Bounds) where
   class_stays i zs h =
       repaired-Class T env i (map (λ z. z.0) zs)
       ∙ chosen i (map (repaired_arg T env) (map (λ z. z.0) zs)) (map (λ z. z.0) zs) (is_sound T env (Class i (map (λ z. z.0) zs))) (formed_sound T env (Class i (map (λ z. z.0) zs)) h)
-        (args_stay zs (formed_args T env i (map (λ z. z.0) zs) h))
+      (args_stay zs (formed_args T env i (map (λ z. z.0) zs) h))
 
   abbrev own : Ty-F SArg STy → Ty-F Arg Ty
   own y = map-Ty SArg STy Arg Ty (λ z. z.0) (λ z. z.0) y
@@ -290,8 +291,8 @@ module _ (T : Table) (env : List Bounds) where
   class_rises i zs =
       ap (is_looser (Class i (map (λ z. z.0) zs))) (repaired-Class T env i (map (λ z. z.0) zs))
       ∙ above_chosen i (map (λ z. z.0) zs) (map (repaired_arg T env) (map (λ z. z.0) zs)) (is_sound T env (Class i (map (λ z. z.0) zs)))
-        (λ sound. args_kept zs (formed_args T env i (map (λ z. z.0) zs) (sound_formed T env (Class i (map (λ z. z.0) zs)) sound)))
-        (args_loose zs)
+      (λ sound. args_kept zs (formed_args T env i (map (λ z. z.0) zs) (sound_formed T env (Class i (map (λ z. z.0) zs)) sound)))
+      (args_loose zs)
 
   abbrev plain : Ty-F RArg RTy → Ty-F Arg Ty
   plain y = map-Ty RArg RTy Arg Ty (λ z. z.0) (λ z. z.0) y

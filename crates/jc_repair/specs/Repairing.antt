@@ -1,9 +1,9 @@
 -- The repair of a least upper bound: class types in it that aren't well formed are made looser (JLS 4.5, 15.25).
-use Rattle.std.specs.Prelude.{Bool, true, false, List, [], ◌∷◌, map, if◌then◌else◌}
+use Rattle.std.specs.Prelude.{Bool, true, false, List, map, if◌then◌else◌}
 use Rattle.jc_types.specs.declared.environment.Bounds.{Bounds}
-use Rattle.jc_types.specs.declared.form.Arg.{Arg, Arg-F, out-Arg, roll-Arg, para-Arg}
+use Rattle.jc_types.specs.declared.form.Arg.{Arg, Arg-F, out-Arg, para-Arg}
 use Rattle.jc_types.specs.declared.form.Arg.TheVariants.{Exact, Any, Extends, Super}
-use Rattle.jc_types.specs.declared.form.Ty.{Ty, Ty-F, out-Ty, roll-Ty, para-Ty}
+use Rattle.jc_types.specs.declared.form.Ty.{Ty, Ty-F, roll-Ty, para-Ty}
 use Rattle.jc_types.specs.declared.form.Ty.TheVariants.{Class, Array, Meet}
 use Rattle.jc_types.specs.declared.table.Table.{Table}
 use Rattle.jc_judge.specs.declared.question.Answer.{Answer}
