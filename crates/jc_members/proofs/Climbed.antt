@@ -1,5 +1,5 @@
 -- A walk upwards, and what has no view.
-use Rattle.std.proofs.Common.{◌≡◌, ◌≢◌, ◌⊎◌, inl, inr, ℕ, zero, suc, ◌+◌, ◌<◌, ◌≤◌, ◌==◌, Bool, true, false, cond, Option, Some, None, List, [], ◌∷◌, ◌++◌, length, map, slice_get, if◌then◌else◌, arith, refl, sym, ap, subst, ◌∙◌}
+use Rattle.std.proofs.Common.{◌≡◌, ◌≢◌, ◌⊎◌, inl, inr, ℕ, zero, suc, ◌+◌, ◌<◌, ◌≤◌, ◌==◌, Bool, true, false, cond, Option, Some, None, List, [], ◌∷◌, ◌++◌, length, map, drop, get_or, add-one, drop-cons, slice_get, if◌then◌else◌, arith, refl, sym, ap, subst, ◌∙◌}
 use Rattle.std.specs.Prelude.{nat_eq}
 use Rattle.std.proofs.lemmas.Bool.Decides.{nat_tests}
 use Rattle.jc_types.specs.declared.form.Ty.{Ty, Ty-F, out-Ty}
@@ -13,9 +13,8 @@ use Rattle.jc_judge.specs.Kinds.{class_of, class_at}
 use Rattle.jc_judge.specs.Supers.{numbered}
 use Rattle.jc_judge.specs.Views.{view, view_within, first_of, or_else, is_class, supers, supers_at, class_supers, exacts, erased}
 use Rattle.jc_judge.proofs.Finds.{put_class, erased_class}
-use Rattle.jc_sub.specs.Reaching.{super_with}
-use Rattle.jc_sub.proofs.Reached.{mapped}
 use Rattle.jc_members.specs.Climbing.{IsNumberIn, ClassIn, AllIn, IsClosed, ClassMarked, AllMarked}
+use Rattle.jc_members.specs.Supertypes.{HasViews}
 
 -- ---- lists
 
@@ -69,7 +68,7 @@ in_or_out y (x ∷ xs) = by (nat_eq y x) refl (in_or_out y xs)
 abbrev pub AreListed : (ℕ → Bool) → List ℕ → Type 0
 AreListed marks cs = (y : ℕ) → marks y ≡ true → IsNumberIn y cs
 
-module _ (class : ℕ) (old new : ℕ → Bool) (cs : List ℕ) (put : (y : ℕ) → new y ≡ cond (nat_eq class y) true (old y)) where
+module _ (class : ℕ) (old new : ℕ → Bool) (cs ds : List ℕ) (put : (y : ℕ) → new y ≡ cond (nat_eq class y) true (old y)) (is : ds ≡ cs ++ class ∷ []) where
   pub mark_own : new class ≡ true
   mark_own = put class ∙ ap (λ b. cond b true (old class)) (let e : nat_eq class class ≡ true = grind (arith, nat_tests) in e)
 
@@ -80,18 +79,18 @@ module _ (class : ℕ) (old new : ℕ → Bool) (cs : List ℕ) (put : (y : ℕ)
       by true = refl
       by false = e
 
-  pub mark_listed : (y : ℕ) → new y ≡ true → (old y ≡ true) ⊎ IsNumberIn y (cs ++ class ∷ [])
+  pub mark_listed : (y : ℕ) → new y ≡ true → (old y ≡ true) ⊎ IsNumberIn y ds
   mark_listed y e = by (nat_eq class y) refl (sym (put y) ∙ e)
     where
-      by : (b : Bool) → nat_eq class y ≡ b → cond b true (old y) ≡ true → (old y ≡ true) ⊎ IsNumberIn y (cs ++ class ∷ [])
-      by true f g = inr (subst (λ z. IsNumberIn z (cs ++ class ∷ [])) (same_number class y f) (last_in class cs))
+      by : (b : Bool) → nat_eq class y ≡ b → cond b true (old y) ≡ true → (old y ≡ true) ⊎ IsNumberIn y ds
+      by true f g = inr (subst (λ es. IsNumberIn y es) (sym is) (subst (λ z. IsNumberIn z (cs ++ class ∷ [])) (same_number class y f) (last_in class cs)))
       by false f g = inl g
 
-  pub push_grows : (y : ℕ) → IsNumberIn y cs → IsNumberIn y (cs ++ class ∷ [])
-  push_grows y h = in_push y class cs h
+  pub push_grows : (y : ℕ) → IsNumberIn y cs → IsNumberIn y ds
+  push_grows y h = subst (λ es. IsNumberIn y es) (sym is) (in_push y class cs h)
 
-  pub push_stays : (j x : ℕ) → slice_get cs j ≡ Some x → slice_get (cs ++ class ∷ []) j ≡ Some x
-  push_stays j x e = get_push cs class j x e
+  pub push_stays : (j x : ℕ) → slice_get cs j ≡ Some x → slice_get ds j ≡ Some x
+  push_stays j x e = subst (λ es. slice_get es j ≡ Some x) (sym is) (get_push cs class j x e)
 
 pub marked_more : (f g : ℕ → Bool) → ((y : ℕ) → f y ≡ true → g y ≡ true) → (ts : List Ty) → AllMarked f ts → AllMarked g ts
 marked_more f g h [] m = tt
@@ -151,6 +150,18 @@ climb_more T from cs ds at next class marks more c is step all kept listed grows
 
 -- ---- what is not in a closed list has no view
 
+abbrev super_with : Table → ClassId → Option (List Arg) → Ty → Ty
+super_with T id None t = erased t
+super_with T id (Some xs) t = if length (exacts xs) == length (vars_of T id) then put (vars_of T id) (exacts xs) t else erased t
+
+mapped : (T : Table) (i : ClassId) (o : Option (List Arg)) → class_supers T i o ≡ map (super_with T i o) (supers_of T i)
+mapped T i None = refl
+mapped T i (Some xs) = by_count (length (exacts xs) == length (vars_of T i))
+  where
+    by_count : (b : Bool) → (if b then map (put (vars_of T i) (exacts xs)) (supers_of T i) else map erased (supers_of T i)) ≡ map (λ t. if b then put (vars_of T i) (exacts xs) t else erased t) (supers_of T i)
+    by_count true = refl
+    by_count false = refl
+
 keeps : (T : Table) (i : ClassId) (o : Option (List Arg)) (t : Ty) (id : ClassId) → class_of t ≡ Some id → class_of (super_with T i o t) ≡ Some id
 keeps T i None t id e = erased_class t id e
 keeps T i (Some xs) t id e = by_count (length (exacts xs) == length (vars_of T i))
@@ -183,11 +194,11 @@ module _ (T : Table) (from l : ℕ) (cs : List ℕ) (closed : IsClosed T from cs
 
   none_first : (n : ℕ) (g : Ty → Ty) → ((t : Ty) (id : ClassId) → class_of t ≡ Some id → class_of (g t) ≡ Some id) → NoView n → (ts : List Ty) → AllIn cs ts → first_of (view_within T n (numbered l)) (map g ts) ≡ None
   none_first n g same none [] h = refl
-  none_first n g same none (t ∷ ts) h = by_class (class_of t) refl h.0
+  none_first n g same none (t ∷ ts) h = by_class (none_first n g same none ts h.1) (class_of t) refl h.0
     where
-      by_class : (o : Option ClassId) → class_of t ≡ o → ClassIn cs o → or_else (view_within T n (numbered l) (g t)) (first_of (view_within T n (numbered l)) (map g ts)) ≡ None
-      by_class None e d = absurd d
-      by_class (Some id) e d = ap (λ o. or_else o (first_of (view_within T n (numbered l)) (map g ts))) (none (g t) id.0 (same t id e) d) ∙ none_first n g same none ts h.1
+      by_class : first_of (view_within T n (numbered l)) (map g ts) ≡ None → (o : Option ClassId) → class_of t ≡ o → ClassIn cs o → or_else (view_within T n (numbered l) (g t)) (first_of (view_within T n (numbered l)) (map g ts)) ≡ None
+      by_class rest None e d = absurd d
+      by_class rest (Some id) e d = ap (λ o. or_else o (first_of (view_within T n (numbered l)) (map g ts))) (none (g t) id.0 (same t id e) d) ∙ rest
 
   not_class : (t : Ty) (x : ℕ) → class_of t ≡ Some (numbered x) → x ≢ l → is_class (numbered l) (class_of t) ≡ false
   not_class t x e ne = ap (is_class (numbered l)) e ∙ grind (arith, nat_tests)
@@ -203,3 +214,34 @@ module _ (T : Table) (from l : ℕ) (cs : List ℕ) (closed : IsClosed T from cs
   pub outside : (t : Ty) → class_of t ≡ Some (numbered from) → view T (numbered l) t ≡ None
   unfolding view
   outside t e = no_view (class_count T + 1) t from e closed.first
+
+-- what is not found among all views has none
+pub whole_told : (T : Table) (of : Ty) (from : ClassId) (cs : List ℕ) (found : ℕ → Option Ty) → class_of of ≡ Some from → IsClosed T from.0 cs → HasViews T of cs [] found → (l : ℕ) → found l ≡ None → view T (numbered l) of ≡ None
+whole_told T of from cs found class closed views l e = by (in_or_out l cs)
+  where
+    at : IsNumberIn l [] ⊎ (found l ≡ None → view T (numbered l) of ≡ None) → view T (numbered l) of ≡ None
+    at (inl m) = absurd m
+    at (inr f) = f e
+
+    by : IsNumberIn l cs ⊎ (IsNumberIn l cs → ⊥) → view T (numbered l) of ≡ None
+    by (inl m) = at (views.missed l m)
+    by (inr out) = outside T from.0 l cs closed out of class
+
+-- one type more is marked
+pub all_more : (old new : ℕ → Bool) (types : List Ty) (i : ℕ) (t : Ty) (k : ClassId) → i < length types → t ≡ get_or types i t → class_of t ≡ Some k
+    → ((more : ℕ → Bool) → ((y : ℕ) → old y ≡ true → more y ≡ true) → AllMarked more (drop i types) → AllMarked more types)
+    → ((y : ℕ) → old y ≡ true → new y ≡ true) → new k.0 ≡ true → (more : ℕ → Bool) → ((y : ℕ) → new y ≡ true → more y ≡ true) → AllMarked more (drop (i + 1) types) → AllMarked more types
+all_more old new types i t k lt is e h kept own more g m =
+    h more (λ y o. g y (kept y o)) (subst (λ ts. AllMarked more ts) (sym split) (subst (λ o. ClassMarked more o) (sym e) (g k.0 own), m))
+  where
+    split : drop i types ≡ t ∷ drop (i + 1) types
+    split = drop-cons types i t lt ∙ ap (λ y. y ∷ drop (suc i) types) (sym is) ∙ ap (λ k. t ∷ drop k types) (sym (add-one i))
+
+pub all_done : (marks : ℕ → Bool) (types : List Ty) (i : ℕ) → length types ≤ i → ((more : ℕ → Bool) → ((y : ℕ) → marks y ≡ true → more y ≡ true) → AllMarked more (drop i types) → AllMarked more types) → AllMarked marks types
+all_done marks types i le h = h marks (λ y e. e) (subst (λ ts. AllMarked marks ts) (sym (nothing types i le)) tt)
+  where
+    nothing : (ts : List Ty) (i : ℕ) → length ts ≤ i → drop i ts ≡ []
+    nothing [] zero le = refl
+    nothing [] (suc i) le = refl
+    nothing (t ∷ ts) zero le = absurd (omega arith)
+    nothing (t ∷ ts) (suc i) le = nothing ts i (omega arith)

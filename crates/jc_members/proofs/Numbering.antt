@@ -43,7 +43,7 @@ get_below (y ∷ gs) (suc g) lt = get_below gs g (omega arith)
 length_set : (gs : List (List MethodId)) (g : ℕ) (ids : List MethodId) → length (slice_set gs g ids) ≡ length gs
 length_set [] g ids = refl
 length_set (y ∷ gs) zero ids = refl
-length_set (y ∷ gs) (suc g) ids = ap (λ n. n + 1) (length_set gs g ids)
+length_set (y ∷ gs) (suc g) ids = ap suc (length_set gs g ids)
 
 pushed_length : (g : ℕ) (id : MethodId) (gs : List (List MethodId)) → length (pushed_at g id gs) ≡ length gs
 pushed_length g id gs = by (slice_get gs g)
@@ -97,19 +97,20 @@ module _ (names : List (List ℕ × ℕ)) (groups : List (List MethodId)) (name 
 module _ (names : List (List ℕ × ℕ)) (groups : List (List MethodId)) (name : List ℕ) (id : MethodId) (none : named name names ≡ None) (numbers : IsNumbered names (length groups)) where
   named_push : (q : List ℕ) (es : List (List ℕ × ℕ)) (g : ℕ) → named q es ≡ Some g → named q (es ++ (name, length groups) ∷ []) ≡ Some g
   named_push q [] g e = cc
-  named_push q (x ∷ es) g e = by (bytes_eq q x.0) e
+  named_push q (x ∷ es) g e = by (bytes_eq q x.0) (λ f. named_push q es g f) e
     where
-      by : (b : Bool) → (if b then Some x.1 else named q es) ≡ Some g → (if b then Some x.1 else named q (es ++ (name, length groups) ∷ [])) ≡ Some g
-      by true f = f
-      by false f = named_push q es g f
+      by : (b : Bool) → (named q es ≡ Some g → named q (es ++ (name, length groups) ∷ []) ≡ Some g) → (if b then Some x.1 else named q es) ≡ Some g
+          → (if b then Some x.1 else named q (es ++ (name, length groups) ∷ [])) ≡ Some g
+      by true r f = f
+      by false r f = r f
 
   named_new : (q : List ℕ) (es : List (List ℕ × ℕ)) → named q es ≡ None → named q (es ++ (name, length groups) ∷ []) ≡ (if bytes_eq q name then Some (length groups) else None)
   named_new q [] e = refl
-  named_new q (x ∷ es) e = by (bytes_eq q x.0) e
+  named_new q (x ∷ es) e = by (bytes_eq q x.0) (λ f. named_new q es f) e
     where
-      by : (b : Bool) → (if b then Some x.1 else named q es) ≡ None → (if b then Some x.1 else named q (es ++ (name, length groups) ∷ [])) ≡ (if bytes_eq q name then Some (length groups) else None)
-      by true f = cc
-      by false f = named_new q es f
+      by : (b : Bool) → (named q es ≡ None → named q (es ++ (name, length groups) ∷ []) ≡ (if bytes_eq q name then Some (length groups) else None)) → (if b then Some x.1 else named q es) ≡ None → (if b then Some x.1 else named q (es ++ (name, length groups) ∷ [])) ≡ (if bytes_eq q name then Some (length groups) else None)
+      by true r f = cc
+      by false r f = r f
 
   abbrev more : List (List ℕ × ℕ)
   more = names ++ (name, length groups) ∷ []

@@ -1,5 +1,5 @@
 -- Members, told by ids.
-use Rattle.std.proofs.Common.{◌≡◌, ◌⊎◌, inl, inr, ℕ, zero, suc, ◌+◌, Bool, true, false, ◌&&◌, ◌||◌, cond, Option, Some, None, List, [], ◌∷◌, ◌++◌, length, replicate, arith, refl, sym, ap, subst, ◌∙◌, append_assoc}
+use Rattle.std.proofs.Common.{◌≡◌, ◌⊎◌, inl, inr, ℕ, zero, suc, ◌+◌, Bool, true, false, ◌&&◌, ◌||◌, cond, Option, Some, None, List, [], ◌∷◌, ◌++◌, length, arith, refl, sym, ap, subst, ◌∙◌, append_assoc}
 use Rattle.std.specs.Option.{option_to_list}
 use Rattle.jc_types.specs.declared.declarations.MethodDecl.{MethodDecl}
 use Rattle.jc_types.specs.declared.form.Ty.{Ty}
@@ -10,7 +10,7 @@ use Rattle.jc_overriding.specs.declared.view.MethodView.{MethodView}
 use Rattle.jc_overriding.specs.Overriding.{candidates, candidates_from, has_name, hides, is_candidate, is_viewed, members, overrides, remaining, replaced, with_view, without_replaced}
 use Rattle.jc_overriding.specs.Viewing.{Seeing, With, Raised, is_static, seeing_of, view_of_method, view_of_owner, viewed_by, viewed_in}
 use Rattle.jc_members.specs.Below.{replaces}
-use Rattle.jc_members.specs.Listing.{candidate_ids, has_method, if_candidate, kept_by, marked_by, marked_by_all, remaining_ids, remaining_in, replaced_by, views_of}
+use Rattle.jc_members.specs.Listing.{candidate_ids, has_method, if_candidate, kept_by, marked_by, marked_by_all, remaining_ids, remaining_in, replaced_by, unmarked, views_of}
 use Rattle.jc_members.specs.Named.{all_named, if_named, named_from}
 
 -- ---- views have the ids of their methods
@@ -157,21 +157,21 @@ marked_both T w ws (m ∷ ms) (f ∷ fs) =
 marked_length : (T : Table) (w : MethodId) (ms : List MethodId) (fs : List Bool) → length fs ≡ length ms → length (marked_by T w ms fs) ≡ length ms
 marked_length T w [] fs e = refl
 marked_length T w (m ∷ ms) [] e = absurd (omega arith)
-marked_length T w (m ∷ ms) (f ∷ fs) e = ap (λ n. n + 1) (marked_length T w ms fs (omega arith))
+marked_length T w (m ∷ ms) (f ∷ fs) e = ap suc (marked_length T w ms fs (omega arith))
 
 marked_all : (T : Table) (ws ms : List MethodId) (fs : List Bool) → length fs ≡ length ms → marked_by_all T ws ms fs ≡ marked_or T ws ms fs
 marked_all T [] ms fs e = marked_none T ms fs e
 marked_all T (w ∷ ws) ms fs e = marked_all T ws ms (marked_by T w ms fs) (marked_length T w ms fs e) ∙ marked_both T w ws ms fs
 
-length_replicate : (n : ℕ) → length (replicate n false) ≡ n
-length_replicate zero = refl
-length_replicate (suc n) = ap (λ k. k + 1) (length_replicate n) ∙ let e : n + 1 ≡ suc n = omega arith in e
+length_unmarked : (ms : List MethodId) → length (unmarked ms) ≡ length ms
+length_unmarked [] = refl
+length_unmarked (m ∷ ms) = ap suc (length_unmarked ms)
 
-kept_told : (T : Table) (all ms : List MethodId) → kept_by ms (marked_or T all ms (replicate (length ms) false)) ≡ remaining_in T all ms
+kept_told : (T : Table) (all ms : List MethodId) → kept_by ms (marked_or T all ms (unmarked ms)) ≡ remaining_in T all ms
 kept_told T all [] = refl
 kept_told T all (m ∷ ms) = ap (λ xs. cond (replaced_by T m all) [] (m ∷ []) ++ xs) (kept_told T all ms)
 
-pub kept_remaining : (T : Table) (ms : List MethodId) → kept_by ms (marked_by_all T ms ms (replicate (length ms) false)) ≡ remaining_ids T ms
-kept_remaining T ms = ap (kept_by ms) (marked_all T ms ms (replicate (length ms) false) (length_replicate (length ms))) ∙ kept_told T ms ms
+pub kept_remaining : (T : Table) (ms : List MethodId) → kept_by ms (marked_by_all T ms ms (unmarked ms)) ≡ remaining_ids T ms
+kept_remaining T ms = ap (kept_by ms) (marked_all T ms ms (unmarked ms) (length_unmarked ms)) ∙ kept_told T ms ms
 
 pub ruleset remaining_laws = (kept_remaining)

@@ -57,3 +57,7 @@ abbrev pub kept_by : List MethodId → List Bool → List MethodId
 kept_by [] fs = []
 kept_by (m ∷ ms) [] = []
 kept_by (m ∷ ms) (f ∷ fs) = cond f [] (m ∷ []) ++ kept_by ms fs
+
+abbrev pub unmarked : List MethodId → List Bool
+unmarked [] = []
+unmarked (m ∷ ms) = false ∷ unmarked ms

@@ -49,7 +49,8 @@ fn add(
         return Ok(());
     }
     mark(seen, class)?;
-    classes.push(class)
+    classes.push(class)?;
+    Ok(())
 }
 
 // Adds the classes of these types, and tells whether each type has one.
@@ -64,19 +65,23 @@ fn add_all(
     ensures grows { OnOk result ((y : ℕ) → IsNumberIn y classes.old → IsNumberIn y classes.new) }
     ensures stays { OnOk result ((j x : ℕ) → slice_get classes.old j ≡ Some x → slice_get classes.new j ≡ Some x) }
 {
-    let mut rest = types;
-    while let [t, more @ ..] = rest {
-        let Some(class) = class_of(t) else {
-            return Ok(false);
-        };
-        add(class.0, classes, seen)?;
-        rest = more;
+    for i in 0..types.len() {
+        match class_of(&types[i]) {
+            None => return Ok(false),
+            Some(class) => add(class.0, classes, seen)?,
+        }
     }
     Ok(true)
 }
 
+fn class_at(classes: &Items<u64>, at: usize) -> Option<u64>
+    ensures { result ≡ slice_get classes.now at }
+{
+    classes.get(at).copied()
+}
+
 /// The classes above a class, and itself. Each is passed once.
-pub fn climb(alloc: Global, table: &Table, from: ClassId) -> Result<Climb, WantOfMemory>
+pub fn classes_above(alloc: Global, table: &Table, from: ClassId) -> Result<Climb, WantOfMemory>
     ensures { IfOk result (λ c. c.is_whole ≡ true → IsClosed table.now from.0 c.classes) }
 {
     let mut classes = Items::new(alloc);
@@ -84,17 +89,21 @@ pub fn climb(alloc: Global, table: &Table, from: ClassId) -> Result<Climb, WantO
     add(from.0, &mut classes, &mut seen)?;
     let mut at: usize = 0;
     for _turn in 0..u64::MAX {
-        let Some(class) = classes.get(at).copied() else {
-            return Ok(Climb {
-                classes,
-                is_whole: true,
-            });
-        };
-        let supers = class_supers(table, ClassId(class));
-        if !add_all(supers, &mut classes, &mut seen)? {
-            break;
+        match class_at(&classes, at) {
+            None => {
+                return Ok(Climb {
+                    classes,
+                    is_whole: true,
+                });
+            }
+            Some(class) => {
+                let supers = class_supers(table, ClassId(class));
+                if !add_all(supers, &mut classes, &mut seen)? {
+                    break;
+                }
+                at = after(at)?;
+            }
         }
-        at = after(at)?;
     }
     Ok(Climb {
         classes,

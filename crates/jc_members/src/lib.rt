@@ -6,7 +6,7 @@ mod adapting;
 mod climbing;
 mod erasing;
 mod kinds;
-mod members;
+mod belonging;
 mod named;
 mod overriding;
 mod selecting;
@@ -20,10 +20,10 @@ pub use jc_overriding::MethodView;
 pub use kinds::{
     access_of, is_inheritable, is_instance, is_method, is_open_to, is_static, owner, same_class,
 };
-pub use members::{as_super, candidate_ids, members, remaining_ids, views_of};
+pub use belonging::{as_super, candidate_ids, members, remaining_ids, views_of};
 pub use named::{MethodIndex, method_index};
 pub use overriding::{hides, overrides, replaces, signature_below, subsignature_of};
 pub use selecting::{select, select_in};
 pub use signatures::{override_equivalent, same_all, subsignature};
-pub use supertypes::{Supertypes, has_view, is_above, method_in, own_supertypes, supertypes};
+pub use supertypes::{Supertypes, has_view, is_above, method_in, own_supertypes, supertypes_of};
 pub use viewing::{declared_view, own_type, view_of_method};

@@ -67,7 +67,7 @@ pub fn replaces(
 ) -> Result<bool, WantOfMemory>
     requires known { IsSupertypes table.now above.now }
     requires own { above.now.of ≡ own_type table.now (owner table.now m) }
-    requires is { option_copied a.entry ≡ class_view table.now (owner table.now m) m }
+    requires is { option_copied a ≡ class_view table.now (owner table.now m) m }
     ensures { IfOk result (λ r. r ≡ replaces table.now m n) }
 {
     if !is_method(table, m) || !is_method(table, n) {

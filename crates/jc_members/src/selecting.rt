@@ -56,7 +56,7 @@ fn stands_for(
 ) -> Result<bool, WantOfMemory>
     requires known { IsSupertypes table.now above.now }
     requires own { above.now.of ≡ own_type table.now k }
-    requires is { option_copied wanted.entry ≡ class_view table.now k m }
+    requires is { option_copied wanted ≡ class_view table.now k m }
     ensures { IfOk result (λ r. r ≡ stands_for table.now k n m) }
 {
     if n.0 == m.0 {
@@ -86,7 +86,7 @@ fn declared_for(
 ) -> Result<Option<MethodId>, WantOfMemory>
     requires known { IsSupertypes table.now above.now }
     requires own { above.now.of ≡ own_type table.now k }
-    requires is { option_copied wanted.entry ≡ class_view table.now k m }
+    requires is { option_copied wanted ≡ class_view table.now k m }
     ensures { IfOk result (λ r. r ≡ declared_for table.now k m ids.now) }
 {
     let mut rest = ids;
@@ -113,7 +113,7 @@ fn standing_within(
 ) -> Result<Option<MethodId>, WantOfMemory>
     requires known { IsSupertypes table.now above.now }
     requires own { above.now.of ≡ own_type table.now k }
-    requires is { option_copied wanted.entry ≡ class_view table.now k m }
+    requires is { option_copied wanted ≡ class_view table.now k m }
     ensures { IfOk result (λ r. r ≡ standing_within table.now steps k m from) }
 {
     let mut left = steps;

@@ -1,5 +1,5 @@
 //! The supertypes of a type by their classes, found once.
-ghost use Rattle.std.specs.Prelude.{◌≡◌, ◌⊎◌, ℕ, true, cond, nat_eq, None, Some, IfOk, OnOk};
+ghost use Rattle.std.specs.Prelude.{◌≡◌, ◌⊎◌, ℕ, true, cond, nat_eq, [], None, Some, IfOk, OnOk};
 ghost use Rattle.std.specs.HashMap.{get};
 ghost use Rattle.jc_judge.specs.Kinds.{class_of};
 ghost use Rattle.jc_judge.specs.Supers.{numbered};
@@ -10,7 +10,7 @@ ghost use Rattle.jc_types.specs.declared.form.Ty.{Ty};
 ghost use Rattle.jc_members.specs.Climbing.{IsClosed};
 ghost use Rattle.jc_members.specs.Supertypes.{HasViews, IsSupertypes};
 
-use crate::climbing::{Climb, climb};
+use crate::climbing::{Climb, classes_above};
 use crate::kinds::same_class;
 use crate::viewing::{own_type, view_of_method, viewed};
 use jc_overriding::MethodView;
@@ -36,7 +36,6 @@ fn put_view(views: &mut HashMap<u64, Ty>, class: u64, v: Ty) -> Result<(), WantO
 }
 
 // The view of a type as a class.
-#[tactic(auto, using(crate::proofs::Noting::noting))]
 fn note_view(
     alloc: Global,
     table: &Table,
@@ -105,14 +104,14 @@ fn supertypes_by(
 }
 
 /// The supertypes of a captured type.
-pub fn supertypes(alloc: Global, table: &Table, of: Ty) -> Result<Supertypes, WantOfMemory>
+pub fn supertypes_of(alloc: Global, table: &Table, of: Ty) -> Result<Supertypes, WantOfMemory>
     ensures known { IfOk result (λ s. IsSupertypes table.now s) }
     ensures same { IfOk result (λ s. s.of ≡ of) }
 {
     match class_of(&of) {
         None => Ok(none_yet(alloc, table, of)),
         Some(from) => {
-            let climb = climb(alloc, table, from)?;
+            let climb = classes_above(alloc, table, from)?;
             supertypes_by(alloc, table, of, from, climb)
         }
     }
@@ -124,7 +123,7 @@ pub fn own_supertypes(alloc: Global, table: &Table, k: ClassId) -> Result<Supert
     ensures same { IfOk result (λ s. s.of ≡ own_type table.now k) }
 {
     let own = own_type(alloc, table, k)?;
-    supertypes(alloc, table, own)
+    supertypes_of(alloc, table, own)
 }
 
 /// A method as the type has it.
