@@ -63,7 +63,8 @@ pub fn depending(alloc: Global, table: &Table) -> Result<Items<bool>, WantOfMemo
     ensures { IfOk result (λ r. AreDepending table.now r) }
 {
     let rows = rows(alloc, table, table.variables.len())?;
-    on_cycles(alloc, rows.slice())
+    let marks = on_cycles(alloc, rows.slice())?;
+    Ok(marks)
 }
 
 /// The mark of a number, and none where there is no such number.
