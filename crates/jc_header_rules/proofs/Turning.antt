@@ -11,6 +11,9 @@ two x y a b c e f = f ∙ ap (λ k. least k y) e ∙ sym (least_append a x y)
 pub three : (x y z : List Refusal) (a b c d : Option Refusal) → b ≡ least a x → c ≡ least b y → d ≡ least c z → d ≡ least a (x ++ y ++ z)
 three x y z a b c d e f g = two (x ++ y) z a c d (two x y a b c e f) g
 
+pub four : (x y z v : List Refusal) (a b c d e : Option Refusal) → b ≡ least a x → c ≡ least b y → d ≡ least c z → e ≡ least d v → e ≡ least a (x ++ y ++ z ++ v)
+four x y z v a b c d e f g h i = two (x ++ y ++ z) v a d e (three x y z a b c d f g h) i
+
 first_left : {X : Type 0} (xs : List X) (i : ℕ) (x : X) → i < length xs → x ≡ get_or xs i x → drop i xs ≡ x ∷ drop (i + 1) xs
 first_left xs i x within is = drop-cons xs i x within ∙ ap (λ y. y ∷ drop (suc i) xs) (sym is) ∙ ap (λ k. x ∷ drop k xs) (sym (add-one i))
 

@@ -245,3 +245,15 @@ all_done marks types i le h = h marks (λ y e. e) (subst (λ ts. AllMarked marks
     nothing [] (suc i) le = refl
     nothing (t ∷ ts) zero le = absurd (omega arith)
     nothing (t ∷ ts) (suc i) le = nothing ts i (omega arith)
+
+pub listed_more : (first old new : ℕ → Bool) (cs ds : List ℕ) → ((y : ℕ) → old y ≡ true → (first y ≡ true) ⊎ IsNumberIn y cs) → ((y : ℕ) → new y ≡ true → (old y ≡ true) ⊎ IsNumberIn y ds)
+    → ((y : ℕ) → IsNumberIn y cs → IsNumberIn y ds) → (y : ℕ) → new y ≡ true → (first y ≡ true) ⊎ IsNumberIn y ds
+listed_more first old new cs ds before after grows y m = by (after y m)
+  where
+    further : (first y ≡ true) ⊎ IsNumberIn y cs → (first y ≡ true) ⊎ IsNumberIn y ds
+    further (inl e) = inl e
+    further (inr h) = inr (grows y h)
+
+    by : (old y ≡ true) ⊎ IsNumberIn y ds → (first y ≡ true) ⊎ IsNumberIn y ds
+    by (inl e) = further (before y e)
+    by (inr h) = inr h

@@ -5,8 +5,7 @@ use Rattle.std.proofs.lemmas.Slice.Eq.{bytes_eq-Decides}
 use Rattle.jc_types.specs.declared.ids.MethodId.{MethodId}
 use Rattle.jc_types.specs.declared.table.Table.{Table}
 use Rattle.jc_types.specs.Names.{named}
-use Rattle.jc_overriding.specs.Overriding.{has_name}
-use Rattle.jc_members.specs.Named.{IsNumbered, all_named, group_at, group_in, ids_in, if_named, named_from, pushed_at, pushed_in}
+use Rattle.jc_members.specs.Named.{IsNumbered, group_at, group_in, ids_in, if_named, named_from, pushed_at, pushed_in}
 
 same_bytes : (a b : List ℕ) → bytes_eq a b ≡ true → a ≡ b
 same_bytes a b e = (bytes_eq-Decides a b).0 e

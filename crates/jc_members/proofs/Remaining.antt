@@ -1,5 +1,5 @@
 -- Members, told by ids.
-use Rattle.std.proofs.Common.{◌≡◌, ◌⊎◌, inl, inr, ℕ, zero, suc, ◌+◌, Bool, true, false, ◌&&◌, ◌||◌, cond, Option, Some, None, List, [], ◌∷◌, ◌++◌, length, arith, refl, sym, ap, subst, ◌∙◌, append_assoc}
+use Rattle.std.proofs.Common.{◌≡◌, ℕ, suc, Bool, true, false, ◌&&◌, ◌||◌, cond, Option, Some, None, List, [], ◌∷◌, ◌++◌, length, arith, refl, sym, ap, subst, ◌∙◌, append_assoc}
 use Rattle.std.specs.Option.{option_to_list}
 use Rattle.jc_types.specs.declared.declarations.MethodDecl.{MethodDecl}
 use Rattle.jc_types.specs.declared.form.Ty.{Ty}
@@ -7,10 +7,10 @@ use Rattle.jc_types.specs.declared.ids.MethodId.{MethodId}
 use Rattle.jc_types.specs.declared.table.Table.{Table}
 use Rattle.jc_types.specs.Accessors.{method_owner_of}
 use Rattle.jc_overriding.specs.declared.view.MethodView.{MethodView}
-use Rattle.jc_overriding.specs.Overriding.{candidates, candidates_from, has_name, hides, is_candidate, is_viewed, members, overrides, remaining, replaced, with_view, without_replaced}
+use Rattle.jc_overriding.specs.Overriding.{candidates_from, has_name, is_candidate, is_viewed, members, remaining, replaced, with_view, without_replaced}
 use Rattle.jc_overriding.specs.Viewing.{Seeing, With, Raised, is_static, seeing_of, view_of_method, view_of_owner, viewed_by, viewed_in}
 use Rattle.jc_members.specs.Below.{replaces}
-use Rattle.jc_members.specs.Listing.{candidate_ids, has_method, if_candidate, kept_by, marked_by, marked_by_all, remaining_ids, remaining_in, replaced_by, unmarked, views_of}
+use Rattle.jc_members.specs.Listing.{candidate_ids, if_candidate, kept_by, marked_by, marked_by_all, remaining_ids, remaining_in, replaced_by, unmarked, views_of}
 use Rattle.jc_members.specs.Named.{all_named, if_named, named_from}
 
 -- ---- views have the ids of their methods

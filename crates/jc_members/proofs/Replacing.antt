@@ -1,8 +1,7 @@
 -- Overriding and hiding, told by what they ask alike.
-use Rattle.std.proofs.Common.{◌≡◌, ◌≢◌, Bool, true, false, not, ◌&&◌, ◌||◌, Option, refl, sym, ap, ◌∙◌}
+use Rattle.std.proofs.Common.{◌≡◌, ◌≢◌, Bool, true, false, not, ◌&&◌, ◌||◌, refl, ap, ◌∙◌}
 use Rattle.jc_types.specs.declared.ids.MethodId.{MethodId}
 use Rattle.jc_types.specs.declared.table.Table.{Table}
-use Rattle.jc_overriding.specs.declared.view.MethodView.{MethodView}
 use Rattle.jc_overriding.specs.Overriding.{hides, is_above, is_inheritable, is_instance, is_method, overrides, owner, subsignature_of}
 use Rattle.jc_overriding.specs.Viewing.{class_view, is_static}
 use Rattle.jc_members.specs.Below.{replaces, signature_below}

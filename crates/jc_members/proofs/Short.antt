@@ -1,5 +1,5 @@
 -- Substitution by fewer types than there are variables, or by more.
-use Rattle.std.proofs.Common.{◌≡◌, ◌⊎◌, inl, inr, ℕ, zero, suc, ◌+◌, ◌-◌, ◌<◌, ◌≤◌, ◌==◌, min, Bool, true, false, List, [], ◌∷◌, map, take, length, if◌then◌else◌, arith, refl, sym, ap, ◌∙◌}
+use Rattle.std.proofs.Common.{◌≡◌, ◌⊎◌, inl, inr, ℕ, zero, suc, ◌≤◌, ◌==◌, min, List, [], ◌∷◌, map, take, length, if◌then◌else◌, arith, refl, ap}
 use Rattle.std.specs.Option.{option_map}
 use Rattle.jc_types.specs.declared.form.Ty.{Ty, Ty-F, fold-Ty}
 use Rattle.jc_types.specs.declared.form.Arg.{Arg, roll-Arg}

@@ -1,13 +1,13 @@
 -- What stands for a method has its name.
-use Rattle.std.proofs.Common.{◌≡◌, ◌≢◌, ℕ, Bool, true, false, ◌&&◌, ◌||◌, ◌==◌, Option, Some, None, refl, sym, ap, ◌∙◌}
+use Rattle.std.proofs.Common.{◌≡◌, ℕ, zero, suc, ◌-◌, ◌<◌, arith, Bool, true, false, ◌&&◌, ◌||◌, ◌==◌, Option, Some, None, refl, sym, ap, ◌∙◌}
 use Rattle.std.specs.Str.{bytes_eq}
 use Rattle.jc_types.specs.declared.ids.ClassId.{ClassId}
 use Rattle.jc_types.specs.declared.ids.MethodId.{MethodId}
 use Rattle.jc_types.specs.declared.table.Table.{Table}
-use Rattle.jc_types.specs.Accessors.{method_name_of}
+use Rattle.jc_types.specs.Accessors.{method_name_of, methods_of}
 use Rattle.jc_overriding.specs.declared.view.MethodView.{MethodView}
-use Rattle.jc_overriding.specs.Overriding.{is_inheritable, is_instance, is_member_of, owner, stands_for, subsignature_of}
-use Rattle.jc_overriding.specs.Signatures.{is_erasure, same_name, same_signature}
+use Rattle.jc_overriding.specs.Overriding.{declared_for, in_superclass, or_further, standing_within, superclass, is_inheritable, is_instance, is_member_of, owner, stands_for, subsignature_of}
+use Rattle.jc_overriding.specs.Signatures.{is_erasure, same_signature}
 use Rattle.jc_overriding.specs.Viewing.{class_view, own_type}
 use Rattle.jc_members.proofs.Remaining.{id_of_view}
 
@@ -30,5 +30,13 @@ not_standing T k n m e f =
     ap (λ b. b || (is_instance T n && is_instance T m && is_member_of T k n && is_inheritable T (owner T n) m && subsignature_of T (class_view T k n) (class_view T k m))) e
     ∙ ap (λ b. is_instance T n && is_instance T m && is_member_of T k n && is_inheritable T (owner T n) m && b) (unnamed T k n m f)
     ∙ and_false (is_instance T n && is_instance T m && is_member_of T k n && is_inheritable T (owner T n) m)
+
+-- one class further up
+pub stands_up : (T : Table) (k : ClassId) (m : MethodId) (n : ℕ) (c up : ClassId) → 0 < n → declared_for T k m (methods_of T c) ≡ None → superclass T c ≡ Some up → standing_within T (n - 1) k m up ≡ standing_within T n k m c
+unfolding standing_within
+stands_up T k m zero c up lt e f = absurd (omega arith)
+stands_up T k m (suc n) c up lt e f =
+    let g : suc n - 1 ≡ n = omega arith in
+    ap (λ n. standing_within T n k m up) g ∙ ap (in_superclass (standing_within T n k m)) (sym f) ∙ ap (λ o. or_further o (in_superclass (standing_within T n k m) (superclass T c))) (sym e)
 
 pub ruleset standing = (not_standing)

@@ -32,12 +32,7 @@ fn put_short(alloc: Global, vars: &[VarId], by: &[Ty], t: &Ty) -> Result<Ty, Wan
 }
 
 /// A type of b's signature with a's type parameters for b's.
-pub fn adapted(
-    alloc: Global,
-    a: &MethodView,
-    b: &MethodView,
-    t: &Ty,
-) -> Result<Ty, WantOfMemory>
+pub fn adapted(alloc: Global, a: &MethodView, b: &MethodView, t: &Ty) -> Result<Ty, WantOfMemory>
     ensures { IfOk result (λ r. r ≡ adapted a.now b.now t.now) }
 {
     let by = variables(alloc, a.vars.slice())?;
@@ -68,12 +63,7 @@ fn first_or<'a>(t: &'a Ty, bounds: &'a [Ty]) -> &'a Ty
 }
 
 // The first bound of a type parameter, and the type itself where it is none of these.
-fn first_bound<'a>(
-    t: &'a Ty,
-    v: VarId,
-    vars: &[VarId],
-    bounds: &'a [Items<Ty>],
-) -> &'a Ty
+fn first_bound<'a>(t: &'a Ty, v: VarId, vars: &[VarId], bounds: &'a [Items<Ty>]) -> &'a Ty
     ensures { result.now ≡ first_bound t.now v vars.now bounds.now }
 {
     let mut left = vars;
@@ -140,14 +130,9 @@ fn leftmost(alloc: Global, b: &MethodView, steps: usize, t: &Ty) -> Result<Ty, W
 }
 
 /// A type of a signature, erased with leftmost bounds for its type parameters as the view has them (JLS 4.6).
-pub fn erased_in(
-    alloc: Global,
-    table: &Table,
-    b: &MethodView,
-    t: &Ty,
-) -> Result<Ty, WantOfMemory>
+pub fn erased_in(alloc: Global, table: &Table, b: &MethodView, t: &Ty) -> Result<Ty, WantOfMemory>
     ensures { IfOk result (λ r. r ≡ erased_in table.now b.now t.now) }
 {
-    let t = leftmost(alloc, b, b.vars.len() + 1, t)?;
+    let t = leftmost(alloc, b, b.vars.slice().len() + 1, t)?;
     plain(alloc, table, &t)
 }

@@ -3,7 +3,8 @@ ghost use Rattle.std.specs.Prelude.{◌≡◌, ◌++◌, ◌||◌, IfOk, OnOk};
 ghost use Rattle.jc_judge.specs.Views.{is_class, view};
 ghost use Rattle.jc_judge.specs.Kinds.{class_of};
 ghost use Rattle.jc_overriding.specs.Overriding.{inherits_in, is_candidate, is_own, members, owner};
-ghost use Rattle.jc_overriding.specs.Viewing.{own_type};
+ghost use Rattle.std.specs.Option.{option_copied};
+ghost use Rattle.jc_overriding.specs.Viewing.{class_view, own_type};
 ghost use Rattle.jc_members.specs.Listing.{candidate_ids, has_method, if_candidate, kept_by, marked_by, marked_by_all, remaining_ids, unmarked, views_of};
 ghost use Rattle.jc_members.specs.Named.{IsMethodIndex};
 ghost use Rattle.jc_members.specs.Supertypes.{IsSupertypes};
@@ -109,20 +110,22 @@ pub fn candidate_ids(
     Ok(out)
 }
 
-// Marks besides those of `marks` the methods that method w overrides or hides, where the supertypes are those of its class.
+// Marks besides those of `marks` the methods that method w overrides or hides, where the supertypes are those of its class, and `a` is w as
+// its class has it.
 fn marked_in(
     alloc: Global,
     table: &Table,
     above: &Supertypes,
+    a: Option<&MethodView>,
     w: MethodId,
     ids: &[MethodId],
     marks: &[bool],
 ) -> Result<Items<bool>, WantOfMemory>
     requires known { IsSupertypes table.now above.now }
     requires own { above.now.of ≡ own_type table.now (owner table.now w) }
+    requires is { option_copied a ≡ class_view table.now (owner table.now w) w }
     ensures { IfOk result (λ r. r ≡ marked_by table.now w ids.now marks.now) }
 {
-    let a = method_in(alloc, table, above, w)?;
     let mut out = Items::new(alloc);
     let mut rest = ids;
     let mut left = marks;
@@ -130,7 +133,7 @@ fn marked_in(
         match left {
             [] => return Ok(out),
             [mark, others @ ..] => {
-                let is_marked = *mark || replaces(alloc, table, above, a.as_ref(), w, *m)?;
+                let is_marked = *mark || replaces(alloc, table, above, a, w, *m)?;
                 out.push(is_marked)?;
                 left = others;
             }
@@ -150,7 +153,8 @@ fn marked_by(
     ensures { IfOk result (λ r. r ≡ marked_by table.now w ids.now marks.now) }
 {
     let above = own_supertypes(alloc, table, owner(table, w))?;
-    marked_in(alloc, table, &above, w, ids, marks)
+    let a = method_in(alloc, table, &above, w)?;
+    marked_in(alloc, table, &above, a.as_ref(), w, ids, marks)
 }
 
 fn no_marks(alloc: Global, ids: &[MethodId]) -> Result<Items<bool>, WantOfMemory>
@@ -166,11 +170,7 @@ fn no_marks(alloc: Global, ids: &[MethodId]) -> Result<Items<bool>, WantOfMemory
 }
 
 // Marks the methods that one of them overrides or hides.
-fn all_marked(
-    alloc: Global,
-    table: &Table,
-    ids: &[MethodId],
-) -> Result<Items<bool>, WantOfMemory>
+fn all_marked(alloc: Global, table: &Table, ids: &[MethodId]) -> Result<Items<bool>, WantOfMemory>
     ensures { IfOk result (λ r. r ≡ marked_by_all table.now ids.now ids.now (unmarked ids.now)) }
 {
     let mut marks = no_marks(alloc, ids)?;
@@ -183,11 +183,7 @@ fn all_marked(
 }
 
 // Those that aren't marked.
-fn kept_by(
-    alloc: Global,
-    ids: &[MethodId],
-    marks: &[bool],
-) -> Result<Items<MethodId>, WantOfMemory>
+fn kept_by(alloc: Global, ids: &[MethodId], marks: &[bool]) -> Result<Items<MethodId>, WantOfMemory>
     ensures { IfOk result (λ r. r ≡ kept_by ids.now marks.now) }
 {
     let mut out = Items::new(alloc);

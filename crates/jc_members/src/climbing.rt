@@ -34,11 +34,7 @@ fn mark(seen: &mut HashSet<u64>, class: u64) -> Result<(), WantOfMemory>
 }
 
 // Adds a class, unless it was seen.
-fn add(
-    class: u64,
-    classes: &mut Items<u64>,
-    seen: &mut HashSet<u64>,
-) -> Result<(), WantOfMemory>
+fn add(class: u64, classes: &mut Items<u64>, seen: &mut HashSet<u64>) -> Result<(), WantOfMemory>
     ensures marked { OnOk result (contains nat_eq seen.new class ≡ true) }
     ensures kept { OnOk result ((y : ℕ) → contains nat_eq seen.old y ≡ true → contains nat_eq seen.new y ≡ true) }
     ensures listed { OnOk result ((y : ℕ) → contains nat_eq seen.new y ≡ true → contains nat_eq seen.old y ≡ true ⊎ IsNumberIn y classes.new) }

@@ -3,10 +3,10 @@
 #![tactic(auto)]
 
 mod adapting;
+mod belonging;
 mod climbing;
 mod erasing;
 mod kinds;
-mod belonging;
 mod named;
 mod overriding;
 mod selecting;
@@ -15,12 +15,12 @@ mod supertypes;
 mod viewing;
 
 pub use adapting::{adapted, erased_in};
+pub use belonging::{as_super, candidate_ids, members, remaining_ids, views_of};
 pub use erasing::plain;
 pub use jc_overriding::MethodView;
 pub use kinds::{
     access_of, is_inheritable, is_instance, is_method, is_open_to, is_static, owner, same_class,
 };
-pub use belonging::{as_super, candidate_ids, members, remaining_ids, views_of};
 pub use named::{MethodIndex, method_index};
 pub use overriding::{hides, overrides, replaces, signature_below, subsignature_of};
 pub use selecting::{select, select_in};

@@ -80,12 +80,7 @@ pub fn replaces(
 }
 
 // Whether m's signature is a subsignature of that of n, which is declared above m's class.
-fn is_below(
-    alloc: Global,
-    table: &Table,
-    m: MethodId,
-    n: MethodId,
-) -> Result<bool, WantOfMemory>
+fn is_below(alloc: Global, table: &Table, m: MethodId, n: MethodId) -> Result<bool, WantOfMemory>
     ensures { IfOk result (λ r. r ≡ signature_below table.now (owner table.now m) (class_view table.now (owner table.now m) m) n) }
 {
     let k = owner(table, m);
@@ -112,12 +107,7 @@ pub fn overrides(
 
 /// Whether static method m hides method n.
 #[tactic(auto, using(crate::proofs::Replacing::replacing))]
-pub fn hides(
-    alloc: Global,
-    table: &Table,
-    m: MethodId,
-    n: MethodId,
-) -> Result<bool, WantOfMemory>
+pub fn hides(alloc: Global, table: &Table, m: MethodId, n: MethodId) -> Result<bool, WantOfMemory>
     ensures { IfOk result (λ r. r ≡ hides table.now m n) }
 {
     if !is_method(table, m) || !is_method(table, n) {

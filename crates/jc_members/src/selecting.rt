@@ -120,13 +120,13 @@ fn standing_within(
     let mut at = from;
     while left > 0 {
         left -= 1;
-        let found = declared_for(alloc, table, above, k, m, wanted, class_methods(table, at))?;
-        if found.is_some() {
-            return Ok(found);
-        }
-        match superclass(table, at) {
-            None => return Ok(None),
-            Some(up) => at = up,
+        let ids = class_methods(table, at);
+        match declared_for(alloc, table, above, k, m, wanted, ids)? {
+            Some(n) => return Ok(Some(n)),
+            None => match superclass(table, at) {
+                None => return Ok(None),
+                Some(up) => at = up,
+            },
         }
     }
     Ok(None)
@@ -137,13 +137,7 @@ fn if_body(table: &Table, n: Option<MethodId>) -> Option<MethodId>
 {
     match n {
         None => None,
-        Some(n) => {
-            if has_body(table, n) {
-                Some(n)
-            } else {
-                None
-            }
-        }
+        Some(n) => { if has_body(table, n) { Some(n) } else { None } }
     }
 }
 
@@ -160,7 +154,7 @@ pub fn select_in(
     ensures { IfOk result (λ r. r ≡ select table.now k m) }
 {
     let wanted = method_in(alloc, table, above, m)?;
-    let steps = table.classes.len() + 1;
+    let steps = table.classes.slice().len() + 1;
     let standing = standing_within(alloc, table, above, steps, k, m, wanted.as_ref(), k)?;
     Ok(if_body(table, standing))
 }

@@ -39,11 +39,7 @@ fn same_name(table: &Table, a: &MethodView, b: &MethodView) -> bool
 }
 
 // Whether the bounds of a's type parameters are those of b's, after adapting these.
-fn same_bounds(
-    alloc: Global,
-    a: &MethodView,
-    b: &MethodView,
-) -> Result<bool, WantOfMemory>
+fn same_bounds(alloc: Global, a: &MethodView, b: &MethodView) -> Result<bool, WantOfMemory>
     requires { length b.now.vars ≡ length a.now.vars }
     ensures { IfOk result (λ r. r ≡ same_lists a.now.bounds (map (map (adapted a.now b.now)) b.now.bounds)) }
 {
@@ -68,11 +64,7 @@ fn same_bounds(
     }
 }
 
-fn same_params(
-    alloc: Global,
-    a: &MethodView,
-    b: &MethodView,
-) -> Result<bool, WantOfMemory>
+fn same_params(alloc: Global, a: &MethodView, b: &MethodView) -> Result<bool, WantOfMemory>
     requires { length b.now.vars ≡ length a.now.vars }
     ensures { IfOk result (λ r. r ≡ same_all a.now.params (map (adapted a.now b.now) b.now.params)) }
 {
@@ -80,11 +72,7 @@ fn same_params(
     Ok(same_all(a.params.slice(), adapted.slice()))
 }
 
-fn same_signature(
-    alloc: Global,
-    a: &MethodView,
-    b: &MethodView,
-) -> Result<bool, WantOfMemory>
+fn same_signature(alloc: Global, a: &MethodView, b: &MethodView) -> Result<bool, WantOfMemory>
     ensures { IfOk result (λ r. r ≡ same_signature a.now b.now) }
 {
     if a.vars.len() != b.vars.len() {
@@ -96,11 +84,7 @@ fn same_signature(
     same_params(alloc, a, b)
 }
 
-fn erased_params(
-    alloc: Global,
-    table: &Table,
-    b: &MethodView,
-) -> Result<Items<Ty>, WantOfMemory>
+fn erased_params(alloc: Global, table: &Table, b: &MethodView) -> Result<Items<Ty>, WantOfMemory>
     ensures { IfOk result (λ r. r ≡ map (erased_in table.now b.now) b.now.params) }
 {
     let mut out = Items::new(alloc);

@@ -185,12 +185,7 @@ fn vars_at<'a>(table: &'a Table, t: &Ty) -> &'a [VarId]
 
 /// A method as a type of the class that declares it has it: by the type's arguments, or erased, where that is raw. Static members are
 /// as they are declared.
-pub fn viewed(
-    alloc: Global,
-    table: &Table,
-    m: MethodId,
-    v: &Ty,
-) -> Result<MethodView, WantOfMemory>
+pub fn viewed(alloc: Global, table: &Table, m: MethodId, v: &Ty) -> Result<MethodView, WantOfMemory>
     ensures { IfOk result (λ r. r ≡ viewed_by table.now m (is_static table.now m) (seeing_of table.now v.now)) }
 {
     if is_static(table, m) {

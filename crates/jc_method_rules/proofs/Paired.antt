@@ -7,7 +7,7 @@ use Rattle.jc_rules.specs.declared.rule.Refusal.{Refusal}
 use Rattle.jc_types.specs.declared.declarations.MethodDecl.{MethodDecl}
 use Rattle.jc_types.specs.declared.ids.MethodId.{MethodId}
 use Rattle.jc_types.specs.declared.table.Table.{Table}
-use Rattle.jc_types.specs.Accessors.{method_name_of}
+use Rattle.jc_types.specs.Accessors.{method_name_in, method_name_of}
 use Rattle.jc_overriding.specs.Overriding.{has_name, hides, is_above, is_inheritable, is_instance, is_method, overrides, owner, subsignature_of}
 use Rattle.jc_overriding.specs.Signatures.{is_erasure, override_equivalent, same_name, same_signature, subsignature}
 use Rattle.jc_overriding.specs.Viewing.{class_view, declared_view, is_static}
@@ -138,3 +138,12 @@ overrides_from T m i (d ∷ ds) = by (has_name T (method_name_of T m) (record { 
 
 pub overrides_listed : (T : Table) (m : MethodId) → overrides_some T m 0 T.methods ≡ overrides_one T m (all_named T (method_name_of T m))
 overrides_listed T m = overrides_from T m 0 T.methods
+
+named_at : (T : Table) (m : MethodId) (d : MethodDecl) → slice_get T.methods m.0 ≡ Some d → method_name_of T m ≡ d.name
+named_at T m d e = ap method_name_in e
+
+pub pairs_told : (T : Table) (m : MethodId) (d : MethodDecl) (place : Place) (ids : List MethodId) → slice_get T.methods m.0 ≡ Some d → ids ≡ all_named T d.name → pairs_breaks T m place ids ≡ of_each (pair_broken T m place) 0 T.methods
+pairs_told T m d place ids at e = ap (pairs_breaks T m place) (e ∙ ap (all_named T) (sym (named_at T m d at))) ∙ sym (pairs_listed T m place)
+
+pub some_told : (T : Table) (m : MethodId) (d : MethodDecl) (ids : List MethodId) (one : Bool) → slice_get T.methods m.0 ≡ Some d → ids ≡ all_named T d.name → one ≡ overrides_one T m ids → one ≡ overrides_some T m 0 T.methods
+some_told T m d ids one at e f = f ∙ ap (overrides_one T m) (e ∙ ap (all_named T) (sym (named_at T m d at))) ∙ sym (overrides_listed T m)

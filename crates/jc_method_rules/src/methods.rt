@@ -11,7 +11,7 @@ ghost use Rattle.jc_header_rules.specs.Headers.{method_breaks, pair_broken, says
 ghost use Rattle.jc_header_rules.specs.Places.{of_each, of_written};
 ghost use Rattle.jc_method_rules.specs.Pairs.{overrides_one, pairs_breaks};
 
-use crate::pairs::pair_broken;
+use crate::pairs::{differ, pair_broken};
 use crate::throwing::{is_throwable, thrown_class};
 use jc_header_rules::if_broken;
 use jc_members::{
@@ -93,7 +93,6 @@ fn overrides_one(
 }
 
 // Whether `@Override` stands at a method that overrides none.
-#[tactic(auto, using(crate::proofs::Paired::overrides_listed))]
 fn says_wrongly(
     alloc: Global,
     table: &Table,
@@ -114,7 +113,8 @@ fn says_wrongly(
         return Ok(false);
     }
     let ids = index.named(method.name.str());
-    Ok(!overrides_one(alloc, table, above, a, m, ids)?)
+    let one = overrides_one(alloc, table, above, a, m, ids)?;
+    Ok(!one)
 }
 
 // Thrown types that are no Throwable.
@@ -180,32 +180,34 @@ fn wants_body(method: &MethodDecl) -> bool
     !is_method_kind(method.kind) || !(method.modifiers.is_abstract || method.modifiers.is_native)
 }
 
-// What a method breaks, of which these are its class's supertypes.
-#[tactic(auto, using(jc_header_rules::proofs::Turning::turning, crate::proofs::Paired::pairs_listed))]
+// What a method breaks, of which these are its class's supertypes, and which its class has as `a`.
 fn method_broken_in(
     alloc: Global,
     table: &Table,
     index: &MethodIndex,
     found: Option<Refusal>,
     above: &Supertypes,
+    a: Option<&MethodView>,
     m: MethodId,
     method: &MethodDecl,
 ) -> Result<Option<Refusal>, WantOfMemory>
     requires index { IsMethodIndex table.now index.now }
     requires known { IsSupertypes table.now above.now }
     requires own { above.now.of ≡ own_type table.now (owner table.now m) }
+    requires is { option_copied a ≡ class_view table.now (owner table.now m) m }
     requires at { slice_get table.now.methods m.0 ≡ Some method.now }
     ensures { IfOk result (λ r. r ≡ least found (method_breaks table.now m.0 method.now)) }
 {
-    let a = method_in(alloc, table, above, m)?;
     let ids = index.named(method.name.str());
-    let found = pairs_broken(alloc, table, found, method.place, above, a.as_ref(), m, ids)?;
-    let wrongly = says_wrongly(alloc, table, index, above, a.as_ref(), m, method)?;
-    let found = if_broken(found, wrongly, Rule::known(510), method.place);
+    let paired = pairs_broken(alloc, table, found, method.place, above, a, m, ids)?;
+    let wrongly = says_wrongly(alloc, table, index, above, a, m, method)?;
+    let said = if_broken(paired, wrongly, Rule::known(510), method.place);
     let types = method.thrown.types.slice();
-    let found = all_thrown_broken(alloc, table, found, m, types, method.thrown.places.slice())?;
-    let differs = wants_body(method) != method.has_body;
-    Ok(if_broken(found, differs, Rule::known(514), method.place))
+    let places = method.thrown.places.slice();
+    let thrown = all_thrown_broken(alloc, table, said, m, types, places)?;
+    let differs = differ(wants_body(method), method.has_body);
+    let last = if_broken(thrown, differs, Rule::known(514), method.place);
+    Ok(last)
 }
 
 fn method_broken(
@@ -221,7 +223,8 @@ fn method_broken(
     ensures { IfOk result (λ r. r ≡ least found (method_breaks table.now m.0 method.now)) }
 {
     let above = own_supertypes(alloc, table, owner(table, m))?;
-    method_broken_in(alloc, table, index, found, &above, m, method)
+    let a = method_in(alloc, table, &above, m)?;
+    method_broken_in(alloc, table, index, found, &above, a.as_ref(), m, method)
 }
 
 /// The first rule that methods break in the stage of headers, or what was found before.

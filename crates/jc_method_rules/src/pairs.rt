@@ -5,7 +5,7 @@ ghost use Rattle.jc_types.specs.Breaks.{least};
 ghost use Rattle.jc_overriding.specs.Overriding.{owner};
 ghost use Rattle.jc_overriding.specs.Viewing.{class_view, declared_view, own_type};
 ghost use Rattle.jc_members.specs.Supertypes.{IsSupertypes};
-ghost use Rattle.jc_header_rules.specs.Headers.{answer_of_views, is_before, is_final, is_same_sort, is_weaker, openness, repeats, replaces, replacing_broken, result_broken, statics_meet, views_throw};
+ghost use Rattle.jc_header_rules.specs.Headers.{answer_of_views, differ, is_before, is_final, is_same_sort, is_weaker, openness, repeats, replaces, replacing_broken, result_broken, statics_meet, views_throw};
 ghost use Rattle.jc_method_rules.specs.Pairs.{pair_breaks};
 
 use crate::results::result_answer;
@@ -45,6 +45,13 @@ pub fn is_weaker(a: Access, b: Access) -> bool
     ensures { result ≡ is_weaker a b }
 {
     openness(a) < openness(b)
+}
+
+/// Whether the two differ.
+pub fn differ(a: bool, b: bool) -> bool
+    ensures { result ≡ differ a b }
+{
+    if a { !b } else { b }
 }
 
 fn result_broken(found: Option<Refusal>, answer: Answer, place: Place) -> Option<Refusal>

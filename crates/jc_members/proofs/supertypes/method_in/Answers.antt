@@ -1,4 +1,4 @@
-use Rattle.std.proofs.Common.{◌≡◌, Some, sym, ap, ◌∙◌}
+use Rattle.std.proofs.Common.{Some, sym, ap, ◌∙◌}
 use Rattle.jc_overriding.specs.Viewing.{viewed_in, view_of_owner}
 use Rattle.jc_members.proofs.supertypes.method_in.Goals as goal
 

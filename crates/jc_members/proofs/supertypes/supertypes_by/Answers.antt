@@ -10,5 +10,5 @@ returns-clause-known c =
     record {
       kept = λ l v e. c.in_ok-views.ensures.kept l v e;
       whole = λ w l e. whole_told c.args.table.now c.args.of c.args.from c.args.climb.classes (λ l. get nat_eq c.in_ok-views.views l) c.requires.class (c.requires.closed w)
-        (subst (λ cs. HasViews c.args.table.now c.args.of cs [] (λ l. get nat_eq c.in_ok-views.views l)) c.slice.ensures c.in_ok-views.ensures) l e;
+          (subst (λ cs. HasViews c.args.table.now c.args.of cs [] (λ l. get nat_eq c.in_ok-views.views l)) c.slice.ensures c.in_ok-views.ensures) l e;
     }
