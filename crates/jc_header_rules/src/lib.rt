@@ -1,3 +1,6 @@
-//! The rules on what stands outside of bodies: written types, type parameters, supertypes, overriding, inherited methods, and clashes after erasure, as
-//! definitions (JLS 4.4, 4.5, 8.1, 8.4, 9.4).
+//! The rules on types, headers and clashes (JLS 4.4, 4.5, 8, 9), as definitions, and how the first broken one is kept.
 #![tactic(auto)]
+
+mod breaks;
+
+pub use breaks::{if_broken, or_break};

@@ -1,0 +1,9 @@
+pub mod Climbed
+pub mod Dims
+pub mod Lengths
+pub mod Noting
+pub mod Numbering
+pub mod Remaining
+pub mod Replacing
+pub mod Short
+pub mod Standing

@@ -1,0 +1,23 @@
+-- What a method breaks beside those of its name.
+use Rattle.std.specs.Prelude.{ℕ, Bool, false, ◌||◌, List, [], ◌∷◌, ◌++◌}
+use Rattle.jc_rules.specs.declared.rule.Place.{Place}
+use Rattle.jc_rules.specs.declared.rule.Refusal.{Refusal}
+use Rattle.jc_types.specs.declared.ids.MethodId.{MethodId}
+use Rattle.jc_types.specs.declared.table.Table.{Table}
+use Rattle.jc_overriding.specs.Overriding.{overrides}
+use Rattle.jc_header_rules.specs.Headers.{repeats, replaces, replacing_broken, statics_meet}
+use Rattle.jc_header_rules.specs.Places.{broken_if}
+
+-- of method m, beside method n
+abbrev pub pair_breaks : Table → MethodId → Place → MethodId → List Refusal
+pair_breaks T m place n = broken_if (repeats T m n) 503 place ++ broken_if (statics_meet T m n) 505 place ++ replacing_broken T m n place (replaces T m n)
+
+-- .. and beside each of these
+abbrev pub pairs_breaks : Table → MethodId → Place → List MethodId → List Refusal
+pairs_breaks T m place [] = []
+pairs_breaks T m place (n ∷ ns) = pair_breaks T m place n ++ pairs_breaks T m place ns
+
+-- method m overrides one of these
+abbrev pub overrides_one : Table → MethodId → List MethodId → Bool
+overrides_one T m [] = false
+overrides_one T m (n ∷ ns) = overrides T m n || overrides_one T m ns

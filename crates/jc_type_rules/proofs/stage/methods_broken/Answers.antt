@@ -1,0 +1,9 @@
+use Rattle.std.proofs.Common.{arith, ◌∙◌}
+use Rattle.jc_header_rules.specs.Types.{method_broken}
+use Rattle.jc_header_rules.proofs.Turning.{each_turn}
+use Rattle.jc_type_rules.proofs.stage.methods_broken.Goals as goal
+
+pub loop-number-preserved : goal.loop-number-preserved
+loop-number-preserved c =
+    each_turn (method_broken c.args.table.now) c.loop-number.found c.in_ok-found.found c.args.methods.now c.loop-number.number c.index-methods-number.result (omega arith) c.index-methods-number.is c.in_ok-found.ensures
+    ∙ c.loop-number.invariant
