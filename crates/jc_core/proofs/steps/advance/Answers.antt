@@ -1,7 +1,7 @@
 use Rattle.std.proofs.Common.{◌∙◌, ◌-◌, arith}
 use Rattle.jc_jvm.specs.Thrown.{Going}
 use Rattle.jc_core.proofs.Runs.{run_quiet}
-use Rattle.jc_core.proofs.in_place.advance.Goals as goal
+use Rattle.jc_core.proofs.steps.advance.Goals as goal
 
 pub steps-preserved : goal.steps-preserved
 steps-preserved c =

@@ -3,7 +3,7 @@ use Rattle.jc_jvm.specs.Runs.{run_of}
 use Rattle.jc_jvm.specs.Thrown.{Going}
 use Rattle.jc_jvm.specs.declared.frame.Waiting.{Waiting}
 use Rattle.jc_core.specs.Ran.{told}
-use Rattle.jc_core.proofs.in_place.advance.Given as goal
+use Rattle.jc_core.proofs.steps.advance.Given as goal
 
 -- what is left is the whole run
 abbrev pub invariant-steps : goal.invariant-steps

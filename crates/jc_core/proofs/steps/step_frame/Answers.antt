@@ -5,7 +5,7 @@ use Rattle.jc_jvm.specs.Classes.{placed_at}
 use Rattle.jc_rows.specs.declared.row.Placed.{Placed}
 use Rattle.jc_core.specs.Memory.{placed_takes}
 use Rattle.jc_core.proofs.Placed.{same_by}
-use Rattle.jc_core.proofs.machine.step_frame.Goals as goal
+use Rattle.jc_core.proofs.steps.step_frame.Goals as goal
 
 pub returns-in-Some-clause-step : goal.returns-in-Some-clause-step
 returns-in-Some-clause-step c =
