@@ -46,7 +46,10 @@ impl Core {
         let mut output = Items::new(self.alloc);
         let mut taken = 0;
         let mut left = steps;
-        'steps: while left > 0 && self.ending().is_none() {
+        'steps: while left > 0 {
+            if self.ending().is_some() {
+                return Ok(Ran { output, taken });
+            }
             let progress = self.advance(left)?;
             left = progress.left;
             match progress.last {

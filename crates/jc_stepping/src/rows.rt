@@ -49,6 +49,7 @@ fn call_of_class(
 }
 
 /// One step of a frame whose instruction is this row, where it isn't done in place.
+#[tactic(auto, using(crate::proofs::InPlace::closed))]
 pub fn step_out(
     alloc: Global,
     program: &Program,

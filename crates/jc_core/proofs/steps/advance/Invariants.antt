@@ -1,7 +1,6 @@
-use Rattle.std.proofs.Common.{◌≡◌, ◌≤◌, ℕ, List}
+use Rattle.std.proofs.Common.{◌≡◌, ◌≤◌, ◌<◌, ℕ, List}
 use Rattle.jc_jvm.specs.Runs.{run_of}
 use Rattle.jc_jvm.specs.Thrown.{Going}
-use Rattle.jc_jvm.specs.declared.frame.Waiting.{Waiting}
 use Rattle.jc_core.specs.Ran.{told}
 use Rattle.jc_core.proofs.steps.advance.Given as goal
 
@@ -9,7 +8,7 @@ use Rattle.jc_core.proofs.steps.advance.Given as goal
 abbrev pub invariant-steps : goal.invariant-steps
 invariant-steps l = record {
   fewer : l.left ≤ l.most;
-  run : (waiting : List Waiting) (input : List ℕ) → told (run_of l.program l.most (Going l.initial.world l.initial.now waiting) input) ≡ told (run_of l.program l.left (Going l.world l.now waiting) input);
+  run : (input : List ℕ) → told (run_of l.program l.most (Going l.initial.world l.initial.now l.initial.waiting) input) ≡ told (run_of l.program l.left (Going l.world l.now l.waiting) input);
 }
 
 abbrev pub decreases-steps : goal.decreases-steps
