@@ -49,6 +49,7 @@ pub fn initialise_first(
             waiting.push(Waiting::Caller(caller))?;
             initialise(alloc, classes, class, now, world, waiting)
         }
-        _ => Ok(Onward::Ends(Ending::Stuck)),
+        Some(ClassState::Ready) | Some(ClassState::InProgress) => Ok(Onward::Runs),
+        None => Ok(Onward::Ends(Ending::Stuck)),
     }
 }

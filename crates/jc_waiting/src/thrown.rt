@@ -31,6 +31,7 @@ fn catch_in(
     }
 }
 
+#[tactic(auto, using(crate::proofs::Taking::passed_rules))]
 fn pass_frame(
     classes: &Classes,
     frame: Frame,
@@ -52,6 +53,7 @@ fn pass_frame(
     }
 }
 
+#[tactic(auto, using(crate::proofs::Taking::passed_rules))]
 fn pass_initialiser(
     alloc: Global,
     classes: &Classes,
@@ -82,6 +84,7 @@ fn pass_initialiser(
     }
 }
 
+#[tactic(auto, using(crate::proofs::Taking::passed_rules))]
 fn pass(
     alloc: Global,
     classes: &Classes,
