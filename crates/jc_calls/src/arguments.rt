@@ -1,7 +1,10 @@
-ghost use Rattle.std.specs.Prelude.{◌≡◌, ◌++◌, ◌<◌, ◌≤◌, take, drop, length, IfOk, MatchOption, MatchBool, Some, None};
+ghost use Rattle.std.specs.Prelude.{◌≡◌, ◌≤◌, take, drop, length, reverse, IfOk, MatchBool, Some, None, option_and_then};
 ghost use Rattle.jc_jvm.specs.Calls.{all_of_sorts, arguments_of};
+ghost use Rattle.jc_jvm.specs.Frames.{frame_of};
 
-use jc_jvm::{Operands, Sort, Value};
+use crate::frame_for;
+use jc_class_out::ClassModel;
+use jc_jvm::{Frame, Operands, Sort, Value};
 use jc_plain::is_of_sort;
 use jc_rules::WantOfMemory;
 use std::alloc::Global;
@@ -21,42 +24,32 @@ fn are_of_sorts(sorts: &[Sort], values: &[Value]) -> bool
     true
 }
 
-// Takes so many values from the top, the topmost one first, and tells whether they were there.
-fn pop_values(
-    stack: &mut Operands,
-    count: usize,
-    found: &mut Vec<Value>,
-) -> Result<bool, WantOfMemory>
-    ensures limit { stack.new.limit ≡ stack.old.limit }
-    ensures values { IfOk result (λ there. MatchBool there ((found.new.items ≡ found.old.items ++ take count stack.old.values) × (stack.new.values ≡ drop count stack.old.values) × (count ≤ length stack.old.values)) (length stack.old.values < count)) }
+#[tactic(auto, using(crate::proofs::Laid::too_few, crate::proofs::Laid::arguments_are, crate::proofs::Laid::arguments_are_not))]
+/// Whether the arguments of a call stand on top of the stack.
+pub fn has_arguments(sorts: &[Sort], stack: &Operands) -> bool
+    ensures { MatchBool result ((arguments_of sorts.now stack.now.values ≡ Some (reverse (take (length sorts.now) stack.now.values), drop (length sorts.now) stack.now.values)) × (length sorts.now ≤ length stack.now.values)) (arguments_of sorts.now stack.now.values ≡ None) }
 {
-    for taken in 0..count {
-        match stack.pop() {
-            Some(value) => found.push(value)?,
-            None => return Ok(false),
-        }
+    match stack.top(sorts.len()) {
+        Some(values) => are_of_sorts(sorts, values),
+        None => false,
     }
-    Ok(true)
 }
 
-#[tactic(auto, using(crate::proofs::Laid::too_few, crate::proofs::Laid::arguments_are, crate::proofs::Laid::arguments_are_not))]
-/// The arguments of a call, the first one first, taken from the stack; None where they aren't there.
-pub fn take_arguments(
+/// The frame of a method with so many arguments from the top of a stack, before its first instruction, where the method has code and
+/// room for them.
+pub fn frame_on(
     alloc: Global,
-    sorts: &[Sort],
-    stack: &mut Operands,
-) -> Result<Option<Vec<Value>>, WantOfMemory>
-    ensures limit { stack.new.limit ≡ stack.old.limit }
-    ensures values { IfOk result (λ found. MatchOption found (arguments_of sorts.now stack.old.values ≡ None) (λ values. arguments_of sorts.now stack.old.values ≡ Some (values.items, stack.new.values))) }
+    classes: &[ClassModel],
+    class: u64,
+    method: u64,
+    count: usize,
+    stack: &Operands,
+) -> Result<Option<Frame>, WantOfMemory>
+    requires { count ≤ length stack.now.values }
+    ensures { IfOk result (λ frame. frame ≡ frame_of classes.now (class, method) (reverse (take count stack.now.values))) }
 {
-    let mut found = Vec::with_capacity(alloc, sorts.len())?;
-    if !pop_values(stack, sorts.len(), &mut found)? {
-        return Ok(None);
-    }
-    found.reverse();
-    if are_of_sorts(sorts, &found) {
-        Ok(Some(found))
-    } else {
-        Ok(None)
+    match stack.top(count) {
+        Some(arguments) => frame_for(alloc, classes, class, method, arguments),
+        None => Ok(None),
     }
 }

@@ -8,7 +8,7 @@ mod members;
 mod methods;
 mod returns;
 
-pub use arguments::take_arguments;
+pub use arguments::{frame_on, has_arguments};
 pub use frames::{code_of, frame_for, method_of};
 pub use handlers::handler_for;
 pub use members::{find_special_method, find_static_method};

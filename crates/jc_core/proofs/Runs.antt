@@ -1,5 +1,5 @@
 -- Runs, one step after the other.
-use Rattle.std.proofs.Common.{◌≡◌, ◌<◌, ◌+◌, ◌-◌, ◌∙◌, ◌++◌, ◌∷◌, [], ℕ, zero, suc, List, drop, refl, sym, ap, subst, arith, append_assoc, true}
+use Rattle.std.proofs.Common.{◌≡◌, ◌+◌, ◌∙◌, ◌++◌, ◌∷◌, [], ℕ, zero, suc, List, drop, refl, sym, ap, subst, arith, append_assoc, true}
 use Rattle.std.specs.Prelude.{is_some, slice_get}
 use Rattle.std.proofs.lemmas.List.{append-nil}
 use Rattle.std.specs.declared.option.Option.{Option}
@@ -22,7 +22,8 @@ run-suc : (classes : List ClassModel) (n : ℕ) (s : State) (input : List ℕ) �
 unfolding run_of
 run-suc classes n s input = refl
 
-told-suc : (classes : List ClassModel) (n m : ℕ) (s : State) (input : List ℕ) (step : Step) → m ≡ suc n → step_of classes s ≡ step → told (run_of classes m s input) ≡ told (run_by step input (run_of classes n))
+-- a run whose first step is this one
+pub told-suc : (classes : List ClassModel) (n m : ℕ) (s : State) (input : List ℕ) (step : Step) → m ≡ suc n → step_of classes s ≡ step → told (run_of classes m s input) ≡ told (run_by step input (run_of classes n))
 told-suc classes n m s input step at is =
     ap (λ (k : ℕ). told (run_of classes k s input)) at ∙ ap (λ (r : Run). told r) (run-suc classes n s input)
     ∙ ap (λ (x : Step). told (run_by x input (run_of classes n))) is
@@ -31,23 +32,24 @@ told-same : (output output' : List ℕ) (taken taken' : ℕ) (after : State) →
 told-same output output' taken taken' after o t =
     ap (λ (x : List ℕ). let r : Told = record { output = x; taken = taken; after = after } in r) o ∙ ap (λ (x : ℕ). let r : Told = record { output = output'; taken = x; after = after } in r) t
 
--- nothing is seen of the step
-pub run_went : (classes : List ClassModel) (out input : List ℕ) (taken n i : ℕ) (s after : State) (whole : Told) → i < n → step_of classes s ≡ Moves Quiet after →
-    ahead out taken (told (run_of classes (n - i) s input)) ≡ whole → ahead out taken (told (run_of classes (n - (i + 1)) after input)) ≡ whole
-run_went classes out input taken n i s after whole below is so =
-    ap (λ (t : Told). ahead out taken t) (sym (told-suc classes (n - (i + 1)) (n - i) s input (Moves Quiet after) (omega arith) is)) ∙ so
-
 -- a run whose first step shows nothing
 pub run_quiet : (classes : List ClassModel) (n m : ℕ) (s after : State) (input : List ℕ) → m ≡ suc n → step_of classes s ≡ Moves Quiet after → told (run_of classes m s input) ≡ told (run_of classes n after input)
 run_quiet classes n m s after input at is = told-suc classes n m s input (Moves Quiet after) at is
 
+-- ---- a run that was seen so far, over steps up to one that is seen, which leave so many
+
+-- nothing is seen of the last
+pub run_went : (classes : List ClassModel) (out input : List ℕ) (taken n m : ℕ) (s after : State) (whole : Told) → told (run_of classes n s input) ≡ told (run_by (Moves Quiet after) input (run_of classes m)) →
+    ahead out taken (told (run_of classes n s input)) ≡ whole → ahead out taken (told (run_of classes m after input)) ≡ whole
+run_went classes out input taken n m s after whole is so = ap (λ (t : Told). ahead out taken t) (sym is) ∙ so
+
 -- a byte goes out
-pub run_put : (classes : List ClassModel) (out more input : List ℕ) (taken n i byte : ℕ) (s after : State) (whole : Told) → i < n → step_of classes s ≡ Moves (Puts byte) after → more ≡ out ++ byte ∷ [] →
-    ahead out taken (told (run_of classes (n - i) s input)) ≡ whole → ahead more taken (told (run_of classes (n - (i + 1)) after input)) ≡ whole
-run_put classes out more input taken n i byte s after whole below is grown so =
-    let rest = run_of classes (n - (i + 1)) after input in
+pub run_put : (classes : List ClassModel) (out more input : List ℕ) (taken n m byte : ℕ) (s after : State) (whole : Told) → told (run_of classes n s input) ≡ told (run_by (Moves (Puts byte) after) input (run_of classes m)) → more ≡ out ++ byte ∷ [] →
+    ahead out taken (told (run_of classes n s input)) ≡ whole → ahead more taken (told (run_of classes m after input)) ≡ whole
+run_put classes out more input taken n m byte s after whole is grown so =
+    let rest = run_of classes m after input in
     told-same (more ++ rest.output) (out ++ byte ∷ rest.output) (taken + rest.taken) (taken + rest.taken) rest.after (ap (λ (xs : List ℕ). xs ++ rest.output) grown ∙ append_assoc out (byte ∷ []) rest.output) refl
-    ∙ ap (λ (t : Told). ahead out taken t) (sym (told-suc classes (n - (i + 1)) (n - i) s input (Moves (Puts byte) after) (omega arith) is)) ∙ so
+    ∙ ap (λ (t : Told). ahead out taken t) (sym is) ∙ so
 
 beyond : (xs : List ℕ) (k : ℕ) → slice_get xs k ≡ None → drop k xs ≡ []
 beyond [] zero e = refl
@@ -61,25 +63,27 @@ there (y ∷ ys) zero x e = let same : y ≡ x = cc in ap (λ (z : ℕ). z ∷ y
 there (y ∷ ys) (suc k) x e = there ys k x e ∙ ap (λ (j : ℕ). x ∷ drop j (y ∷ ys)) (let one : suc (k + 1) ≡ suc k + 1 = omega arith in one)
 
 -- the input's end is read
-pub run_end : (classes : List ClassModel) (out input : List ℕ) (taken n i : ℕ) (s after : State) (asked : Option ℕ → State) (whole : Told) → i < n → step_of classes s ≡ Asks asked → slice_get input taken ≡ None → after ≡ asked None →
-    ahead out taken (told (run_of classes (n - i) s (drop taken input))) ≡ whole → ahead out taken (told (run_of classes (n - (i + 1)) after (drop taken input))) ≡ whole
-run_end classes out input taken n i s after asked whole below is none at so =
-    ap (λ (xs : List ℕ). ahead out taken (told (run_of classes (n - (i + 1)) after xs))) (beyond input taken none)
-    ∙ ap (λ (x : State). ahead out taken (told (run_of classes (n - (i + 1)) x []))) at
-    ∙ ap (λ (t : Told). ahead out taken t) (sym (told-suc classes (n - (i + 1)) (n - i) s [] (Asks asked) (omega arith) is))
-    ∙ ap (λ (xs : List ℕ). ahead out taken (told (run_of classes (n - i) s xs))) (sym (beyond input taken none))
+pub run_end : (classes : List ClassModel) (out input : List ℕ) (taken n m : ℕ) (s after : State) (asked : Option ℕ → State) (whole : Told) →
+    told (run_of classes n s (drop taken input)) ≡ told (run_by (Asks asked) (drop taken input) (run_of classes m)) → slice_get input taken ≡ None → after ≡ asked None →
+    ahead out taken (told (run_of classes n s (drop taken input))) ≡ whole → ahead out taken (told (run_of classes m after (drop taken input))) ≡ whole
+run_end classes out input taken n m s after asked whole is none at so =
+    ap (λ (xs : List ℕ). ahead out taken (told (run_of classes m after xs))) (beyond input taken none)
+    ∙ ap (λ (x : State). ahead out taken (told (run_of classes m x []))) at
+    ∙ ap (λ (xs : List ℕ). ahead out taken (told (run_by (Asks asked) xs (run_of classes m)))) (sym (beyond input taken none))
+    ∙ ap (λ (t : Told). ahead out taken t) (sym is)
     ∙ so
 
 -- a byte is read
-pub run_read : (classes : List ClassModel) (out input : List ℕ) (taken n i byte : ℕ) (s after : State) (asked : Option ℕ → State) (whole : Told) → i < n → step_of classes s ≡ Asks asked → slice_get input taken ≡ Some byte → after ≡ asked (Some byte) →
-    ahead out taken (told (run_of classes (n - i) s (drop taken input))) ≡ whole → ahead out (taken + 1) (told (run_of classes (n - (i + 1)) after (drop (taken + 1) input))) ≡ whole
-run_read classes out input taken n i byte s after asked whole below is some at so =
+pub run_read : (classes : List ClassModel) (out input : List ℕ) (taken n m byte : ℕ) (s after : State) (asked : Option ℕ → State) (whole : Told) →
+    told (run_of classes n s (drop taken input)) ≡ told (run_by (Asks asked) (drop taken input) (run_of classes m)) → slice_get input taken ≡ Some byte → after ≡ asked (Some byte) →
+    ahead out taken (told (run_of classes n s (drop taken input))) ≡ whole → ahead out (taken + 1) (told (run_of classes m after (drop (taken + 1) input))) ≡ whole
+run_read classes out input taken n m byte s after asked whole is some at so =
     let more = drop (taken + 1) input in
-    let rest = run_of classes (n - (i + 1)) (asked (Some byte)) more in
-    ap (λ (x : State). ahead out (taken + 1) (told (run_of classes (n - (i + 1)) x more))) at
+    let rest = run_of classes m (asked (Some byte)) more in
+    ap (λ (x : State). ahead out (taken + 1) (told (run_of classes m x more))) at
     ∙ told-same (out ++ rest.output) (out ++ rest.output) (taken + 1 + rest.taken) (taken + (rest.taken + 1)) rest.after refl (omega arith)
-    ∙ ap (λ (t : Told). ahead out taken t) (sym (told-suc classes (n - (i + 1)) (n - i) s (byte ∷ more) (Asks asked) (omega arith) is))
-    ∙ ap (λ (xs : List ℕ). ahead out taken (told (run_of classes (n - i) s xs))) (sym (there input taken byte some))
+    ∙ ap (λ (xs : List ℕ). ahead out taken (told (run_by (Asks asked) xs (run_of classes m)))) (sym (there input taken byte some))
+    ∙ ap (λ (t : Told). ahead out taken t) (sym is)
     ∙ so
 
 over-told : (classes : List ClassModel) (n : ℕ) (ending : Ending) (input : List ℕ) → told (run_of classes n (Over ending) input) ≡ told (rests (Over ending))
@@ -102,9 +106,11 @@ pub run_done : (classes : List ClassModel) (out input : List ℕ) (taken m : ℕ
 run_done classes out input taken m s whole none so =
     sym so ∙ ap (λ (k : ℕ). ahead out taken (told (run_of classes k s input))) none ∙ ap (λ (r : Run). ahead out taken (told r)) (run-zero classes s input) ∙ nothing-ahead out taken s
 
--- a step by the classes as they were
-pub step_by : (classes classes' : List ClassModel) (s after : State) (stepped : Stepped) → classes' ≡ classes → step_of classes' s ≡ step_told classes' stepped after → step_of classes s ≡ step_told classes stepped after
-step_by classes classes' s after stepped e is = let P : List ClassModel → Type 0 = λ cs. step_of cs s ≡ step_told cs stepped after in subst P e is
+-- what is known by the classes as they were
+pub told_by : (classes classes' : List ClassModel) (n m : ℕ) (s after : State) (last : Stepped) (input : List ℕ) → classes' ≡ classes →
+    told (run_of classes' n s input) ≡ told (run_by (step_told classes' last after) input (run_of classes' m)) → told (run_of classes n s input) ≡ told (run_by (step_told classes last after) input (run_of classes m))
+told_by classes classes' n m s after last input e is =
+    let P : List ClassModel → Type 0 = λ cs. told (run_of cs n s input) ≡ told (run_by (step_told cs last after) input (run_of cs m)) in subst P e is
 
 ends-by : (s : State) (ending : Option Ending) → ending_of s ≡ ending → is_some ending ≡ true → (e : Ending) × (s ≡ Over e)
 ends-by (Going world now waiting) None e t = cc

@@ -1,5 +1,5 @@
 -- The state of a machine, and what its steps are by the definition (JVMS 2 and 5).
-use Rattle.std.specs.Prelude.{ℕ, List}
+use Rattle.std.specs.Prelude.{◌≡◌, ℕ, List}
 use Rattle.std.specs.declared.option.Option.{Option}
 use Rattle.jc_class_out.specs.declared.model.ClassModel.{ClassModel}
 use Rattle.jc_jvm.specs.Calls.{Step, Moves, Asks, Quiet, Puts, settled, byte_read}
@@ -15,7 +15,7 @@ abbrev pub classes_of : Core → List ClassModel
 classes_of core = core.program
 
 abbrev pub state_in : Core → State
-state_in core = state_of core.on core.world core.waiting
+state_in core = state_of core.on core.world core.now core.waiting
 
 -- A frame that asked for a byte goes on at this place with the byte, or with -1 at the input's end.
 abbrev pub answered : List ClassModel → ℕ → State → Option ℕ → State
@@ -27,3 +27,8 @@ abbrev pub step_told : List ClassModel → Stepped → State → Step
 step_told classes stepped.Went after = Moves Quiet after
 step_told classes (stepped.Byte byte) after = Moves (Puts byte) after
 step_told classes (stepped.Asks next) after = Asks (answered classes next after)
+
+-- where a byte was asked for, the state is as it was
+abbrev pub KeptWhenAsking : Stepped → State → State → Type 0
+KeptWhenAsking (stepped.Asks next) before after = after ≡ before
+KeptWhenAsking _ before after = Unit {0}

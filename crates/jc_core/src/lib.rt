@@ -1,10 +1,10 @@
 //! The Java Virtual Machine (JVMS SE 7): a machine that runs classes.
 #![tactic(auto)]
 
-mod in_place;
 mod machine;
 mod run;
 mod start;
+mod steps;
 
-pub use machine::{Core, Stepped};
+pub use machine::{Core, Progress, Stepped};
 pub use run::Ran;

@@ -1,32 +1,30 @@
-ghost use Rattle.std.specs.Prelude.{◌≡◌, ◌≤◌, ℕ, List, IfOk, OnOk, OnErr, IsTrue};
-ghost use Rattle.jc_jvm.specs.Runs.{run_of};
-ghost use Rattle.jc_core.specs.Memory.{placed_takes, step_takes};
+ghost use Rattle.std.specs.Prelude.{◌≡◌, ◌≤◌, ◌<◌, ℕ, List, IfOk, None, OnErr, IsTrue};
+ghost use Rattle.jc_jvm.specs.Runs.{ending_of, run_by, run_of};
+ghost use Rattle.jc_core.specs.Memory.{step_takes};
 ghost use Rattle.jc_core.specs.Ran.{told};
 ghost use Rattle.jc_jvm.specs.Calls.{byte_read};
-ghost use Rattle.jc_jvm.specs.Classes.{placed_at};
-ghost use Rattle.jc_jvm.specs.Table.{placed_row, step_of};
-ghost use Rattle.jc_rows.specs.Laid.{row_at};
+ghost use Rattle.jc_jvm.specs.Table.{step_of};
 ghost use Rattle.jc_stepping.specs.Done.{step_done};
 ghost use Rattle.jc_waiting.specs.Onwards.{state_of};
-ghost use Rattle.jc_core.specs.States.{classes_of, state_in, answered, step_told};
+ghost use Rattle.jc_core.specs.States.{KeptWhenAsking, classes_of, state_in, answered, step_told};
 
-use crate::in_place::advance;
+use crate::steps::{advance, step_frame};
 use jc_jvm::{Ending, Frame, Value, Waiting, World};
-use jc_plain::push;
 use jc_rows::Program;
 use jc_rules::WantOfMemory;
-use jc_stepping::{Did, step_row};
-use jc_waiting::{Onward, Stack, settle};
+use jc_stepping::Did;
+use jc_waiting::{Onward, Stack, go_on_with};
 use std::alloc::Global;
-use std::mem;
 
-/// A machine that runs classes: its program, what all frames share, what waits, and the frame that runs or the machine's ending.
+/// A machine that runs classes: its program, what all frames share, what waits, the frame that runs, and whether it does or the machine
+/// is over.
 #[derive(Drop)]
 pub struct Core {
     pub alloc: Global,
     pub program: Program,
     pub world: World,
     pub waiting: Stack<Waiting>,
+    pub now: Frame,
     pub on: Onward,
 }
 
@@ -41,47 +39,6 @@ pub enum Stepped {
     Asks { next: u32 },
 }
 
-#[tactic(auto, using(crate::proofs::Placed::placed_rules))]
-fn step_frame(
-    alloc: Global,
-    program: &Program,
-    now: Frame,
-    world: &mut World,
-    waiting: &mut Stack<Waiting>,
-) -> Result<Did, WantOfMemory>
-    ensures step { IfOk result (λ did. placed_row program.now world.old now waiting.old (placed_at program.now now.class now.method now.at) ≡ step_done program.now did world.new waiting.new) }
-    ensures memory { OnErr result (IsTrue (placed_takes program.now world.old now (row_at program.now now.class now.method now.at))) }
-{
-    match program.placed(now.class, now.method, now.at) {
-        Some(placed) => step_row(
-            alloc,
-            program,
-            &placed.row,
-            placed.next,
-            now,
-            world,
-            waiting,
-        ),
-        None => Ok(Did::Moves(Onward::Ends(Ending::Stuck))),
-    }
-}
-
-fn step_on(
-    alloc: Global,
-    program: &Program,
-    on: Onward,
-    world: &mut World,
-    waiting: &mut Stack<Waiting>,
-) -> Result<Did, WantOfMemory>
-    ensures step { IfOk result (λ did. step_of program.now (state_of on world.old waiting.old) ≡ step_done program.now did world.new waiting.new) }
-    ensures memory { OnErr result (IsTrue (step_takes program.now (state_of on world.old waiting.old))) }
-{
-    match on {
-        Onward::Runs(now) => step_frame(alloc, program, now, world, waiting),
-        Onward::Ends(ending) => Ok(Did::Moves(Onward::Ends(ending))),
-    }
-}
-
 fn read(byte: Option<u8>) -> Value
     ensures { result ≡ byte_read byte }
 {
@@ -91,38 +48,19 @@ fn read(byte: Option<u8>) -> Value
     }
 }
 
-fn answer_on(
-    alloc: Global,
-    program: &Program,
-    on: Onward,
-    next: u32,
-    byte: Option<u8>,
-    world: &mut World,
-    waiting: &mut Stack<Waiting>,
-) -> Result<Onward, WantOfMemory>
-    ensures { IfOk result (λ after. answered program.now next (state_of on world.old waiting.old) byte ≡ state_of after world.new waiting.new) }
-{
-    match on {
-        Onward::Runs(frame) => {
-            let mut now = frame;
-            let act = push(next, &mut now, read(byte));
-            settle(alloc, program.classes(), act, now, world, waiting)
-        }
-        Onward::Ends(_) => Ok(Onward::Ends(Ending::Stuck)),
-    }
+/// How far steps came that show nothing, and what the last one did.
+#[derive(Clone, Copy, Debug)]
+pub struct Progress {
+    /// How many steps are left.
+    pub left: u64,
+    pub last: Stepped,
 }
 
 impl Core {
-    fn take_on(&mut self) -> Onward
-        ensures on { result ≡ self.old.on }
-        ensures rest { self.new ≡ record self.old { on = Onward.Ends Ending.Stuck } }
-    {
-        mem::replace(&mut self.on, Onward::Ends(Ending::Stuck))
-    }
-
     fn settle(&mut self, did: Did) -> Stepped
         ensures classes { classes_of self.new ≡ classes_of self.old }
-        ensures step { step_done (classes_of self.old) did self.old.world self.old.waiting ≡ step_told (classes_of self.old) result (state_in self.new) }
+        ensures kept { KeptWhenAsking result (state_of Onward.Runs self.old.world self.old.now self.old.waiting) (state_in self.new) }
+        ensures step { step_done (classes_of self.old) did self.old.world self.old.now self.old.waiting ≡ step_told (classes_of self.old) result (state_in self.new) }
     {
         match did {
             Did::Moves(on) => {
@@ -133,73 +71,80 @@ impl Core {
                 self.on = on;
                 Stepped::Byte(byte)
             }
-            Did::Asks { now, next } => {
-                self.on = Onward::Runs(now);
+            Did::Asks { next } => {
+                self.on = Onward::Runs;
                 Stepped::Asks { next }
             }
         }
     }
 
-    /// So many steps at most that run no other code and make nothing, and how many are left. After want of memory the machine is to be dropped.
-    pub fn advance(&mut self, most: u64) -> Result<u64, WantOfMemory>
+    /// Steps up to one that is seen or ends the machine, at most so many. After want of memory the machine is to be dropped.
+    pub fn advance(&mut self, most: u64) -> Result<Progress, WantOfMemory>
         ensures classes { classes_of self.new ≡ classes_of self.old }
-        ensures fewer { IfOk result (λ left. left ≤ most) }
-        ensures run { IfOk result (λ left. (input : List ℕ) → told (run_of (classes_of self.old) most (state_in self.old) input) ≡ told (run_of (classes_of self.old) left (state_in self.new) input)) }
+        ensures fewer { IfOk result (λ done. done.left ≤ most) }
+        ensures goes { IfOk result (λ done. ending_of (state_in self.old) ≡ None → 0 < most → done.left < most) }
+        ensures run { IfOk result (λ done. (input : List ℕ) → told (run_of (classes_of self.old) most (state_in self.old) input) ≡ told (run_by (step_told (classes_of self.old) done.last (state_in self.new)) input (run_of (classes_of self.old) done.left))) }
     {
-        match self.take_on() {
-            Onward::Runs(frame) => {
-                let mut now = frame;
-                let done = advance(&self.program, most, &mut now, &mut self.world);
-                self.on = settle(
+        match self.on {
+            Onward::Runs => {
+                let done = advance(
                     self.alloc,
-                    self.program.classes(),
-                    done.act,
-                    now,
+                    &self.program,
+                    most,
+                    &mut self.now,
                     &mut self.world,
                     &mut self.waiting,
                 )?;
-                Ok(done.left)
+                Ok(Progress {
+                    left: done.left,
+                    last: self.settle(done.did),
+                })
             }
-            Onward::Ends(ending) => {
-                self.on = Onward::Ends(ending);
-                Ok(most)
-            }
+            Onward::Ends(_) => Ok(Progress {
+                left: most,
+                last: Stepped::Went,
+            }),
         }
     }
 
-    /// One step of the instruction table. A machine that is over stays so. Where the step asks for a byte, the machine waits for
-    /// `answer`. After want of memory it is to be dropped. A step in place takes no memory unless it throws.
+    /// One step of the instruction table. A machine that is over stays so. Where the step asks for a byte, the machine is as it was, and waits
+    /// for `answer`. After want of memory it is to be dropped.
     pub fn step(&mut self) -> Result<Stepped, WantOfMemory>
         ensures classes { classes_of self.new ≡ classes_of self.old }
         ensures memory { OnErr result (IsTrue (step_takes (classes_of self.old) (state_in self.old))) }
+        ensures kept { IfOk result (λ stepped. KeptWhenAsking stepped (state_in self.old) (state_in self.new)) }
         ensures step { IfOk result (λ stepped. step_of (classes_of self.old) (state_in self.old) ≡ step_told (classes_of self.old) stepped (state_in self.new)) }
     {
-        let on = self.take_on();
-        let did = step_on(
-            self.alloc,
-            &self.program,
-            on,
-            &mut self.world,
-            &mut self.waiting,
-        )?;
-        Ok(self.settle(did))
+        match self.on {
+            Onward::Runs => {
+                let did = step_frame(
+                    self.alloc,
+                    &self.program,
+                    &mut self.now,
+                    &mut self.world,
+                    &mut self.waiting,
+                )?;
+                Ok(self.settle(did))
+            }
+            Onward::Ends(_) => Ok(Stepped::Went),
+        }
     }
 
     /// Gives the machine the byte that its step asked for, or the input's end.
-    pub fn answer(&mut self, next: u32, byte: Option<u8>) -> Result<(), WantOfMemory>
+    pub fn answer(&mut self, next: u32, byte: Option<u8>)
         ensures classes { classes_of self.new ≡ classes_of self.old }
-        ensures state { OnOk result (state_in self.new ≡ answered (classes_of self.old) next (state_in self.old) byte) }
+        ensures state { state_in self.new ≡ answered (classes_of self.old) next (state_in self.old) byte }
     {
-        let on = self.take_on();
-        self.on = answer_on(
-            self.alloc,
-            &self.program,
-            on,
-            next,
-            byte,
-            &mut self.world,
-            &mut self.waiting,
-        )?;
-        Ok(())
+        self.on = match self.on {
+            Onward::Runs => go_on_with(
+                self.program.classes(),
+                read(byte),
+                next,
+                &mut self.now,
+                &self.world,
+                &self.waiting,
+            ),
+            Onward::Ends(_) => Onward::Ends(Ending::Stuck),
+        };
     }
 }

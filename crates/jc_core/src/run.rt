@@ -33,7 +33,7 @@ impl Core {
         ensures { result ≡ ending_of (state_in self.now) }
     {
         match &self.on {
-            Onward::Runs(_) => None,
+            Onward::Runs => None,
             Onward::Ends(ending) => Some(*ending),
         }
     }
@@ -45,19 +45,22 @@ impl Core {
     {
         let mut output = Items::new(self.alloc);
         let mut taken = 0;
-        for done in 0..steps {
+        let mut left = steps;
+        'steps: while left > 0 {
             if self.ending().is_some() {
                 return Ok(Ran { output, taken });
             }
-            match self.step()? {
+            let progress = self.advance(left)?;
+            left = progress.left;
+            match progress.last {
                 Stepped::Went => (),
                 Stepped::Byte(byte) => output.push(byte)?,
                 Stepped::Asks { next } => match byte_at(input, taken) {
                     Some(byte) => {
-                        self.answer(next, Some(byte))?;
+                        self.answer(next, Some(byte));
                         taken += 1;
                     }
-                    None => self.answer(next, None)?,
+                    None => self.answer(next, None),
                 },
             }
         }

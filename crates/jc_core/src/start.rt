@@ -195,16 +195,17 @@ fn wait_for(
     classes: &Classes,
     class: u64,
     frame: Option<Frame>,
+    now: &mut Frame,
     world: &mut World,
     waiting: &mut Stack<Waiting>,
 ) -> Result<Onward, WantOfMemory>
     requires { waiting.old ≡ [] }
-    ensures { IfOk result (λ on. main_waits classes.now class world.old frame ≡ state_of on world.new waiting.new) }
+    ensures { IfOk result (λ on. main_waits classes.now class world.old frame ≡ state_of on world.new now.new waiting.new) }
 {
     match frame {
         Some(frame) => {
             waiting.push(Waiting::Caller(frame))?;
-            initialise(alloc, classes, class, world, waiting)
+            initialise(alloc, classes, class, now, world, waiting)
         }
         None => Ok(Onward::Ends(Ending::Stuck)),
     }
@@ -216,11 +217,12 @@ fn begin_with(
     class: u64,
     method: u64,
     values: Vec<Value>,
+    now: &mut Frame,
     world: &mut World,
     waiting: &mut Stack<Waiting>,
 ) -> Result<Onward, WantOfMemory>
     requires { waiting.old ≡ [] }
-    ensures { IfOk result (λ on. begins classes.now (class, method) (Some (world.old, values.items)) ≡ state_of on world.new waiting.new) }
+    ensures { IfOk result (λ on. begins classes.now (class, method) (Some (world.old, values.items)) ≡ state_of on world.new now.new waiting.new) }
 {
     let address = world.heap.len() as u64;
     world.heap.push(arguments_array(classes.models(), values))?;
@@ -231,7 +233,7 @@ fn begin_with(
         method,
         &[Value::Address(address)],
     )?;
-    wait_for(alloc, classes, class, frame, world, waiting)
+    wait_for(alloc, classes, class, frame, now, world, waiting)
 }
 
 fn begin(
@@ -240,14 +242,15 @@ fn begin(
     class: u64,
     method: u64,
     arguments: &[Text],
+    now: &mut Frame,
     world: &mut World,
     waiting: &mut Stack<Waiting>,
 ) -> Result<Onward, WantOfMemory>
     requires { waiting.old ≡ [] }
-    ensures { IfOk result (λ on. begins classes.now (class, method) (with_strings classes.now arguments.now (world.old, [])) ≡ state_of on world.new waiting.new) }
+    ensures { IfOk result (λ on. begins classes.now (class, method) (with_strings classes.now arguments.now (world.old, [])) ≡ state_of on world.new now.new waiting.new) }
 {
     match make_strings(alloc, classes, arguments, world)? {
-        Some(values) => begin_with(alloc, classes, class, method, values, world, waiting),
+        Some(values) => begin_with(alloc, classes, class, method, values, now, world, waiting),
         None => Ok(Onward::Ends(Ending::Stuck)),
     }
 }
@@ -266,12 +269,14 @@ impl Core {
         let program = Program::of(alloc, models)?;
         let mut world = world_of(alloc, program.classes().models())?;
         let mut waiting = Stack::new(alloc);
+        let mut now = Frame::empty(alloc);
         let on = begin(
             alloc,
             program.classes(),
             class,
             method,
             arguments,
+            &mut now,
             &mut world,
             &mut waiting,
         )?;
@@ -280,6 +285,7 @@ impl Core {
             program,
             world,
             waiting,
+            now,
             on,
         })
     }

@@ -7,7 +7,7 @@ use crate::Classes;
 use crate::kinds::fits;
 use crate::names::shape_sort;
 use jc_jvm::{Base, Cell, Element, Fault, Frame, Shape, Slots, Value, World};
-use jc_plain::{Act, is_of_sort, low_byte, low_char, low_short, push, throw_in};
+use jc_plain::{Act, go_to, is_of_sort, low_byte, low_char, low_short, push, throw_in};
 
 fn is_element_base(element: Element, base: Base) -> bool
     ensures { result ≡ element_base element base }
@@ -136,7 +136,7 @@ fn put_in(
         Some(place) => {
             if may_stand(classes, world, of, value) {
                 world.heap.set(at, place, kept(of, value));
-                Act::Goes(next)
+                go_to(next, now)
             } else {
                 throw_in(Fault::ArrayStore, now)
             }

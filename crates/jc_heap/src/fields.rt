@@ -4,7 +4,7 @@ ghost use Rattle.jc_jvm.specs.Objects.{field_pushed, slot_in as value_in, field_
 ghost use Rattle.jc_plain.specs.Acted.{acted};
 
 use jc_jvm::{Cell, Fault, Frame, Sort, Value, World};
-use jc_plain::{Act, is_of_sort, push, throw_in};
+use jc_plain::{Act, go_to, is_of_sort, push, throw_in};
 
 fn slot_in(world: &World, at: u64, slot: usize) -> Option<Value>
     ensures { result ≡ value_in (slice_get world.now.heap at) slot }
@@ -55,7 +55,7 @@ fn put_field(
     match slot_in(world, at, slot) {
         Some(_) => {
             world.heap.set(at, slot, value);
-            Act::Goes(next)
+            go_to(next, now)
         }
         None => Act::Fails,
     }

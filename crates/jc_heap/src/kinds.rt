@@ -9,7 +9,7 @@ ghost use Rattle.jc_plain.specs.Acted.{acted};
 
 use crate::Classes;
 use jc_jvm::{Base, Cell, Cells, Fault, Frame, Shape, Value, World};
-use jc_plain::{Act, push, throw_in};
+use jc_plain::{Act, go_to, push, throw_in};
 
 fn fits_cell(classes: &Classes, heap: &Cells, shape: Shape, at: u64) -> bool
     ensures { result ≡ is_cell_below classes.now shape (slice_get heap.now at) }
@@ -44,7 +44,7 @@ fn put_back(next: u32, now: &mut Frame, value: Value) -> Act
     ensures { leaves next now.old (value ∷ now.old.stack.values) ≡ acted result now.new }
 {
     if now.stack.push(value) {
-        Act::Goes(next)
+        go_to(next, now)
     } else {
         Act::Fails
     }

@@ -1,4 +1,5 @@
 use crate::{Operands, Slots, Value};
+use std::alloc::Global;
 
 /// A frame (JVMS 2.6): its method by the numbers of the class and of the method, the byte offset of its instruction, its local
 /// variables and its operand stack. A local that holds nothing is None, as is the second unit of a long.
@@ -9,6 +10,19 @@ pub struct Frame {
     pub at: u32,
     pub locals: Slots<Option<Value>>,
     pub stack: Operands,
+}
+
+impl Frame {
+    /// A frame without variables and without room, of no method. It takes no memory.
+    pub fn empty(alloc: Global) -> Frame {
+        Frame {
+            class: 0,
+            method: 0,
+            at: 0,
+            locals: Slots::of(Vec::new(alloc)),
+            stack: Operands::without_room(alloc),
+        }
+    }
 }
 
 /// What goes on when the frame above it is left.

@@ -1,4 +1,4 @@
-ghost use Rattle.std.specs.Prelude.{◌≡◌, ◌≤◌, [], ◌∷◌, MatchOption, MatchBool, IfOk, Some, None};
+ghost use Rattle.std.specs.Prelude.{◌≡◌, ◌≤◌, ◌<◌, [], ◌∷◌, drop, length, reverse, take, MatchOption, MatchBool, IfOk, Some, None};
 ghost use Rattle.jc_jvm.specs.Stacked.{pushed, units_of, units_in};
 ghost use Rattle.jc_jvm.specs.Types.{sort_of_value};
 
@@ -57,6 +57,17 @@ fn units(value: Value) -> usize
 }
 
 impl Operands {
+    /// An empty stack without room.
+    pub fn without_room(alloc: Global) -> Operands
+        ensures { result ≡ record { values = []; limit = 0 } }
+    {
+        Operands {
+            values: Vec::new(alloc),
+            units: 0,
+            limit: 0,
+        }
+    }
+
     /// An empty stack with room for so many units.
     pub fn with_room(alloc: Global, limit: usize) -> Result<Operands, WantOfMemory>
         ensures { IfOk result (λ s. s ≡ record { values = []; limit = limit }) }
@@ -94,6 +105,27 @@ impl Operands {
         let top = self.values.pop()?;
         self.units -= units(top);
         Some(top)
+    }
+
+    /// So many values from the top, the topmost one last; None where there are fewer.
+    pub fn top(&self, count: usize) -> Option<&[Value]>
+        ensures { MatchOption result (length self.now.values < count) (λ values. (values.now ≡ reverse (take count self.now.values)) × (count ≤ length self.now.values)) }
+    {
+        let values = self.values.as_slice();
+        if count <= values.len() {
+            Some(&values[values.len() - count..])
+        } else {
+            None
+        }
+    }
+
+    /// Takes so many values from the top away, or all where there are fewer.
+    pub fn discard(&mut self, count: usize)
+        ensures { self.new ≡ record self.old { values = drop count self.old.values } }
+    {
+        for taken in 0..count {
+            let _top = self.pop();
+        }
     }
 
     /// Says that a stack is within its limit, and does nothing.

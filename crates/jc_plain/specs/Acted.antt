@@ -6,6 +6,6 @@ use Rattle.jc_plain.specs.declared.acts.Act.TheVariants as answer
 
 -- where it leaves this frame
 abbrev pub acted : Answer → Frame → Act
-acted (answer.Goes next) now = Goes (record now { at = next })
+acted answer.Goes now = Goes now
 acted (answer.Throws fault) now = Throws fault now
 acted answer.Fails now = Fails

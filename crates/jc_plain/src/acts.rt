@@ -1,15 +1,15 @@
 ghost use Rattle.std.specs.Prelude.{◌≡◌};
-ghost use Rattle.jc_jvm.specs.Frames.{throws, pushes};
+ghost use Rattle.jc_jvm.specs.Frames.{Goes, throws, pushes};
 ghost use Rattle.jc_plain.specs.Acted.{acted};
 
 use jc_jvm::{Fault, Frame, Value};
 
-/// What an instruction did to its frame, whose place stays.
+/// What an instruction did to its frame.
 #[derive(Clone, Copy, Debug)]
 pub enum Act {
-    /// The frame goes on at this place.
-    Goes(u32),
-    /// The machine makes this exception, which comes up at the frame's place. The stack is empty.
+    /// The frame goes on at its place.
+    Goes,
+    /// The machine makes this exception, which comes up at the frame's place. The place is still the instruction's, and the stack is empty.
     Throws(Fault),
     /// The table allows nothing.
     Fails,
@@ -24,13 +24,22 @@ pub fn throw_in(fault: Fault, now: &mut Frame) -> Act
     Act::Throws(fault)
 }
 
+/// The frame goes on at this place.
+#[inline(always)]
+pub fn go_to(next: u32, now: &mut Frame) -> Act
+    ensures { Goes (record now.old { at = next }) ≡ acted result now.new }
+{
+    now.at = next;
+    Act::Goes
+}
+
 /// A value onto the stack, where there is room for it.
 #[inline(always)]
 pub fn push(next: u32, now: &mut Frame, value: Value) -> Act
     ensures { pushes next now.old now.old.stack.values value ≡ acted result now.new }
 {
     if now.stack.push(value) {
-        Act::Goes(next)
+        go_to(next, now)
     } else {
         Act::Fails
     }

@@ -3,8 +3,8 @@ ghost use Rattle.jc_jvm.specs.Plain.{same_reference, is_null};
 ghost use Rattle.jc_jvm.specs.Table.{jumps, turned, reference_jumps, int_jumps, int_pair_jumps, pair_jumps, null_jumps};
 ghost use Rattle.jc_plain.specs.Acted.{acted};
 
-use crate::Act;
 use crate::numbers::passes;
+use crate::{Act, go_to};
 use jc_jvm::{Comparison, Frame, Value};
 
 #[inline(always)]
@@ -20,7 +20,7 @@ pub fn jump_by_int(test: Comparison, to: u32, next: u32, now: &mut Frame) -> Act
     ensures { int_jumps test to next now.old now.old.stack.values ≡ acted result now.new }
 {
     match now.stack.pop() {
-        Some(Value::Whole(n)) => Act::Goes(target(passes(test, n, 0), to, next)),
+        Some(Value::Whole(n)) => go_to(target(passes(test, n, 0), to, next), now),
         _ => Act::Fails,
     }
 }
@@ -32,7 +32,7 @@ pub fn jump_by_ints(test: Comparison, to: u32, next: u32, now: &mut Frame) -> Ac
 {
     match (now.stack.pop(), now.stack.pop()) {
         (Some(Value::Whole(b)), Some(Value::Whole(a))) => {
-            Act::Goes(target(passes(test, a, b), to, next))
+            go_to(target(passes(test, a, b), to, next), now)
         }
         _ => Act::Fails,
     }
@@ -75,7 +75,7 @@ fn jump_by_test(other: bool, test: Option<bool>, to: u32, next: u32, now: &mut F
     ensures { reference_jumps other to next now.old now.old.stack.values test ≡ acted result now.new }
 {
     match test {
-        Some(test) => Act::Goes(target(turn(other, test), to, next)),
+        Some(test) => go_to(target(turn(other, test), to, next), now),
         None => Act::Fails,
     }
 }

@@ -11,7 +11,7 @@ mod plain;
 mod readings;
 mod takings;
 
-pub use acts::{Act, push, throw_in};
+pub use acts::{Act, go_to, push, throw_in};
 pub use locals::is_of_sort;
 pub use numbers::{low_byte, low_char, low_short};
 pub use plain::act_plain;

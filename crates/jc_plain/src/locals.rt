@@ -4,7 +4,7 @@ ghost use Rattle.jc_jvm.specs.Table.{gives, loads, keeps, stores, steps};
 ghost use Rattle.jc_jvm.specs.Types.{is_of_sort as sort_fits};
 ghost use Rattle.jc_plain.specs.Acted.{acted};
 
-use crate::{Act, push};
+use crate::{Act, go_to, push};
 use jc_jvm::{Frame, Slots, Sort, Value};
 
 /// Whether a value is of a sort.
@@ -120,7 +120,7 @@ fn keep_in(local: u16, value: Value, next: u32, now: &mut Frame) -> Act
     ensures { keeps next now.old now.old.stack.values (with_local local value now.old.locals) ≡ acted result now.new }
 {
     if keep(local as usize, value, &mut now.locals) {
-        Act::Goes(next)
+        go_to(next, now)
     } else {
         Act::Fails
     }

@@ -9,7 +9,7 @@ use crate::calculations::{
 use crate::jumps::{jump_by_int, jump_by_ints, jump_by_null, jump_by_references};
 use crate::locals::{increment, load, store};
 use crate::takings::{discard, duplicate, swap};
-use crate::{Act, push};
+use crate::{Act, go_to, push};
 use jc_jvm::{Frame, Plain};
 
 /// What an instruction does that touches its frame alone; `next` is the place behind it.
@@ -38,6 +38,6 @@ pub fn act_plain(plain: Plain, next: u32, now: &mut Frame) -> Act
         Plain::JumpByInts { test, to } => jump_by_ints(test, to, next, now),
         Plain::JumpByReferences { other, to } => jump_by_references(other, to, next, now),
         Plain::JumpByNull { other, to } => jump_by_null(other, to, next, now),
-        Plain::Jump { to } => Act::Goes(to),
+        Plain::Jump { to } => go_to(to, now),
     }
 }

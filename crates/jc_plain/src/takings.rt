@@ -5,7 +5,7 @@ ghost use Rattle.jc_jvm.specs.Table.{discards, swaps, copies_by, copies_under, c
 ghost use Rattle.jc_plain.specs.Acted.{acted};
 ghost use Rattle.jc_plain.specs.Takings.{values_of, values_on};
 
-use crate::Act;
+use crate::{Act, go_to};
 use jc_jvm::{Frame, Operands, Value, Width};
 
 /// Values that were taken from a stack, from the top.
@@ -114,7 +114,7 @@ pub fn discard(units: Width, next: u32, now: &mut Frame) -> Act
     ensures { discards next now.old (units_taken units now.old.stack.values) ≡ acted result now.new }
 {
     match take(units, &mut now.stack) {
-        Some(_) => Act::Goes(next),
+        Some(_) => go_to(next, now),
         None => Act::Fails,
     }
 }
@@ -124,7 +124,7 @@ fn put_swapped(upper: Value, lower: Value, next: u32, now: &mut Frame) -> Act
     ensures { swaps next now.old (upper ∷ lower ∷ now.old.stack.values) ≡ acted result now.new }
 {
     if has_one_unit(upper) && has_one_unit(lower) && put_two(lower, upper, &mut now.stack) {
-        Act::Goes(next)
+        go_to(next, now)
     } else {
         Act::Fails
     }
@@ -144,7 +144,7 @@ fn put_copies(copied: Taken, under: Taken, next: u32, now: &mut Frame) -> Act
     ensures { copies_by next now.old (values_on copied (values_on under (values_on copied now.old.stack.values))) ≡ acted result now.new }
 {
     if put(copied, &mut now.stack) && put(under, &mut now.stack) && put(copied, &mut now.stack) {
-        Act::Goes(next)
+        go_to(next, now)
     } else {
         Act::Fails
     }

@@ -113,8 +113,7 @@ fn run<K: Keys, O: Paper>(
     out: &mut O,
 ) -> Result<&'static str, WantOfMemory> {
     for steps in 0..u64::MAX {
-        let _left = core.advance(u64::MAX)?;
-        match core.step()? {
+        match core.advance(u64::MAX)?.last {
             Stepped::Byte(byte) => {
                 pending.push(byte)?;
                 if pending.len() >= PENDING && !flush(pending, out) {
@@ -122,13 +121,13 @@ fn run<K: Keys, O: Paper>(
                 }
             }
             Stepped::Asks { next } => match keys.next() {
-                Ok(byte) => core.answer(next, byte)?,
+                Ok(byte) => core.answer(next, byte),
                 Err(_) => return Ok("no input"),
             },
-            Stepped::Went => match &core.on {
-                Onward::Ends(_) => return Ok(""),
-                Onward::Runs(_) => (),
-            },
+            Stepped::Went => (),
+        }
+        if core.ending().is_some() {
+            return Ok("");
         }
     }
     Ok("no end")
@@ -160,7 +159,7 @@ fn ending(alloc: Global, core: &Core) -> Result<String, AllocError> {
         }
         Onward::Ends(Ending::Exited(code)) => format!(in alloc; "exited {code}"),
         Onward::Ends(Ending::Stuck) => String::from_str(alloc, "stuck"),
-        Onward::Runs(_) => String::from_str(alloc, "goes on"),
+        Onward::Runs => String::from_str(alloc, "goes on"),
     }
 }
 

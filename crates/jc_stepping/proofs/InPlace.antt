@@ -1,5 +1,5 @@
 -- What a row does in place is what its step does.
-use Rattle.std.proofs.Common.{◌≡◌, ℕ, List, ap}
+use Rattle.std.proofs.Common.{◌≡◌, ℕ, Bool, true, false, List, ap, refl}
 use Rattle.std.specs.declared.option.Option.{Option}
 use Rattle.std.specs.declared.option.Option.TheVariants.{Some, None}
 use Rattle.jc_class_out.specs.declared.model.ClassModel.{ClassModel}
@@ -15,7 +15,8 @@ use Rattle.jc_jvm.specs.declared.world.World.{World}
 use Rattle.jc_rows.specs.Acts.{row_step}
 use Rattle.jc_rows.specs.declared.row.Row.{Row}
 use Rattle.jc_rows.specs.declared.row.Row.TheVariants as row
-use Rattle.jc_stepping.specs.InPlace.{if_open, is_open, literal_known, in_place}
+use Rattle.jc_stepping.specs.InPlace.{if_open, literal_known, in_place}
+use Rattle.jc_waiting.specs.Readying.{is_open}
 
 same_acts : (classes : List ClassModel) (waiting : List Waiting) (x done : Act_in) → Some x ≡ Some done → acts classes waiting x ≡ acts classes waiting done
 same_acts classes waiting x done e = let same : x ≡ done = cc in ap (λ (d : Act_in). acts classes waiting d) same
@@ -51,3 +52,8 @@ acts_in_place classes world next now waiting row.Length done e = same_acts class
 acts_in_place classes world next now waiting (row.Cast shape) done e = same_acts classes waiting (world, casts classes world next now shape now.stack.values) done e
 acts_in_place classes world next now waiting (row.Test shape) done e = same_acts classes waiting (world, tests classes world next now shape now.stack.values) done e
 acts_in_place classes world next now waiting _ done e = cc
+
+-- where a row on a class isn't done in place
+pub closed : (b : Bool) (x : Act_in) → if_open b x ≡ None → b ≡ false
+closed true x e = cc
+closed false x e = refl

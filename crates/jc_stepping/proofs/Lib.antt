@@ -1,2 +1,3 @@
 pub mod InPlace
-pub mod Popped
+pub mod Natives
+pub mod Receivers

@@ -9,18 +9,10 @@ use Rattle.jc_jvm.specs.Table.{plain_act, switches, static_kept, casts, tests}
 use Rattle.jc_jvm.specs.Worlds.{interned_in, state_of_class, statics_at}
 use Rattle.jc_jvm.specs.declared.frame.Frame.{Frame}
 use Rattle.jc_jvm.specs.declared.value.Value.TheVariants.{Address}
-use Rattle.jc_jvm.specs.declared.world.ClassState.{ClassState}
-use Rattle.jc_jvm.specs.declared.world.ClassState.TheVariants.{InProgress, Ready}
 use Rattle.jc_jvm.specs.declared.world.World.{World}
 use Rattle.jc_rows.specs.declared.row.Row.{Row}
 use Rattle.jc_rows.specs.declared.row.Row.TheVariants as row
-use Rattle.jc_waiting.specs.Memory.{act_takes}
-
--- a class that needs no initialisation before an instruction acts on it (JVMS 5.5)
-abbrev pub is_open : Option ClassState → Bool
-is_open (Some Ready) = true
-is_open (Some InProgress) = true
-is_open _ = false
+use Rattle.jc_waiting.specs.Readying.{is_open}
 
 -- a literal that was used before
 abbrev pub literal_known : World → ℕ → Frame → Option ℕ → Option Act_in
@@ -49,13 +41,3 @@ in_place classes world next now row.Length = Some (world, array_length world nex
 in_place classes world next now (row.Cast shape) = Some (world, casts classes world next now shape now.stack.values)
 in_place classes world next now (row.Test shape) = Some (world, tests classes world next now shape now.stack.values)
 in_place classes world next now _ = None
-
--- ---- memory
-
-abbrev pub takes_by : Option Act_in → Bool
-takes_by (Some done) = act_takes done.1
-takes_by None = true
-
--- whether the step of a row may take memory: not where it is in place and throws nothing
-abbrev pub may_take : List ClassModel → World → ℕ → Frame → Row → Bool
-may_take classes world next now row = takes_by (in_place classes world next now row)

@@ -1,2 +1,4 @@
 pub mod Done
 pub mod InPlace
+pub mod Making
+pub mod Takes

@@ -1,18 +1,16 @@
 // What an instruction that runs no other code does to the machine.
 ghost use Rattle.std.specs.Prelude.{◌≡◌, ◌∷◌, IfOk, OnErr, IsTrue};
-ghost use Rattle.jc_jvm.specs.Calls.{Moves, Quiet, acts, null_pointer as null_pointer_step};
+ghost use Rattle.jc_jvm.specs.Calls.{Moves, Quiet, null_pointer as null_pointer_step};
 ghost use Rattle.jc_jvm.specs.Table.{throws_top};
-ghost use Rattle.jc_jvm.specs.Thrown.{thrown};
-ghost use Rattle.jc_plain.specs.Acted.{acted};
-ghost use Rattle.jc_stepping.specs.Done.{step_done};
-ghost use Rattle.jc_waiting.specs.Memory.{act_takes};
+ghost use Rattle.jc_stepping.specs.Takes.{throw_takes};
+ghost use Rattle.jc_waiting.specs.Onwards.{state_of};
 
 use crate::Did;
 use jc_heap::Classes;
 use jc_jvm::{Ending, Fault, Frame, Value, Waiting, World};
-use jc_plain::{Act, throw_in};
+use jc_plain::throw_in;
 use jc_rules::WantOfMemory;
-use jc_waiting::{Onward, Stack, settle, throw_among};
+use jc_waiting::{Onward, Stack, settle, throw_object};
 use std::alloc::Global;
 
 /// The table allows nothing.
@@ -22,66 +20,36 @@ pub fn stuck() -> Did
     Did::Moves(Onward::Ends(Ending::Stuck))
 }
 
-/// The machine goes on after what an instruction did to its frame.
-pub fn go_on(
-    alloc: Global,
-    classes: &Classes,
-    act: Act,
-    now: Frame,
-    world: &mut World,
-    waiting: &mut Stack<Waiting>,
-) -> Result<Did, WantOfMemory>
-    ensures step { IfOk result (λ did. acts classes.now waiting.old (world.old, acted act now) ≡ step_done classes.now did world.new waiting.new) }
-    ensures memory { OnErr result (IsTrue (act_takes (acted act now))) }
-{
-    let on = settle(alloc, classes, act, now, world, waiting)?;
-    Ok(Did::Moves(on))
-}
-
 /// A reference was null where an object is wanted.
 pub fn null_pointer(
     alloc: Global,
     classes: &Classes,
-    now: Frame,
+    now: &mut Frame,
     world: &mut World,
     waiting: &mut Stack<Waiting>,
-) -> Result<Did, WantOfMemory>
-    ensures { IfOk result (λ did. null_pointer_step classes.now world.old now waiting.old ≡ step_done classes.now did world.new waiting.new) }
+) -> Result<Onward, WantOfMemory>
+    ensures { IfOk result (λ on. null_pointer_step classes.now world.old now.old waiting.old ≡ Moves Quiet (state_of on world.new now.new waiting.new)) }
 {
-    let mut now = now;
-    let act = throw_in(Fault::NullPointer, &mut now);
-    go_on(alloc, classes, act, now, world, waiting)
-}
-
-fn throw(
-    alloc: Global,
-    classes: &Classes,
-    address: u64,
-    now: Frame,
-    world: &mut World,
-    waiting: &mut Stack<Waiting>,
-) -> Result<Did, WantOfMemory>
-    ensures { IfOk result (λ did. Moves Quiet (thrown classes.now world.old now waiting.old address) ≡ step_done classes.now did world.new waiting.new) }
-{
-    waiting.push(Waiting::Caller(now))?;
-    let on = throw_among(alloc, classes, world, waiting, address)?;
-    Ok(Did::Moves(on))
+    let act = throw_in(Fault::NullPointer, now);
+    settle(alloc, classes, act, now, world, waiting)
 }
 
 /// athrow.
 pub fn throw_top(
     alloc: Global,
     classes: &Classes,
-    now: Frame,
+    now: &mut Frame,
     world: &mut World,
     waiting: &mut Stack<Waiting>,
-) -> Result<Did, WantOfMemory>
-    ensures { IfOk result (λ did. throws_top classes.now world.old now waiting.old now.stack.values ≡ step_done classes.now did world.new waiting.new) }
+) -> Result<Onward, WantOfMemory>
+    ensures step { IfOk result (λ on. throws_top classes.now world.old now.old waiting.old now.old.stack.values ≡ Moves Quiet (state_of on world.new now.new waiting.new)) }
+    ensures memory { OnErr result (IsTrue (throw_takes classes.now world.old now.old waiting.old now.old.stack.values)) }
 {
-    let mut now = now;
     match now.stack.pop() {
-        Some(Value::Address(address)) => throw(alloc, classes, address, now, world, waiting),
+        Some(Value::Address(address)) => {
+            throw_object(alloc, classes, address, now, world, waiting)
+        }
         Some(Value::NullValue) => null_pointer(alloc, classes, now, world, waiting),
-        _ => Ok(stuck()),
+        _ => Ok(Onward::Ends(Ending::Stuck)),
     }
 }

@@ -1,38 +1,42 @@
 // Calls. The caller waits at its call, with the arguments taken from its stack.
-ghost use Rattle.std.specs.Prelude.{◌≡◌, ◌∷◌, [], IfOk, Some, None, option_and_then, slice_get};
-ghost use Rattle.jc_jvm.specs.Calls.{arguments_of, called as call_of, called_by, entered, selecting_class, called_virtually, called_specially, called_statically};
+ghost use Rattle.std.specs.Prelude.{◌≡◌, ◌≤◌, [], IfOk, IsTrue, OnErr, Some, drop, length, option_and_then, reverse, slice_get, take};
+ghost use Rattle.jc_jvm.specs.Calls.{Moves, Quiet, arguments_of, called as call_of, called_by, entered, selecting_class, called_virtually, called_specially, called_statically};
 ghost use Rattle.jc_jvm.specs.Classes.{selected as selected_by};
-ghost use Rattle.jc_jvm.specs.Frames.{frame_of};
-ghost use Rattle.jc_jvm.specs.Table.{first_initialised};
-ghost use Rattle.jc_stepping.specs.Done.{step_done};
+ghost use Rattle.jc_stepping.specs.Done.{KeptWhenAsks, step_done};
+ghost use Rattle.jc_stepping.specs.Takes.{call_takes, method_takes, special_takes, static_takes, virtual_takes};
+ghost use Rattle.jc_waiting.specs.Onwards.{state_of};
 
 use crate::Did;
 use crate::act::{null_pointer, stuck};
 use crate::natives::call_native;
-use jc_calls::{frame_for, select_method, take_arguments};
+use jc_calls::{frame_on, has_arguments, select_method};
 use jc_class_out::ClassModel;
 use jc_heap::{Classes, class_spelled};
-use jc_jvm::{Cell, Frame, Native, Sort, Value, Waiting, World};
+use jc_jvm::{Cell, Ending, Frame, Native, Operands, Sort, Value, Waiting, World};
 use jc_lookups::find_native;
 use jc_rules::WantOfMemory;
-use jc_waiting::{Onward, Readiness, Stack, make_ready};
+use jc_waiting::{Onward, Stack};
 use std::alloc::Global;
+use std::mem;
 
+// The method's frame runs, and its caller waits without so many values from the top of its stack.
 fn enter(
-    classes: &Classes,
     frame: Option<Frame>,
-    now: Frame,
+    count: usize,
+    now: &mut Frame,
     world: &World,
     waiting: &mut Stack<Waiting>,
-) -> Result<Did, WantOfMemory>
-    ensures { IfOk result (λ did. entered world.now now waiting.old now.stack.values frame ≡ step_done classes.now did world.now waiting.new) }
+) -> Result<Onward, WantOfMemory>
+    ensures { IfOk result (λ on. entered world.now now.old waiting.old (drop count now.old.stack.values) frame ≡ Moves Quiet (state_of on world.now now.new waiting.new)) }
 {
     match frame {
         Some(frame) => {
-            waiting.push(Waiting::Caller(now))?;
-            Ok(Did::Moves(Onward::Runs(frame)))
+            now.stack.discard(count);
+            let caller = mem::replace(now, frame);
+            waiting.push(Waiting::Caller(caller))?;
+            Ok(Onward::Runs)
         }
-        None => Ok(stuck()),
+        None => Ok(Onward::Ends(Ending::Stuck)),
     }
 }
 
@@ -42,41 +46,48 @@ fn call_as(
     class: u64,
     method: u64,
     native: Option<Native>,
-    arguments: &[Value],
+    count: usize,
     next: u32,
-    now: Frame,
+    now: &mut Frame,
     world: &mut World,
     waiting: &mut Stack<Waiting>,
 ) -> Result<Did, WantOfMemory>
-    ensures { IfOk result (λ did. called_by classes.now world.old next now waiting.old (class, method) arguments.now now.stack.values native ≡ step_done classes.now did world.new waiting.new) }
+    requires { count ≤ length now.old.stack.values }
+    ensures step { IfOk result (λ did. called_by classes.now world.old next now.old waiting.old (class, method) (reverse (take count now.old.stack.values)) (drop count now.old.stack.values) native ≡ step_done classes.now did world.new now.new waiting.new) }
+    ensures kept { IfOk result (λ did. KeptWhenAsks did world.old now.old waiting.old world.new now.new waiting.new) }
+    ensures memory { OnErr result (IsTrue (method_takes native)) }
 {
     match native {
-        Some(native) => call_native(alloc, classes, native, arguments, next, now, world, waiting),
+        Some(native) => call_native(alloc, classes, native, count, next, now, world, waiting),
         None => {
-            let frame = frame_for(alloc, classes.models(), class, method, arguments)?;
-            enter(classes, frame, now, world, waiting)
+            let frame = frame_on(alloc, classes.models(), class, method, count, &now.stack)?;
+            let on = enter(frame, count, now, world, waiting)?;
+            Ok(Did::Moves(on))
         }
     }
 }
 
-// The method is called with these arguments, which were taken from the frame's stack.
+// The method is called with so many arguments from the top of the frame's stack.
 fn call(
     alloc: Global,
     classes: &Classes,
     target: Option<(u64, u64)>,
-    arguments: &[Value],
+    count: usize,
     next: u32,
-    now: Frame,
+    now: &mut Frame,
     world: &mut World,
     waiting: &mut Stack<Waiting>,
 ) -> Result<Did, WantOfMemory>
-    ensures { IfOk result (λ did. call_of classes.now world.old next now waiting.old arguments.now now.stack.values target ≡ step_done classes.now did world.new waiting.new) }
+    requires { count ≤ length now.old.stack.values }
+    ensures step { IfOk result (λ did. call_of classes.now world.old next now.old waiting.old (reverse (take count now.old.stack.values)) (drop count now.old.stack.values) target ≡ step_done classes.now did world.new now.new waiting.new) }
+    ensures kept { IfOk result (λ did. KeptWhenAsks did world.old now.old waiting.old world.new now.new waiting.new) }
+    ensures memory { OnErr result (IsTrue (call_takes classes.now target)) }
 {
     match target {
         Some((class, method)) => {
             let native = find_native(classes.models(), class, method);
             call_as(
-                alloc, classes, class, method, native, arguments, next, now, world, waiting,
+                alloc, classes, class, method, native, count, next, now, world, waiting,
             )
         }
         None => Ok(stuck()),
@@ -117,31 +128,19 @@ fn select(
     }
 }
 
-fn call_on(
-    alloc: Global,
-    classes: &Classes,
-    name: &[u16],
-    descriptor: &[u16],
-    arguments: &[Value],
-    next: u32,
-    now: Frame,
-    world: &mut World,
-    waiting: &mut Stack<Waiting>,
-) -> Result<Did, WantOfMemory>
-    ensures { IfOk result (λ did. called_virtually classes.now name.now descriptor.now world.old next now waiting.old (Some (arguments.now, now.stack.values)) ≡ step_done classes.now did world.new waiting.new) }
+// The object of a call with so many arguments, itself among them.
+fn receiver(count: usize, stack: &Operands) -> Option<Value>
+    requires { count ≤ length stack.now.values }
+    ensures { result ≡ slice_get (reverse (take count stack.now.values)) 0 }
 {
-    match arguments {
-        [Value::Address(at), ..] => {
-            let class = class_for(classes.models(), world, *at);
-            let target = select(classes.models(), name, descriptor, class);
-            call(alloc, classes, target, arguments, next, now, world, waiting)
-        }
-        [Value::NullValue, ..] => null_pointer(alloc, classes, now, world, waiting),
-        _ => Ok(stuck()),
+    match stack.top(count) {
+        Some(arguments) => arguments.first().copied(),
+        None => None,
     }
 }
 
 /// invokevirtual and invokeinterface.
+#[tactic(auto, using(crate::proofs::Receivers::virtual_rules))]
 pub fn call_virtual(
     alloc: Global,
     classes: &Classes,
@@ -149,106 +148,79 @@ pub fn call_virtual(
     descriptor: &[u16],
     sorts: &[Sort],
     next: u32,
-    now: Frame,
+    now: &mut Frame,
     world: &mut World,
     waiting: &mut Stack<Waiting>,
 ) -> Result<Did, WantOfMemory>
-    ensures { IfOk result (λ did. called_virtually classes.now name.now descriptor.now world.old next now waiting.old (arguments_of sorts.now now.stack.values) ≡ step_done classes.now did world.new waiting.new) }
+    ensures step { IfOk result (λ did. called_virtually classes.now name.now descriptor.now world.old next now.old waiting.old (arguments_of sorts.now now.old.stack.values) ≡ step_done classes.now did world.new now.new waiting.new) }
+    ensures kept { IfOk result (λ did. KeptWhenAsks did world.old now.old waiting.old world.new now.new waiting.new) }
+    ensures memory { OnErr result (IsTrue (virtual_takes classes.now name.now descriptor.now world.old (arguments_of sorts.now now.old.stack.values))) }
 {
-    let mut now = now;
-    match take_arguments(alloc, sorts, &mut now.stack)? {
-        Some(arguments) => call_on(
-            alloc, classes, name, descriptor, &arguments, next, now, world, waiting,
-        ),
-        None => Ok(stuck()),
+    if !has_arguments(sorts, &now.stack) {
+        return Ok(stuck());
     }
-}
-
-fn call_this(
-    alloc: Global,
-    classes: &Classes,
-    target: Option<(u64, u64)>,
-    arguments: &[Value],
-    next: u32,
-    now: Frame,
-    world: &mut World,
-    waiting: &mut Stack<Waiting>,
-) -> Result<Did, WantOfMemory>
-    ensures { IfOk result (λ did. called_specially classes.now target world.old next now waiting.old (Some (arguments.now, now.stack.values)) ≡ step_done classes.now did world.new waiting.new) }
-{
-    match arguments {
-        [Value::Address(_), ..] => call(
-            alloc, classes, target, arguments, next, now, world, waiting,
-        ),
-        [Value::NullValue, ..] => null_pointer(alloc, classes, now, world, waiting),
+    match receiver(sorts.len(), &now.stack) {
+        Some(Value::Address(at)) => {
+            let class = class_for(classes.models(), world, at);
+            let target = select(classes.models(), name, descriptor, class);
+            call(
+                alloc,
+                classes,
+                target,
+                sorts.len(),
+                next,
+                now,
+                world,
+                waiting,
+            )
+        }
+        Some(Value::NullValue) => {
+            let on = null_pointer(alloc, classes, now, world, waiting)?;
+            Ok(Did::Moves(on))
+        }
         _ => Ok(stuck()),
     }
 }
 
 /// invokespecial.
+#[tactic(auto, using(crate::proofs::Receivers::special_rules))]
 pub fn call_special(
     alloc: Global,
     classes: &Classes,
     target: Option<(u64, u64)>,
     sorts: &[Sort],
     next: u32,
-    now: Frame,
+    now: &mut Frame,
     world: &mut World,
     waiting: &mut Stack<Waiting>,
 ) -> Result<Did, WantOfMemory>
-    ensures { IfOk result (λ did. called_specially classes.now target world.old next now waiting.old (arguments_of sorts.now now.stack.values) ≡ step_done classes.now did world.new waiting.new) }
+    ensures step { IfOk result (λ did. called_specially classes.now target world.old next now.old waiting.old (arguments_of sorts.now now.old.stack.values) ≡ step_done classes.now did world.new now.new waiting.new) }
+    ensures kept { IfOk result (λ did. KeptWhenAsks did world.old now.old waiting.old world.new now.new waiting.new) }
+    ensures memory { OnErr result (IsTrue (special_takes classes.now target (arguments_of sorts.now now.old.stack.values))) }
 {
-    let mut now = now;
-    match take_arguments(alloc, sorts, &mut now.stack)? {
-        Some(arguments) => call_this(
-            alloc, classes, target, &arguments, next, now, world, waiting,
+    if !has_arguments(sorts, &now.stack) {
+        return Ok(stuck());
+    }
+    match receiver(sorts.len(), &now.stack) {
+        Some(Value::Address(_)) => call(
+            alloc,
+            classes,
+            target,
+            sorts.len(),
+            next,
+            now,
+            world,
+            waiting,
         ),
-        None => Ok(stuck()),
+        Some(Value::NullValue) => {
+            let on = null_pointer(alloc, classes, now, world, waiting)?;
+            Ok(Did::Moves(on))
+        }
+        _ => Ok(stuck()),
     }
 }
 
-fn call_with(
-    alloc: Global,
-    classes: &Classes,
-    class: u64,
-    method: u64,
-    arguments: &[Value],
-    next: u32,
-    now: Frame,
-    world: &mut World,
-    waiting: &mut Stack<Waiting>,
-) -> Result<Did, WantOfMemory>
-    ensures { IfOk result (λ did. called_statically classes.now (class, method) world.old next now waiting.old (Some (arguments.now, now.stack.values)) ≡ step_done classes.now did world.new waiting.new) }
-{
-    let native = find_native(classes.models(), class, method);
-    call_as(
-        alloc, classes, class, method, native, arguments, next, now, world, waiting,
-    )
-}
-
-fn call_of_class(
-    alloc: Global,
-    classes: &Classes,
-    class: u64,
-    method: u64,
-    sorts: &[Sort],
-    next: u32,
-    now: Frame,
-    world: &mut World,
-    waiting: &mut Stack<Waiting>,
-) -> Result<Did, WantOfMemory>
-    ensures { IfOk result (λ did. called_statically classes.now (class, method) world.old next now waiting.old (arguments_of sorts.now now.stack.values) ≡ step_done classes.now did world.new waiting.new) }
-{
-    let mut now = now;
-    match take_arguments(alloc, sorts, &mut now.stack)? {
-        Some(arguments) => call_with(
-            alloc, classes, class, method, &arguments, next, now, world, waiting,
-        ),
-        None => Ok(stuck()),
-    }
-}
-
-/// invokestatic.
+/// invokestatic of a method whose class needs no initialisation.
 pub fn call_static(
     alloc: Global,
     classes: &Classes,
@@ -256,16 +228,25 @@ pub fn call_static(
     method: u64,
     sorts: &[Sort],
     next: u32,
-    now: Frame,
+    now: &mut Frame,
     world: &mut World,
     waiting: &mut Stack<Waiting>,
 ) -> Result<Did, WantOfMemory>
-    ensures { IfOk result (λ did. first_initialised classes.now world.old now waiting.old class (called_statically classes.now (class, method) world.old next now waiting.old (arguments_of sorts.now now.stack.values)) ≡ step_done classes.now did world.new waiting.new) }
+    ensures step { IfOk result (λ did. called_statically classes.now (class, method) world.old next now.old waiting.old (arguments_of sorts.now now.old.stack.values) ≡ step_done classes.now did world.new now.new waiting.new) }
+    ensures kept { IfOk result (λ did. KeptWhenAsks did world.old now.old waiting.old world.new now.new waiting.new) }
+    ensures memory { OnErr result (IsTrue (static_takes classes.now (class, method) (arguments_of sorts.now now.old.stack.values))) }
 {
-    match make_ready(alloc, classes, class, now, world, waiting)? {
-        Readiness::Ready(now) => call_of_class(
-            alloc, classes, class, method, sorts, next, now, world, waiting,
-        ),
-        Readiness::Done(on) => Ok(Did::Moves(on)),
+    if !has_arguments(sorts, &now.stack) {
+        return Ok(stuck());
     }
+    call(
+        alloc,
+        classes,
+        Some((class, method)),
+        sorts.len(),
+        next,
+        now,
+        world,
+        waiting,
+    )
 }

@@ -1,12 +1,11 @@
-use jc_jvm::Frame;
 use jc_waiting::Onward;
 
 /// What a step does.
-#[derive(Debug, Drop)]
+#[derive(Clone, Copy, Debug)]
 pub enum Did {
     Moves(Onward),
     /// A byte goes out.
     Puts { byte: u8, on: Onward },
     /// It asks for a byte of the input. The frame goes on behind its call, at `next`, with the byte, or with -1 at the input's end.
-    Asks { now: Frame, next: u32 },
+    Asks { next: u32 },
 }

@@ -4,7 +4,8 @@ ghost use Rattle.jc_jvm.specs.Objects.{field_pushed};
 ghost use Rattle.jc_jvm.specs.Table.{static_kept};
 ghost use Rattle.jc_jvm.specs.Worlds.{interned_in, state_of_class, statics_at};
 ghost use Rattle.jc_plain.specs.Acted.{acted};
-ghost use Rattle.jc_stepping.specs.InPlace.{if_open, is_open as open_by, literal_known, in_place};
+ghost use Rattle.jc_stepping.specs.InPlace.{if_open, literal_known, in_place};
+ghost use Rattle.jc_waiting.specs.Readying.{is_open as open_by};
 
 use crate::fields::keep_static;
 use crate::switches::switch;
@@ -12,18 +13,10 @@ use jc_heap::{
     Classes, array_length, cast, interned, load_element, load_field, push_field, store_element,
     store_field, test_kind,
 };
-use jc_jvm::{ClassState, Frame, Sort, Value, World};
+use jc_jvm::{Frame, Sort, Value, World};
 use jc_plain::{Act, act_plain, push};
 use jc_rows::Row;
-
-fn is_open(world: &World, class: u64) -> bool
-    ensures { result ≡ open_by (state_of_class world.now class) }
-{
-    match world.states.get(class as usize) {
-        Some(ClassState::Ready) | Some(ClassState::InProgress) => true,
-        _ => false,
-    }
-}
+use jc_waiting::is_open;
 
 fn push_known(text: &[u16], next: u32, now: &mut Frame, world: &World) -> Option<Act>
     ensures { MatchOption result ((literal_known world.now next now.old (interned_in world.now.interned text.now) ≡ None) × (now.new ≡ now.old)) (λ act. literal_known world.now next now.old (interned_in world.now.interned text.now) ≡ Some (world.now, acted act now.new)) }

@@ -6,6 +6,7 @@ mod calls;
 mod did;
 mod fields;
 mod in_place;
+mod making;
 mod natives;
 mod returns;
 mod rows;
@@ -13,4 +14,4 @@ mod switches;
 
 pub use did::Did;
 pub use in_place::act_in_place;
-pub use rows::step_row;
+pub use rows::{step_out, step_row};

@@ -1,21 +1,21 @@
 // The library's native methods, whose calls are a step each.
-ghost use Rattle.std.specs.Prelude.{◌≡◌, ◌∷◌, [], ◌%◌, IfOk, slice_get};
+ghost use Rattle.std.specs.Prelude.{◌≡◌, ◌≤◌, ◌∷◌, [], ◌%◌, IfOk, IsTrue, OnErr, drop, length, reverse, slice_get, take};
 ghost use Rattle.std.specs.Int.{w32, cast_unsigned};
-ghost use Rattle.jc_jvm.specs.Calls.{Moves, Puts, acts, identity_hash, named, name_made, settled, native_call};
-ghost use Rattle.jc_jvm.specs.Frames.{pushes, leaves};
 ghost use Rattle.std.specs.Option.{option_map};
+ghost use Rattle.jc_jvm.specs.Calls.{Moves, Quiet, identity_hash, named, name_made, native_call};
 ghost use Rattle.jc_jvm.specs.Types.{shape_of_cell, name_of_shape};
 ghost use Rattle.jc_jvm.specs.Worlds.{with_string};
-ghost use Rattle.jc_stepping.specs.Done.{step_done};
+ghost use Rattle.jc_stepping.specs.Done.{KeptWhenAsks, NeverAsks, step_done};
+ghost use Rattle.jc_stepping.specs.Takes.{native_takes};
+ghost use Rattle.jc_waiting.specs.Onwards.{state_of};
 
 use crate::Did;
-use crate::act::{go_on, stuck};
+use crate::act::stuck;
 use jc_heap::{Classes, make_string};
 use jc_jvm::{Base, Cell, Ending, Frame, Native, Shape, Value, Waiting, World};
 use jc_lookups::type_name;
-use jc_plain::{Act, push};
 use jc_rules::WantOfMemory;
-use jc_waiting::{Onward, Stack, settle};
+use jc_waiting::{Onward, Stack, go_on_with};
 use std::alloc::Global;
 
 fn hash_of(address: u64) -> Value
@@ -60,20 +60,16 @@ fn push_name(
     classes: &Classes,
     shape: Shape,
     next: u32,
-    now: Frame,
+    now: &mut Frame,
     world: &mut World,
-    waiting: &mut Stack<Waiting>,
-) -> Result<Did, WantOfMemory>
-    ensures { IfOk result (λ did. name_made classes.now world.old next now waiting.old now.stack.values (with_string classes.now (name_of_shape classes.now shape) world.old) ≡ step_done classes.now did world.new waiting.new) }
+    waiting: &Stack<Waiting>,
+) -> Result<Onward, WantOfMemory>
+    ensures { IfOk result (λ on. name_made classes.now world.old next now.old waiting.now now.old.stack.values (with_string classes.now (name_of_shape classes.now shape) world.old) ≡ Moves Quiet (state_of on world.new now.new waiting.now)) }
 {
-    let mut now = now;
     let name = type_name(alloc, classes.models(), shape)?;
     match make_string(alloc, classes, name.slice(), world)? {
-        Some(string) => {
-            let act = push(next, &mut now, Value::Address(string));
-            go_on(alloc, classes, act, now, world, waiting)
-        }
-        None => Ok(stuck()),
+        Some(string) => Ok(go_on_with(classes, Value::Address(string), next, now, world, waiting)),
+        None => Ok(Onward::Ends(Ending::Stuck)),
     }
 }
 
@@ -82,32 +78,16 @@ fn tell_name(
     classes: &Classes,
     address: u64,
     next: u32,
-    now: Frame,
+    now: &mut Frame,
     world: &mut World,
-    waiting: &mut Stack<Waiting>,
-) -> Result<Did, WantOfMemory>
-    ensures { IfOk result (λ did. named classes.now world.old next now waiting.old now.stack.values (slice_get world.old.heap address) ≡ step_done classes.now did world.new waiting.new) }
+    waiting: &Stack<Waiting>,
+) -> Result<Onward, WantOfMemory>
+    ensures { IfOk result (λ on. named classes.now world.old next now.old waiting.now now.old.stack.values (slice_get world.old.heap address) ≡ Moves Quiet (state_of on world.new now.new waiting.now)) }
 {
     match shape_at(world, address)? {
         Some(shape) => push_name(alloc, classes, shape, next, now, world, waiting),
-        None => Ok(stuck()),
+        None => Ok(Onward::Ends(Ending::Stuck)),
     }
-}
-
-fn push_hash(
-    alloc: Global,
-    classes: &Classes,
-    address: u64,
-    next: u32,
-    now: Frame,
-    world: &mut World,
-    waiting: &mut Stack<Waiting>,
-) -> Result<Did, WantOfMemory>
-    ensures { IfOk result (λ did. acts classes.now waiting.old (world.old, pushes next now now.stack.values (identity_hash address)) ≡ step_done classes.now did world.new waiting.new) }
-{
-    let mut now = now;
-    let act = push(next, &mut now, hash_of(address));
-    go_on(alloc, classes, act, now, world, waiting)
 }
 
 fn output_byte(n: i32) -> u8
@@ -116,68 +96,69 @@ fn output_byte(n: i32) -> u8
     (n.cast_unsigned() % 256) as u8
 }
 
-fn put_byte(
-    alloc: Global,
-    classes: &Classes,
-    n: i32,
-    next: u32,
-    now: Frame,
-    world: &mut World,
-    waiting: &mut Stack<Waiting>,
-) -> Result<Did, WantOfMemory>
-    ensures { IfOk result (λ did. Moves (Puts (cast_unsigned w32 n % 256)) (settled classes.now world.old waiting.old (leaves next now now.stack.values)) ≡ step_done classes.now did world.new waiting.new) }
-{
-    let on = settle(alloc, classes, Act::Goes(next), now, world, waiting)?;
-    Ok(Did::Puts {
-        byte: output_byte(n),
-        on,
-    })
-}
-
 fn call_with_one(
     alloc: Global,
     classes: &Classes,
     native: Native,
     argument: Value,
     next: u32,
-    now: Frame,
+    now: &mut Frame,
     world: &mut World,
-    waiting: &mut Stack<Waiting>,
+    waiting: &Stack<Waiting>,
 ) -> Result<Did, WantOfMemory>
-    ensures { IfOk result (λ did. native_call classes.now world.old next now waiting.old native (argument ∷ []) now.stack.values ≡ step_done classes.now did world.new waiting.new) }
+    ensures step { IfOk result (λ did. native_call classes.now world.old next now.old waiting.now native (argument ∷ []) now.old.stack.values ≡ step_done classes.now did world.new now.new waiting.now) }
+    ensures kept { IfOk result (λ did. NeverAsks did) }
+    ensures memory { OnErr result (IsTrue (native_takes native)) }
 {
     match (native, argument) {
         (Native::HashCode, Value::Address(at)) => {
-            push_hash(alloc, classes, at, next, now, world, waiting)
+            let on = go_on_with(classes, hash_of(at), next, now, world, waiting);
+            Ok(Did::Moves(on))
         }
         (Native::ClassName, Value::Address(at)) => {
-            tell_name(alloc, classes, at, next, now, world, waiting)
+            let on = tell_name(alloc, classes, at, next, now, world, waiting)?;
+            Ok(Did::Moves(on))
         }
         (Native::Halt, Value::Whole(code)) => Ok(Did::Moves(Onward::Ends(Ending::Exited(code)))),
-        (Native::Put, Value::Whole(n)) => put_byte(alloc, classes, n, next, now, world, waiting),
+        (Native::Put, Value::Whole(n)) => {
+            now.at = next;
+            Ok(Did::Puts {
+                byte: output_byte(n),
+                on: Onward::Runs,
+            })
+        }
         _ => Ok(stuck()),
     }
 }
 
-/// The call of a native method with these arguments, which were taken from the frame's stack.
+#[tactic(auto, using(crate::proofs::Natives::native_rules))]
+/// The call of a native method with so many arguments from the top of the frame's stack.
 pub fn call_native(
     alloc: Global,
     classes: &Classes,
     native: Native,
-    arguments: &[Value],
+    count: usize,
     next: u32,
-    now: Frame,
+    now: &mut Frame,
     world: &mut World,
-    waiting: &mut Stack<Waiting>,
+    waiting: &Stack<Waiting>,
 ) -> Result<Did, WantOfMemory>
-    ensures { IfOk result (λ did. native_call classes.now world.old next now waiting.old native arguments.now now.stack.values ≡ step_done classes.now did world.new waiting.new) }
+    requires { count ≤ length now.old.stack.values }
+    ensures step { IfOk result (λ did. native_call classes.now world.old next now.old waiting.now native (reverse (take count now.old.stack.values)) (drop count now.old.stack.values) ≡ step_done classes.now did world.new now.new waiting.now) }
+    ensures kept { IfOk result (λ did. KeptWhenAsks did world.old now.old waiting.now world.new now.new waiting.now) }
+    ensures memory { OnErr result (IsTrue (native_takes native)) }
 {
-    match arguments {
-        [] => match native {
-            Native::ReadByte => Ok(Did::Asks { now, next }),
+    match count {
+        0 => match native {
+            Native::ReadByte => Ok(Did::Asks { next }),
             _ => Ok(stuck()),
         },
-        [argument] => call_with_one(alloc, classes, native, *argument, next, now, world, waiting),
+        1 => match now.stack.pop() {
+            Some(argument) => call_with_one(
+                alloc, classes, native, argument, next, now, world, waiting,
+            ),
+            None => Ok(stuck()),
+        },
         _ => Ok(stuck()),
     }
 }

@@ -1,12 +1,10 @@
 // Returns.
-ghost use Rattle.std.specs.Prelude.{◌≡◌, ◌∷◌, IfOk};
-ghost use Rattle.jc_jvm.specs.Calls.{behind as behind_call, returned as returned_by};
+ghost use Rattle.std.specs.Prelude.{◌≡◌, ◌∷◌, IfOk, IsTrue, OnErr, Some};
+ghost use Rattle.jc_jvm.specs.Calls.{Moves, Quiet, behind as behind_call, returned as returned_by};
 ghost use Rattle.jc_jvm.specs.Table.{given_back, returns_by};
-ghost use Rattle.jc_stepping.specs.Done.{step_done};
+ghost use Rattle.jc_stepping.specs.Takes.{return_takes};
 ghost use Rattle.jc_waiting.specs.Onwards.{state_of};
 
-use crate::Did;
-use crate::act::stuck;
 use jc_calls::give_back;
 use jc_jvm::{ClassState, Ending, Frame, Sort, Value, Waiting, World};
 use jc_rows::Program;
@@ -25,25 +23,18 @@ fn behind(program: &Program, now: &Frame) -> Option<u32>
 }
 
 fn return_to_caller(
-    alloc: Global,
     program: &Program,
     caller: Frame,
     value: Option<Value>,
-    world: &mut World,
-    waiting: &mut Stack<Waiting>,
-) -> Result<Onward, WantOfMemory>
-    ensures { IfOk result (λ on. returned_by program.now world.old (Waiting.Caller caller ∷ waiting.old) value ≡ state_of on world.new waiting.new) }
+    now: &mut Frame,
+    world: &World,
+    waiting: &Stack<Waiting>,
+) -> Onward
+    ensures { returned_by program.now world.now (Waiting.Caller caller ∷ waiting.now) value ≡ state_of result world.now now.new waiting.now }
 {
     let next = behind(program, &caller);
-    return_to(
-        alloc,
-        program.classes(),
-        caller,
-        value,
-        next,
-        world,
-        waiting,
-    )
+    *now = caller;
+    return_to(program.classes(), value, next, now, world, waiting)
 }
 
 fn return_from_initialiser(
@@ -51,16 +42,18 @@ fn return_from_initialiser(
     program: &Program,
     class: u64,
     value: Option<Value>,
+    now: &mut Frame,
     world: &mut World,
     waiting: &mut Stack<Waiting>,
 ) -> Result<Onward, WantOfMemory>
-    ensures { IfOk result (λ on. returned_by program.now world.old (Waiting.Initialising class ∷ waiting.old) value ≡ state_of on world.new waiting.new) }
+    ensures step { IfOk result (λ on. returned_by program.now world.old (Waiting.Initialising class ∷ waiting.old) value ≡ state_of on world.new now.new waiting.new) }
+    ensures memory { OnErr result (IsTrue (return_takes (Waiting.Initialising class ∷ waiting.old) (Some value))) }
 {
     match value {
         Some(_) => Ok(Onward::Ends(Ending::Stuck)),
         None => {
             set_state(world, ClassState::Ready, class);
-            resume(alloc, program.classes(), world, waiting)
+            resume(alloc, program.classes(), now, world, waiting)
         }
     }
 }
@@ -69,18 +62,20 @@ fn return_from(
     alloc: Global,
     program: &Program,
     value: Option<Value>,
+    now: &mut Frame,
     world: &mut World,
     waiting: &mut Stack<Waiting>,
 ) -> Result<Onward, WantOfMemory>
-    ensures { IfOk result (λ on. returned_by program.now world.old waiting.old value ≡ state_of on world.new waiting.new) }
+    ensures step { IfOk result (λ on. returned_by program.now world.old waiting.old value ≡ state_of on world.new now.new waiting.new) }
+    ensures memory { OnErr result (IsTrue (return_takes waiting.old (Some value))) }
 {
     match waiting.pop() {
-        Some(Waiting::Caller(caller)) => return_to_caller(
-            alloc, program, caller, value, world, waiting,
-        ),
+        Some(Waiting::Caller(caller)) => Ok(return_to_caller(
+            program, caller, value, now, world, waiting,
+        )),
         Some(Waiting::Prepared(_)) => Ok(Onward::Ends(Ending::Stuck)),
         Some(Waiting::Initialising(class)) => return_from_initialiser(
-            alloc, program, class, value, world, waiting,
+            alloc, program, class, value, now, world, waiting,
         ),
         None => Ok(Onward::Ends(Ending::Ended)),
     }
@@ -92,18 +87,15 @@ pub fn leave(
     program: &Program,
     wanted: Option<Sort>,
     given: Option<Sort>,
-    now: Frame,
+    now: &mut Frame,
     world: &mut World,
     waiting: &mut Stack<Waiting>,
-) -> Result<Did, WantOfMemory>
-    ensures { IfOk result (λ did. returns_by program.now world.old waiting.old (given_back wanted given now.stack.values) ≡ step_done program.now did world.new waiting.new) }
+) -> Result<Onward, WantOfMemory>
+    ensures step { IfOk result (λ on. returns_by program.now world.old waiting.old (given_back wanted given now.old.stack.values) ≡ Moves Quiet (state_of on world.new now.new waiting.new)) }
+    ensures memory { OnErr result (IsTrue (return_takes waiting.old (given_back wanted given now.old.stack.values))) }
 {
-    let mut now = now;
     match give_back(wanted, given, &mut now.stack) {
-        Some(value) => {
-            let on = return_from(alloc, program, value, world, waiting)?;
-            Ok(Did::Moves(on))
-        }
-        None => Ok(stuck()),
+        Some(value) => return_from(alloc, program, value, now, world, waiting),
+        None => Ok(Onward::Ends(Ending::Stuck)),
     }
 }

@@ -1,78 +1,71 @@
 // One step, by its row.
-ghost use Rattle.std.specs.Prelude.{◌≡◌, IfOk, OnErr, IsTrue, MatchOption, Some, None};
-ghost use Rattle.jc_plain.specs.Acted.{acted};
-ghost use Rattle.jc_rows.specs.Acts.{row_act, row_run, row_step};
-ghost use Rattle.jc_stepping.specs.Done.{step_done};
-ghost use Rattle.jc_stepping.specs.InPlace.{in_place, may_take};
+ghost use Rattle.std.specs.Prelude.{◌≡◌, IfOk, OnErr, IsTrue, None, if◌then◌else◌, true};
+ghost use Rattle.jc_jvm.specs.Calls.{called_statically, arguments_of};
+ghost use Rattle.jc_jvm.specs.Table.{first_initialised};
+ghost use Rattle.jc_jvm.specs.Worlds.{state_of_class};
+ghost use Rattle.jc_rows.specs.Acts.{row_step};
+ghost use Rattle.jc_stepping.specs.Done.{KeptWhenAsks, step_done};
+ghost use Rattle.jc_stepping.specs.InPlace.{in_place};
+ghost use Rattle.jc_stepping.specs.Takes.{may_take, row_takes, static_takes};
+ghost use Rattle.jc_waiting.specs.Readying.{is_open as open_by};
 
 use crate::Did;
-use crate::act::{go_on, stuck, throw_top};
+use crate::act::{stuck, throw_top};
 use crate::calls::{call_special, call_static, call_virtual};
-use crate::fields::{load_static, make_object, store_static};
 use crate::in_place::act_in_place;
+use crate::making::make;
 use crate::returns::leave;
-use jc_heap::{Classes, new_array, push_literal};
-use jc_jvm::{Frame, Waiting, World};
-use jc_nests::new_nest;
-use jc_plain::Act;
+use jc_heap::Classes;
+use jc_jvm::{Frame, Sort, Waiting, World};
 use jc_rows::{Program, Row};
 use jc_rules::WantOfMemory;
-use jc_waiting::Stack;
+use jc_waiting::{Stack, initialise_first, is_open, settle};
 use std::alloc::Global;
 
-// The rows that run no other code and may make a string or an array.
-fn act_making(
+// invokestatic.
+fn call_of_class(
     alloc: Global,
     classes: &Classes,
-    row: &Row,
+    class: u64,
+    method: u64,
+    sorts: &[Sort],
     next: u32,
     now: &mut Frame,
     world: &mut World,
-) -> Result<Option<Act>, WantOfMemory>
-    requires { in_place classes.now world.old next now.old row.now ≡ None }
-    ensures { IfOk result (λ act. MatchOption act ((row_act classes.now world.old next now.old row.now ≡ None) × (world.new ≡ world.old) × (now.new ≡ now.old)) (λ a. row_act classes.now world.old next now.old row.now ≡ Some (world.new, acted a now.new))) }
+    waiting: &mut Stack<Waiting>,
+) -> Result<Did, WantOfMemory>
+    ensures step { IfOk result (λ did. first_initialised classes.now world.old now.old waiting.old class (called_statically classes.now (class, method) world.old next now.old waiting.old (arguments_of sorts.now now.old.stack.values)) ≡ step_done classes.now did world.new now.new waiting.new) }
+    ensures kept { IfOk result (λ did. KeptWhenAsks did world.old now.old waiting.old world.new now.new waiting.new) }
+    ensures memory { OnErr result (IsTrue (if open_by (state_of_class world.old class) then static_takes classes.now (class, method) (arguments_of sorts.now now.old.stack.values) else true)) }
 {
-    match row {
-        Row::Literal(text) => {
-            let act = push_literal(alloc, classes, text, world, next, now)?;
-            Ok(Some(act))
-        }
-        Row::NewArray(of) => {
-            let act = new_array(alloc, *of, world, next, now)?;
-            Ok(Some(act))
-        }
-        Row::NewNest { shape, dims } => {
-            let act = new_nest(alloc, *shape, *dims, world, next, now)?;
-            Ok(Some(act))
-        }
-        _ => Ok(None),
+    if is_open(world, class) {
+        call_static(
+            alloc, classes, class, method, sorts, next, now, world, waiting,
+        )
+    } else {
+        let on = initialise_first(alloc, classes, class, now, world, waiting)?;
+        Ok(Did::Moves(on))
     }
 }
 
-// The other rows.
-fn run_row(
+/// One step of a frame whose instruction is this row, where it isn't done in place.
+#[tactic(auto, using(crate::proofs::InPlace::closed))]
+pub fn step_out(
     alloc: Global,
     program: &Program,
     row: &Row,
     next: u32,
-    now: Frame,
+    now: &mut Frame,
     world: &mut World,
     waiting: &mut Stack<Waiting>,
 ) -> Result<Did, WantOfMemory>
-    ensures { IfOk result (λ did. row_run program.now world.old next now waiting.old row.now ≡ step_done program.now did world.new waiting.new) }
+    requires { in_place program.now world.old next now.old row.now ≡ None }
+    ensures step { IfOk result (λ did. row_step program.now world.old next now.old waiting.old row.now ≡ step_done program.now did world.new now.new waiting.new) }
+    ensures kept { IfOk result (λ did. KeptWhenAsks did world.old now.old waiting.old world.new now.new waiting.new) }
+    ensures memory { OnErr result (IsTrue (row_takes program.now world.old now.old waiting.old row.now)) }
 {
     let classes = program.classes();
     match row {
-        Row::Return { wanted, given } => leave(
-            alloc, program, *wanted, *given, now, world, waiting,
-        ),
-        Row::Throw => throw_top(alloc, classes, now, world, waiting),
-        Row::LoadStatic { sort, class, field } => load_static(
-            alloc, classes, *sort, *class, *field, next, now, world, waiting,
-        ),
-        Row::StoreStatic { sort, class, field } => store_static(
-            alloc, classes, *sort, *class, *field, next, now, world, waiting,
-        ),
         Row::CallVirtual {
             name,
             descriptor,
@@ -102,7 +95,7 @@ fn run_row(
             class,
             method,
             sorts,
-        } => call_static(
+        } => call_of_class(
             alloc,
             classes,
             *class,
@@ -113,28 +106,23 @@ fn run_row(
             world,
             waiting,
         ),
-        Row::New(class) => make_object(alloc, classes, *class, next, now, world, waiting),
+        Row::Return { wanted, given } => {
+            let on = leave(alloc, program, *wanted, *given, now, world, waiting)?;
+            Ok(Did::Moves(on))
+        }
+        Row::Throw => {
+            let on = throw_top(alloc, classes, now, world, waiting)?;
+            Ok(Did::Moves(on))
+        }
+        Row::LoadStatic { class, .. } | Row::StoreStatic { class, .. } => {
+            let on = initialise_first(alloc, classes, *class, now, world, waiting)?;
+            Ok(Did::Moves(on))
+        }
+        Row::New(_) | Row::NewArray(_) | Row::NewNest { .. } | Row::Literal(_) => {
+            let on = make(alloc, classes, row, next, now, world, waiting)?;
+            Ok(Did::Moves(on))
+        }
         _ => Ok(stuck()),
-    }
-}
-
-// A row that isn't done in place.
-fn step_out(
-    alloc: Global,
-    program: &Program,
-    row: &Row,
-    next: u32,
-    now: Frame,
-    world: &mut World,
-    waiting: &mut Stack<Waiting>,
-) -> Result<Did, WantOfMemory>
-    requires { in_place program.now world.old next now row.now ≡ None }
-    ensures { IfOk result (λ did. row_step program.now world.old next now waiting.old row.now ≡ step_done program.now did world.new waiting.new) }
-{
-    let mut now = now;
-    match act_making(alloc, program.classes(), row, next, &mut now, world)? {
-        Some(act) => go_on(alloc, program.classes(), act, now, world, waiting),
-        None => run_row(alloc, program, row, next, now, world, waiting),
     }
 }
 
@@ -145,16 +133,19 @@ pub fn step_row(
     program: &Program,
     row: &Row,
     next: u32,
-    now: Frame,
+    now: &mut Frame,
     world: &mut World,
     waiting: &mut Stack<Waiting>,
 ) -> Result<Did, WantOfMemory>
-    ensures step { IfOk result (λ did. row_step program.now world.old next now waiting.old row.now ≡ step_done program.now did world.new waiting.new) }
-    ensures memory { OnErr result (IsTrue (may_take program.now world.old next now row.now)) }
+    ensures step { IfOk result (λ did. row_step program.now world.old next now.old waiting.old row.now ≡ step_done program.now did world.new now.new waiting.new) }
+    ensures kept { IfOk result (λ did. KeptWhenAsks did world.old now.old waiting.old world.new now.new waiting.new) }
+    ensures memory { OnErr result (IsTrue (may_take program.now world.old next now.old waiting.old row.now)) }
 {
-    let mut now = now;
-    match act_in_place(program.classes(), row, next, &mut now, world) {
-        Some(act) => go_on(alloc, program.classes(), act, now, world, waiting),
+    match act_in_place(program.classes(), row, next, now, world) {
+        Some(act) => {
+            let on = settle(alloc, program.classes(), act, now, world, waiting)?;
+            Ok(Did::Moves(on))
+        }
         None => step_out(alloc, program, row, next, now, world, waiting),
     }
 }

@@ -1,3 +1,4 @@
 pub mod Onwards
 pub mod Readying
 pub mod Memory
+pub mod Passing

@@ -4,6 +4,7 @@ use Rattle.std.specs.declared.option.Option.{Option}
 use Rattle.std.specs.declared.option.Option.TheVariants.{Some, None}
 use Rattle.jc_class_out.specs.declared.model.ClassModel.{ClassModel}
 use Rattle.jc_jvm.specs.Thrown.{State, Going, Over, unwound}
+use Rattle.jc_jvm.specs.declared.frame.Frame.{Frame}
 use Rattle.jc_jvm.specs.declared.frame.Waiting.{Waiting}
 use Rattle.jc_jvm.specs.Initialising.{resumed}
 use Rattle.jc_jvm.specs.Worlds.{state_of_class}
@@ -17,20 +18,20 @@ use Rattle.jc_waiting.specs.declared.onward.Onward.TheVariants as onward
 use Rattle.jc_waiting.specs.declared.onward.Passed.{Passed}
 use Rattle.jc_waiting.specs.declared.onward.Passed.TheVariants.{Left, Goes}
 
--- with this world and what waits
-abbrev pub state_of : Onward → World → List Waiting → State
-state_of (onward.Runs frame) world waiting = Going world frame waiting
-state_of (onward.Ends ending) world waiting = Over ending
+-- with this world, frame and what waits
+abbrev pub state_of : Onward → World → Frame → List Waiting → State
+state_of onward.Runs world now waiting = Going world now waiting
+state_of (onward.Ends ending) world now waiting = Over ending
 
 -- the state after an exception passed what waited nearest
-abbrev pub state_after : List ClassModel → Passed → World → List Waiting → State
-state_after classes (Left on) world waiting = state_of on world waiting
-state_after classes (Goes thrown address) world waiting = unwound classes waiting world thrown address
+abbrev pub state_after : List ClassModel → Passed → World → Frame → List Waiting → State
+state_after classes (Left on) world now waiting = state_of on world now waiting
+state_after classes (Goes thrown address) world now waiting = unwound classes waiting world thrown address
 
 -- what waits goes on, unless it went on already
-abbrev pub state_resumed : List ClassModel → Option Onward → World → List Waiting → State
-state_resumed classes (Some on) world waiting = state_of on world waiting
-state_resumed classes None world waiting = resumed classes world waiting
+abbrev pub state_resumed : List ClassModel → Option Onward → World → Frame → List Waiting → State
+state_resumed classes (Some on) world now waiting = state_of on world now waiting
+state_resumed classes None world now waiting = resumed classes world waiting
 
 -- what has to be done about a superclass in this state
 abbrev pub first_by_state : ℕ → Option ClassState → First

@@ -1,19 +1,12 @@
--- What an instruction on a class does by whether it is initialised.
-use Rattle.std.specs.Prelude.{◌≡◌, List}
-use Rattle.jc_jvm.specs.Calls.{Step, Moves, Quiet}
-use Rattle.jc_jvm.specs.declared.frame.Frame.{Frame}
-use Rattle.jc_jvm.specs.declared.frame.Waiting.{Waiting}
-use Rattle.jc_jvm.specs.declared.world.World.{World}
-use Rattle.jc_waiting.specs.Onwards.{state_of}
-use Rattle.jc_waiting.specs.declared.ready.Readiness.{Readiness}
-use Rattle.jc_waiting.specs.declared.ready.Readiness.TheVariants.{Ready, Done}
+-- Which classes an instruction may act on (JVMS 5.5).
+use Rattle.std.specs.Prelude.{Bool, true, false}
+use Rattle.std.specs.declared.option.Option.{Option}
+use Rattle.std.specs.declared.option.Option.TheVariants.{Some}
+use Rattle.jc_jvm.specs.declared.world.ClassState.{ClassState}
+use Rattle.jc_jvm.specs.declared.world.ClassState.TheVariants.{InProgress, Ready}
 
--- the step is the instruction's own, or a move to how the machine goes on
-abbrev pub step_when : Readiness → World → List Waiting → Step → Step
-step_when (Ready frame) world waiting step = step
-step_when (Done on) world waiting step = Moves Quiet (state_of on world waiting)
-
--- where the instruction may act, all is as it was
-abbrev pub StaysWhenReady : Readiness → Frame → World → List Waiting → World → List Waiting → Type 0
-StaysWhenReady (Ready frame) now world waiting world' waiting' = (frame ≡ now) × (world' ≡ world) × (waiting' ≡ waiting)
-StaysWhenReady (Done on) now world waiting world' waiting' = Unit {0}
+-- a class that needs no initialisation before an instruction acts on it
+abbrev pub is_open : Option ClassState → Bool
+is_open (Some Ready) = true
+is_open (Some InProgress) = true
+is_open _ = false

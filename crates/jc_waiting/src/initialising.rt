@@ -8,7 +8,7 @@ use crate::{Onward, Stack, set_state, throw_fault_among};
 use jc_calls::{find_initialiser, frame_for};
 use jc_class_out::ClassModel;
 use jc_heap::{Classes, has_flag, superclass};
-use jc_jvm::{ClassState, Ending, Fault, Waiting, World};
+use jc_jvm::{ClassState, Ending, Fault, Frame, Waiting, World};
 use jc_rules::WantOfMemory;
 use std::alloc::Global;
 
@@ -17,15 +17,17 @@ fn begin(
     classes: &Classes,
     class: u64,
     method: u64,
+    now: &mut Frame,
     world: &World,
     waiting: &mut Stack<Waiting>,
 ) -> Result<Onward, WantOfMemory>
-    ensures { IfOk result (λ on. initialiser_begins classes.now world.now class waiting.old (frame_of classes.now (class, method) []) ≡ state_of on world.now waiting.new) }
+    ensures { IfOk result (λ on. initialiser_begins classes.now world.now class waiting.old (frame_of classes.now (class, method) []) ≡ state_of on world.now now.new waiting.new) }
 {
     match frame_for(alloc, classes.models(), class, method, &[])? {
         Some(frame) => {
             waiting.push(Waiting::Initialising(class))?;
-            Ok(Onward::Runs(frame))
+            *now = frame;
+            Ok(Onward::Runs)
         }
         None => Ok(Onward::Ends(Ending::Stuck)),
     }
@@ -36,15 +38,16 @@ fn resume_class(
     alloc: Global,
     classes: &Classes,
     class: u64,
+    now: &mut Frame,
     world: &mut World,
     waiting: &mut Stack<Waiting>,
 ) -> Result<Option<Onward>, WantOfMemory>
     ensures kept { IfOk result (λ on. IfNone on (waiting.new ≡ waiting.old)) }
-    ensures state { IfOk result (λ on. resumed classes.now world.old (Waiting.Prepared class ∷ waiting.old) ≡ state_resumed classes.now on world.new waiting.new) }
+    ensures state { IfOk result (λ on. resumed classes.now world.old (Waiting.Prepared class ∷ waiting.old) ≡ state_resumed classes.now on world.new now.new waiting.new) }
 {
     match find_initialiser(classes.models(), class) {
         Some(method) => {
-            let on = begin(alloc, classes, class, method as u64, world, waiting)?;
+            let on = begin(alloc, classes, class, method as u64, now, world, waiting)?;
             Ok(Some(on))
         }
         None => {
@@ -58,15 +61,19 @@ fn resume_nearest(
     alloc: Global,
     classes: &Classes,
     nearest: Waiting,
+    now: &mut Frame,
     world: &mut World,
     waiting: &mut Stack<Waiting>,
 ) -> Result<Option<Onward>, WantOfMemory>
     ensures kept { IfOk result (λ on. IfNone on (waiting.new ≡ waiting.old)) }
-    ensures state { IfOk result (λ on. resumed classes.now world.old (nearest ∷ waiting.old) ≡ state_resumed classes.now on world.new waiting.new) }
+    ensures state { IfOk result (λ on. resumed classes.now world.old (nearest ∷ waiting.old) ≡ state_resumed classes.now on world.new now.new waiting.new) }
 {
     match nearest {
-        Waiting::Caller(frame) => Ok(Some(Onward::Runs(frame))),
-        Waiting::Prepared(class) => resume_class(alloc, classes, class, world, waiting),
+        Waiting::Caller(frame) => {
+            *now = frame;
+            Ok(Some(Onward::Runs))
+        }
+        Waiting::Prepared(class) => resume_class(alloc, classes, class, now, world, waiting),
         Waiting::Initialising(class) => {
             set_state(world, ClassState::Ready, class);
             Ok(None)
@@ -78,13 +85,14 @@ fn resume_nearest(
 pub fn resume(
     alloc: Global,
     classes: &Classes,
+    now: &mut Frame,
     world: &mut World,
     waiting: &mut Stack<Waiting>,
 ) -> Result<Onward, WantOfMemory>
-    ensures { IfOk result (λ on. resumed classes.now world.old waiting.old ≡ state_of on world.new waiting.new) }
+    ensures { IfOk result (λ on. resumed classes.now world.old waiting.old ≡ state_of on world.new now.new waiting.new) }
 {
     while let Some(nearest) = waiting.pop() {
-        match resume_nearest(alloc, classes, nearest, world, waiting)? {
+        match resume_nearest(alloc, classes, nearest, now, world, waiting)? {
             Some(on) => return Ok(on),
             None => (),
         }
@@ -146,10 +154,11 @@ fn initialise_on(
     classes: &Classes,
     steps: usize,
     class: u64,
+    now: &mut Frame,
     world: &mut World,
     waiting: &mut Stack<Waiting>,
 ) -> Result<Onward, WantOfMemory>
-    ensures { IfOk result (λ on. initialised_on classes.now steps class world.old waiting.old ≡ state_of on world.new waiting.new) }
+    ensures { IfOk result (λ on. initialised_on classes.now steps class world.old waiting.old ≡ state_of on world.new now.new waiting.new) }
 {
     if steps == 0 {
         return Ok(Onward::Ends(Ending::Stuck));
@@ -158,10 +167,17 @@ fn initialise_on(
     waiting.push(Waiting::Prepared(class))?;
     match first_state(classes, class, world) {
         First::Untouched(before) => {
-            initialise_on(alloc, classes, steps - 1, before, world, waiting)
+            initialise_on(alloc, classes, steps - 1, before, now, world, waiting)
         }
-        First::Failed => throw_fault_among(alloc, classes, world, waiting, Fault::NoClassDefFound),
-        First::Nothing => resume(alloc, classes, world, waiting),
+        First::Failed => throw_fault_among(
+            alloc,
+            classes,
+            Fault::NoClassDefFound,
+            now,
+            world,
+            waiting,
+        ),
+        First::Nothing => resume(alloc, classes, now, world, waiting),
     }
 }
 
@@ -170,16 +186,18 @@ pub fn initialise(
     alloc: Global,
     classes: &Classes,
     class: u64,
+    now: &mut Frame,
     world: &mut World,
     waiting: &mut Stack<Waiting>,
 ) -> Result<Onward, WantOfMemory>
-    ensures { IfOk result (λ on. initialised classes.now class world.old waiting.old ≡ state_of on world.new waiting.new) }
+    ensures { IfOk result (λ on. initialised classes.now class world.old waiting.old ≡ state_of on world.new now.new waiting.new) }
 {
     initialise_on(
         alloc,
         classes,
         classes.models().len(),
         class,
+        now,
         world,
         waiting,
     )

@@ -1,15 +1,15 @@
-use jc_jvm::{Ending, Frame};
+use jc_jvm::Ending;
 
 /// How a machine goes on.
-#[derive(Debug, Drop)]
+#[derive(Clone, Copy, Debug)]
 pub enum Onward {
-    /// This frame runs.
-    Runs(Frame),
+    /// Its frame runs.
+    Runs,
     Ends(Ending),
 }
 
 /// What an exception did to what waited nearest.
-#[derive(Debug, Drop)]
+#[derive(Clone, Copy, Debug)]
 pub enum Passed {
     /// It goes no further.
     Left(Onward),

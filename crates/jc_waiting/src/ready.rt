@@ -1,47 +1,55 @@
-ghost use Rattle.std.specs.Prelude.{◌≡◌, IfOk};
+ghost use Rattle.std.specs.Prelude.{◌≡◌, IfOk, false};
+ghost use Rattle.jc_jvm.specs.Calls.{Moves, Quiet, Step};
 ghost use Rattle.jc_jvm.specs.Table.{first_initialised};
-ghost use Rattle.jc_waiting.specs.Readying.{step_when, StaysWhenReady};
-ghost use Rattle.jc_jvm.specs.Calls.{Step};
+ghost use Rattle.jc_jvm.specs.Worlds.{state_of_class};
+ghost use Rattle.jc_waiting.specs.Onwards.{state_of};
+ghost use Rattle.jc_waiting.specs.Readying.{is_open as open_by};
 
-use crate::{Onward, Stack, initialise, throw_fault_among};
+use crate::{Onward, Stack, initialise, throw_fault};
 use jc_heap::Classes;
 use jc_jvm::{ClassState, Ending, Fault, Frame, Waiting, World};
 use jc_rules::WantOfMemory;
 use std::alloc::Global;
+use std::mem;
 
-/// What an instruction on a class finds.
-#[derive(Debug, Drop)]
-pub enum Readiness {
-    /// The instruction may act in its frame.
-    Ready(Frame),
-    /// The instruction doesn't act now, and the machine goes on so.
-    Done(Onward),
+/// Whether a class needs no initialisation before an instruction acts on it.
+#[inline(always)]
+pub fn is_open(world: &World, class: u64) -> bool
+    ensures { result ≡ open_by (state_of_class world.now class) }
+{
+    match world.states.get(class as usize) {
+        Some(ClassState::Ready) | Some(ClassState::InProgress) => true,
+        _ => false,
+    }
 }
 
-/// A class has to be initialised before an instruction of this frame acts. The frame repeats its instruction then.
-pub fn make_ready(
+/// A class is initialised before an instruction of the frame that runs acts on it. The frame repeats its instruction then.
+pub fn initialise_first(
     alloc: Global,
     classes: &Classes,
     class: u64,
-    now: Frame,
+    now: &mut Frame,
     world: &mut World,
     waiting: &mut Stack<Waiting>,
-) -> Result<Readiness, WantOfMemory>
-    ensures step { IfOk result (λ r. (step : Step) → first_initialised classes.now world.old now waiting.old class step ≡ step_when r world.new waiting.new step) }
-    ensures stays { IfOk result (λ r. StaysWhenReady r now world.old waiting.old world.new waiting.new) }
+) -> Result<Onward, WantOfMemory>
+    requires { open_by (state_of_class world.old class) ≡ false }
+    ensures { IfOk result (λ on. (step : Step) → first_initialised classes.now world.old now.old waiting.old class step ≡ Moves Quiet (state_of on world.new now.new waiting.new)) }
 {
     match world.states.get(class as usize) {
-        Some(ClassState::Ready) | Some(ClassState::InProgress) => Ok(Readiness::Ready(now)),
-        Some(ClassState::Failed) => {
-            waiting.push(Waiting::Caller(now))?;
-            let on = throw_fault_among(alloc, classes, world, waiting, Fault::NoClassDefFound)?;
-            Ok(Readiness::Done(on))
-        }
+        Some(ClassState::Failed) => throw_fault(
+            alloc,
+            classes,
+            Fault::NoClassDefFound,
+            now,
+            world,
+            waiting,
+        ),
         Some(ClassState::Untouched) => {
-            waiting.push(Waiting::Caller(now))?;
-            let on = initialise(alloc, classes, class, world, waiting)?;
-            Ok(Readiness::Done(on))
+            let caller = mem::replace(now, Frame::empty(alloc));
+            waiting.push(Waiting::Caller(caller))?;
+            initialise(alloc, classes, class, now, world, waiting)
         }
-        None => Ok(Readiness::Done(Onward::Ends(Ending::Stuck))),
+        Some(ClassState::Ready) | Some(ClassState::InProgress) => Ok(Onward::Runs),
+        None => Ok(Onward::Ends(Ending::Stuck)),
     }
 }

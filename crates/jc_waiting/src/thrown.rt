@@ -1,6 +1,8 @@
-ghost use Rattle.std.specs.Prelude.{◌≡◌, ◌∷◌, IfOk, slice_get};
-ghost use Rattle.jc_jvm.specs.Thrown.{caught, unwound, class_of_cell, thrown_among, fault_among};
+ghost use Rattle.std.specs.Prelude.{◌≡◌, ◌∷◌, IfOk, IsTrue, OnErr, slice_get};
+ghost use Rattle.jc_jvm.specs.Thrown.{caught, unwound, class_of_cell, thrown as thrown_object, fault_among, fault_thrown};
+ghost use Rattle.jc_waiting.specs.Memory.{thrown_takes, unwound_takes};
 ghost use Rattle.jc_waiting.specs.Onwards.{state_of, state_after};
+ghost use Rattle.jc_waiting.specs.Passing.{GoesOnTaking};
 
 use crate::onward::Passed;
 use crate::{Onward, Stack, fault_class, is_error, is_throwable, set_state};
@@ -11,45 +13,60 @@ use jc_rules::WantOfMemory;
 use std::alloc::Global;
 
 // At the handler the exception alone stands on the stack, where there is room for it.
-fn catch_in(frame: Frame, to: u32, address: u64, world: &World, waiting: &Stack<Waiting>) -> Onward
-    ensures { caught address to frame world.now waiting.now ≡ state_of result world.now waiting.now }
+fn catch_in(
+    to: u32,
+    address: u64,
+    now: &mut Frame,
+    world: &World,
+    waiting: &Stack<Waiting>,
+) -> Onward
+    ensures { caught address to now.old world.now waiting.now ≡ state_of result world.now now.new waiting.now }
 {
-    let mut frame = frame;
-    frame.stack.clear();
-    if frame.stack.push(Value::Address(address)) {
-        frame.at = to;
-        Onward::Runs(frame)
+    now.stack.clear();
+    if now.stack.push(Value::Address(address)) {
+        now.at = to;
+        Onward::Runs
     } else {
         Onward::Ends(Ending::Stuck)
     }
 }
 
+#[tactic(auto, using(crate::proofs::Taking::passed_rules))]
 fn pass_frame(
     classes: &Classes,
     frame: Frame,
+    now: &mut Frame,
     world: &World,
     waiting: &Stack<Waiting>,
     thrown: u64,
     address: u64,
 ) -> Passed
-    ensures { unwound classes.now (Waiting.Caller frame ∷ waiting.now) world.now thrown address ≡ state_after classes.now result world.now waiting.now }
+    ensures state { unwound classes.now (Waiting.Caller frame ∷ waiting.now) world.now thrown address ≡ state_after classes.now result world.now now.new waiting.now }
+    ensures takes { GoesOnTaking classes.now (unwound_takes classes.now (Waiting.Caller frame ∷ waiting.now) thrown) waiting.now result }
 {
     match handler_for(classes, thrown, &frame) {
-        Some(to) => Passed::Left(catch_in(frame, to, address, world, waiting)),
+        Some(to) => {
+            *now = frame;
+            Passed::Left(catch_in(to, address, now, world, waiting))
+        }
         None => Passed::Goes { thrown, address },
     }
 }
 
+#[tactic(auto, using(crate::proofs::Taking::passed_rules))]
 fn pass_initialiser(
     alloc: Global,
     classes: &Classes,
     class: u64,
+    now: &Frame,
     world: &mut World,
     waiting: &Stack<Waiting>,
     thrown: u64,
     address: u64,
 ) -> Result<Passed, WantOfMemory>
-    ensures { IfOk result (λ passed. unwound classes.now (Waiting.Initialising class ∷ waiting.now) world.old thrown address ≡ state_after classes.now passed world.new waiting.now) }
+    ensures state { IfOk result (λ passed. unwound classes.now (Waiting.Initialising class ∷ waiting.now) world.old thrown address ≡ state_after classes.now passed world.new now.now waiting.now) }
+    ensures takes { IfOk result (GoesOnTaking classes.now (unwound_takes classes.now (Waiting.Initialising class ∷ waiting.now) thrown) waiting.now) }
+    ensures memory { OnErr result (IsTrue (unwound_takes classes.now (Waiting.Initialising class ∷ waiting.now) thrown)) }
 {
     set_state(world, ClassState::Failed, class);
     if is_error(classes, thrown) {
@@ -67,44 +84,54 @@ fn pass_initialiser(
     }
 }
 
+#[tactic(auto, using(crate::proofs::Taking::passed_rules))]
 fn pass(
     alloc: Global,
     classes: &Classes,
     nearest: Waiting,
+    now: &mut Frame,
     world: &mut World,
     waiting: &Stack<Waiting>,
     thrown: u64,
     address: u64,
 ) -> Result<Passed, WantOfMemory>
-    ensures { IfOk result (λ passed. unwound classes.now (nearest ∷ waiting.now) world.old thrown address ≡ state_after classes.now passed world.new waiting.now) }
+    ensures state { IfOk result (λ passed. unwound classes.now (nearest ∷ waiting.now) world.old thrown address ≡ state_after classes.now passed world.new now.new waiting.now) }
+    ensures takes { IfOk result (GoesOnTaking classes.now (unwound_takes classes.now (nearest ∷ waiting.now) thrown) waiting.now) }
+    ensures memory { OnErr result (IsTrue (unwound_takes classes.now (nearest ∷ waiting.now) thrown)) }
 {
     match nearest {
-        Waiting::Caller(frame) => Ok(pass_frame(classes, frame, world, waiting, thrown, address)),
+        Waiting::Caller(frame) => Ok(pass_frame(
+            classes, frame, now, world, waiting, thrown, address,
+        )),
         Waiting::Prepared(class) => {
             set_state(world, ClassState::Failed, class);
             Ok(Passed::Goes { thrown, address })
         }
         Waiting::Initialising(class) => {
-            pass_initialiser(alloc, classes, class, world, waiting, thrown, address)
+            pass_initialiser(alloc, classes, class, now, world, waiting, thrown, address)
         }
     }
 }
 
-/// An exception, by its class and address, leaves what waits, from the nearest on, up to a frame that handles it.
+/// An exception, by its class and address, leaves what waits, from the nearest on, up to a frame that handles it, which runs then.
 pub fn unwind(
     alloc: Global,
     classes: &Classes,
+    now: &mut Frame,
     world: &mut World,
     waiting: &mut Stack<Waiting>,
     thrown: u64,
     address: u64,
 ) -> Result<Onward, WantOfMemory>
-    ensures { IfOk result (λ on. unwound classes.now waiting.old world.old thrown address ≡ state_of on world.new waiting.new) }
+    ensures state { IfOk result (λ on. unwound classes.now waiting.old world.old thrown address ≡ state_of on world.new now.new waiting.new) }
+    ensures memory { OnErr result (IsTrue (unwound_takes classes.now waiting.old thrown)) }
 {
     let mut thrown = thrown;
     let mut address = address;
     while let Some(nearest) = waiting.pop() {
-        match pass(alloc, classes, nearest, world, waiting, thrown, address)? {
+        match pass(
+            alloc, classes, nearest, now, world, waiting, thrown, address,
+        )? {
             Passed::Left(on) => return Ok(on),
             Passed::Goes {
                 thrown: next,
@@ -118,6 +145,25 @@ pub fn unwind(
     Ok(Onward::Ends(Ending::Threw(thrown)))
 }
 
+// The same, where it comes up in the frame that runs.
+fn unwind_from(
+    alloc: Global,
+    classes: &Classes,
+    now: &mut Frame,
+    world: &mut World,
+    waiting: &mut Stack<Waiting>,
+    thrown: u64,
+    address: u64,
+) -> Result<Onward, WantOfMemory>
+    ensures state { IfOk result (λ on. unwound classes.now (Waiting.Caller now.old ∷ waiting.old) world.old thrown address ≡ state_of on world.new now.new waiting.new) }
+    ensures memory { OnErr result (IsTrue (unwound_takes classes.now (Waiting.Caller now.old ∷ waiting.old) thrown)) }
+{
+    match handler_for(classes, thrown, now) {
+        Some(to) => Ok(catch_in(to, address, now, world, waiting)),
+        None => unwind(alloc, classes, now, world, waiting, thrown, address),
+    }
+}
+
 fn class_at(world: &World, address: u64) -> Option<u64>
     ensures { result ≡ class_of_cell (slice_get world.now.heap address) }
 {
@@ -127,20 +173,22 @@ fn class_at(world: &World, address: u64) -> Option<u64>
     }
 }
 
-/// The object at this address is thrown, in what waits.
-pub fn throw_among(
+/// athrow: the object at this address is thrown in the frame that runs.
+pub fn throw_object(
     alloc: Global,
     classes: &Classes,
+    address: u64,
+    now: &mut Frame,
     world: &mut World,
     waiting: &mut Stack<Waiting>,
-    address: u64,
 ) -> Result<Onward, WantOfMemory>
-    ensures { IfOk result (λ on. thrown_among classes.now world.old waiting.old address ≡ state_of on world.new waiting.new) }
+    ensures state { IfOk result (λ on. thrown_object classes.now world.old now.old waiting.old address ≡ state_of on world.new now.new waiting.new) }
+    ensures memory { OnErr result (IsTrue (thrown_takes classes.now world.old now.old waiting.old address)) }
 {
     match class_at(world, address) {
         Some(class) => {
             if is_throwable(classes, class) {
-                unwind(alloc, classes, world, waiting, class, address)
+                unwind_from(alloc, classes, now, world, waiting, class, address)
             } else {
                 Ok(Onward::Ends(Ending::Stuck))
             }
@@ -153,16 +201,37 @@ pub fn throw_among(
 pub fn throw_fault_among(
     alloc: Global,
     classes: &Classes,
+    fault: Fault,
+    now: &mut Frame,
     world: &mut World,
     waiting: &mut Stack<Waiting>,
-    fault: Fault,
 ) -> Result<Onward, WantOfMemory>
-    ensures { IfOk result (λ on. fault_among classes.now world.old waiting.old fault ≡ state_of on world.new waiting.new) }
+    ensures { IfOk result (λ on. fault_among classes.now world.old waiting.old fault ≡ state_of on world.new now.new waiting.new) }
 {
     match fault_class(classes, fault) {
         Some(class) => {
             let address = make_object(alloc, classes, class, world)?;
-            unwind(alloc, classes, world, waiting, class, address)
+            unwind(alloc, classes, now, world, waiting, class, address)
+        }
+        None => Ok(Onward::Ends(Ending::Stuck)),
+    }
+}
+
+/// The machine makes an exception, with no constructor run, and throws it in the frame that runs.
+pub fn throw_fault(
+    alloc: Global,
+    classes: &Classes,
+    fault: Fault,
+    now: &mut Frame,
+    world: &mut World,
+    waiting: &mut Stack<Waiting>,
+) -> Result<Onward, WantOfMemory>
+    ensures { IfOk result (λ on. fault_thrown classes.now world.old now.old waiting.old fault ≡ state_of on world.new now.new waiting.new) }
+{
+    match fault_class(classes, fault) {
+        Some(class) => {
+            let address = make_object(alloc, classes, class, world)?;
+            unwind_from(alloc, classes, now, world, waiting, class, address)
         }
         None => Ok(Onward::Ends(Ending::Stuck)),
     }

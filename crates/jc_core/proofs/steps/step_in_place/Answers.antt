@@ -2,7 +2,7 @@ use Rattle.std.proofs.Common.{◌∙◌, List, sym, ap}
 use Rattle.jc_class_out.specs.declared.model.ClassModel.{ClassModel}
 use Rattle.jc_stepping.specs.InPlace.{in_place}
 use Rattle.jc_core.proofs.InPlace.{step_by_row, match_map}
-use Rattle.jc_core.proofs.in_place.step_in_place.Goals as goal
+use Rattle.jc_core.proofs.steps.step_in_place.Goals as goal
 
 pub returns-in-Some : goal.returns-in-Some
 returns-in-Some c =
