@@ -14,7 +14,7 @@ use Rattle.jc_typed.specs.Parts.{catches_of}
 use Rattle.jc_meaning.specs.declared.target.Target.{Target}
 use Rattle.jc_meaning.specs.Kept.{TypedState, TypedRun}
 use Rattle.jc_meaning.specs.Statements as s
-use Rattle.jc_meaning.specs.Classes as k
+use Rattle.jc_meaning.specs.Classes as classes
 use Rattle.jc_pending.specs.Level as l
 use Rattle.jc_pending.specs.Values as a
 use Rattle.jc_pending.specs.Statements as b
@@ -134,12 +134,12 @@ module _ (P : TypedProgram) (ns : List Node) (d : ℕ) where
   -- a class whose superclass is ready initialises itself; where the superclass threw, it has failed (JLS 12.4.2)
   abbrev pub behind_superclass : ClassId → Ends (Unit {0}) → Ends (Unit {0})
   behind_superclass class rest o =
-      rest (on_both o (λ n. l.own_initialiser P d class) (λ address. behind (k.set_readiness class Failed) (throw address)))
+      rest (on_both o (λ n. l.own_initialiser P d class) (λ address. behind (classes.set_readiness class Failed) (throw address)))
 
   -- .. and it is ready, or its own initialiser threw
   abbrev pub behind_initialiser : ClassId → Ends (Unit {0}) → Ends (Unit {0})
   behind_initialiser class rest o =
-      rest (on_both o (λ n. k.set_readiness class IsReady) (λ address. behind (k.set_readiness class Failed) (k.as_error P address)))
+      rest (on_both o (λ n. classes.set_readiness class IsReady) (λ address. behind (classes.set_readiness class Failed) (classes.as_error P address)))
 
   -- the clauses of a `try` (JLS 14.20.1), and its finally block (JLS 14.20.2)
   abbrev pub behind_try : ℕ → Ends Completion → Ends Completion

@@ -55,6 +55,9 @@ module _ (P : TypedProgram) (ns : List Node) (d : ℕ) where
   abbrev update_of : ℕ → TypedRun (Unit {0})
   update_of update = behind (e.values P (l.inner P d) (operands_of ns update)) (give tt)
 
+  abbrev no_update : TypedRun (Unit {0})
+  no_update = give tt
+
   -- an element goes into the variable of an enhanced `for`
   abbrev pub take_of : Each → Value → TypedRun (Unit {0})
   take_of each = s.take_element P (l.inner P d) (l.run P d) d each.place (type_of ns each.ty) (captures_of ns each.captures) (steps_of ns each.steps) each.local
@@ -70,7 +73,7 @@ module _ (P : TypedProgram) (ns : List Node) (d : ℕ) where
   array_turn each array = s.array_turn P (l.inner P d) (l.run P d) d each.own array (take_of each) (run each.body)
 
   abbrev pub turn : TurnTask → Unit {0} → TypedRun (Turn (Unit {0}))
-  turn (t.While own test body) i = s.while_turn P (l.inner P d) (l.run P d) d own (value_of test) (run body) (give tt)
+  turn (t.While own test body) i = s.while_turn P (l.inner P d) (l.run P d) d own (value_of test) (run body) no_update
   turn (t.Do own body test) i = s.do_turn P (l.inner P d) (l.run P d) d own (run body) (value_of test)
   turn (t.For own test update body) i = for_turn own test update body i
   turn (t.Iterate each iterator) i = iterator_turn each iterator i
@@ -79,7 +82,7 @@ module _ (P : TypedProgram) (ns : List Node) (d : ℕ) where
   turn_task t = turn t tt
 
   abbrev pub value_to_turn : ValueToTurn → Value → TypedRun (Turn (Unit {0}))
-  value_to_turn (vr.While own body) v = if_true v (bind (run body) (λ c. after_body own c (behind (give tt) again))) ended
+  value_to_turn (vr.While own body) v = if_true v (bind (run body) (λ c. after_body own c (behind no_update again))) ended
   value_to_turn (vr.For own body update) v = if_true v (bind (run body) (λ c. after_body own c (behind (update_of update) again))) ended
   value_to_turn vr.Do v = if_true v again ended
   value_to_turn (vr.HasNext each iterator) v =

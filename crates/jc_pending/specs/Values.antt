@@ -237,13 +237,13 @@ module _ (P : TypedProgram) (ns : List Node) (d : ℕ) where
   nothing_task (n.Write target v) = e.write_target P (l.inner P d) target v
   nothing_task (n.SetStatic f v) = e.set_static P (l.inner P d) f v
   nothing_task (n.Declare declared) = s.declare P (l.inner P d) (l.run P d) d (declared_of ns declared)
-  nothing_task (n.Take place ty captures ss n v) =
-      s.take_element P (l.inner P d) (l.run P d) d place (type_of ns ty) (captures_of ns captures) (steps_of ns ss) n v
+  nothing_task (n.Take place ty captures ss at v) =
+      s.take_element P (l.inner P d) (l.run P d) d place (type_of ns ty) (captures_of ns captures) (steps_of ns ss) at v
   nothing_task (n.Update update) = behind (values update) (give tt)
   nothing_task (n.Class t) = class_task t
 
   abbrev pub nothing_to_value : NothingToValue → TypedRun Value
-  nothing_to_value (nv.Static f) = look (λ s. slice_get s.statics f.0)
+  nothing_to_value (nv.Static f) = look (λ state. slice_get state.statics f.0)
   nothing_to_value (nv.Text as_it v) =
       bind (l.call_static P d (e.printer_of P (l.inner P d) P.known.printing as_it) (v ∷ []))
       (λ t. l.call_static P d P.known.printing.of_object (t ∷ []))
@@ -267,10 +267,10 @@ module _ (P : TypedProgram) (ns : List Node) (d : ℕ) where
   values_to_value lv.Test vs = give (s.true_or P (l.inner P d) (l.run P d) d vs)
 
   abbrev pub completion_to_value : CompletionToValue → Completion → TypedRun Value
-  completion_to_value cv.Answer c = c.answer_of c
+  completion_to_value cv.Answer done = c.answer_of done
 
   abbrev pub nothing_to_nothing : NothingToNothing → TypedRun (Unit {0})
-  nothing_to_nothing (nn.PutStatic f v) = change (λ s. record s { statics = slice_set s.statics f.0 v })
+  nothing_to_nothing (nn.PutStatic f v) = change (λ state. record state { statics = slice_set state.statics f.0 v })
   nothing_to_nothing (nn.DeclareLast n value) = bind (values value) (s.set_first P (l.inner P d) (l.run P d) d n)
 
   abbrev pub value_to_nothing : ValueToNothing → Value → TypedRun (Unit {0})

@@ -49,7 +49,7 @@ pub enum CallTask {
 }
 
 /// Classes: their use, their first use as a node, their initialisation, that of their superclass, and their initialiser.
-#[derive(Clone, Copy, Debug)]
+#[derive(Clone, Copy)]
 pub enum ClassTask {
     Ready { class: ClassId },
     First { class: ClassId },
@@ -115,7 +115,7 @@ pub enum ValuesToValue {
 }
 
 /// What is done behind another thing where neither gives a value.
-#[derive(Clone, Copy, Debug)]
+#[derive(Clone, Copy)]
 pub enum NothingToNothing {
     PutStatic { field: FieldId, value: Value },
     DeclareLast { local: u32, value: u32 },

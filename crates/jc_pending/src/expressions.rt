@@ -27,7 +27,7 @@ pub enum ValueTask {
 
 /// An expression as a node and what it does, the form of one, an operand, steps of a value, a chain of operators, one operator, an
 /// operand as a string, a variable's value, and the test of a `for`, which needn't be written.
-#[derive(Clone, Copy, Debug)]
+#[derive(Clone, Copy)]
 pub enum ExpressionTask {
     Expr {
         at: u32,
@@ -84,7 +84,7 @@ pub enum ValueToValue {
 }
 
 /// What is done with the value of an operand or of an expression.
-#[derive(Clone, Copy, Debug)]
+#[derive(Clone, Copy)]
 pub enum UseTodo {
     Noted {
         place: Place,
@@ -131,7 +131,7 @@ pub enum UseTodo {
 }
 
 /// Between the operands of an operator.
-#[derive(Clone, Copy, Debug)]
+#[derive(Clone, Copy)]
 pub enum JoinTodo {
     Link { joint: Joint, left: u32, right: u32 },
     Joining { joint: Joint, right: u32 },
@@ -143,7 +143,7 @@ pub enum JoinTodo {
 }
 
 /// Between the parts of `v op= e`, and of `++` and `--`.
-#[derive(Clone, Copy, Debug)]
+#[derive(Clone, Copy)]
 pub enum ChangeTodo {
     CompoundNote {
         place: Place,
@@ -204,13 +204,13 @@ pub enum ListTodo {
 }
 
 /// Values of operands.
-#[derive(Clone, Copy, Debug)]
+#[derive(Clone, Copy)]
 pub enum ValuesTask {
     Operands { at: u32 },
 }
 
 /// Behind the values of all operands of a list but for the last.
-#[derive(Clone, Copy, Debug)]
+#[derive(Clone, Copy)]
 pub enum ValuesToValues {
     Last { last: u32 },
 }
@@ -222,25 +222,25 @@ pub enum ValueToValues {
 }
 
 /// The parts of a variable.
-#[derive(Clone, Copy, Debug)]
+#[derive(Clone, Copy)]
 pub enum TargetTask {
     Variable { at: u32 },
 }
 
-#[derive(Clone, Copy, Debug)]
+#[derive(Clone, Copy)]
 pub enum ValueToTarget {
     Field { field: FieldId },
     Index { index: u32 },
     Element { array: Value },
 }
 
-#[derive(Clone, Copy, Debug)]
+#[derive(Clone, Copy)]
 pub enum ValuesToTarget {
     Static { field: FieldId },
 }
 
 /// What is done with a variable whose parts are there.
-#[derive(Clone, Copy, Debug)]
+#[derive(Clone, Copy)]
 pub enum TargetToValue {
     Assign {
         value: u32,
@@ -265,7 +265,7 @@ pub enum TargetToValue {
 
 /// What gives nothing: an assignment, a declaration of variables, an element that goes into the variable of an enhanced `for`, and
 /// the update of a `for`.
-#[derive(Clone, Copy, Debug)]
+#[derive(Clone, Copy)]
 pub enum NothingTask {
     Write {
         target: Target,

@@ -3,7 +3,7 @@ use jc_running::Value;
 
 /// An enhanced `for` (JLS 14.14.2): its number as the target of a jump, its place, how an element goes into its variable, and its
 /// body.
-#[derive(Clone, Copy, Debug)]
+#[derive(Clone, Copy)]
 pub struct Each {
     pub own: u32,
     pub place: Place,
@@ -15,7 +15,7 @@ pub struct Each {
 }
 
 /// A turn of a loop.
-#[derive(Clone, Copy, Debug)]
+#[derive(Clone, Copy)]
 pub enum TurnTask {
     While {
         own: u32,
@@ -40,7 +40,7 @@ pub enum TurnTask {
 }
 
 /// Inside a turn, behind a test or an element.
-#[derive(Clone, Copy, Debug)]
+#[derive(Clone, Copy)]
 pub enum ValueToTurn {
     While { own: u32, body: u32 },
     For { own: u32, body: u32, update: u32 },
@@ -50,7 +50,7 @@ pub enum ValueToTurn {
 }
 
 /// Inside a turn, behind the body.
-#[derive(Clone, Copy, Debug)]
+#[derive(Clone, Copy)]
 pub enum CompletionToTurn {
     While { own: u32 },
     For { own: u32, update: u32 },
@@ -58,35 +58,35 @@ pub enum CompletionToTurn {
 }
 
 /// Inside a turn, behind the update of a `for`, and behind an element that is in its variable.
-#[derive(Clone, Copy, Debug)]
+#[derive(Clone, Copy)]
 pub enum NothingToTurn {
     Again,
     Body { own: u32, body: u32 },
 }
 
 /// Behind a turn, where `left` turns more are possible.
-#[derive(Clone, Copy, Debug)]
+#[derive(Clone, Copy)]
 pub enum TurnToCompletion {
     Turned { turn: TurnTask, left: u64 },
 }
 
 /// A turn over the element at a place of an array.
-#[derive(Clone, Copy, Debug)]
+#[derive(Clone, Copy)]
 pub enum NumberedTask {
     Element { each: Each, array: Value, at: u64 },
 }
 
-#[derive(Clone, Copy, Debug)]
+#[derive(Clone, Copy)]
 pub enum NothingToNumbered {
     Body { own: u32, body: u32, next: u64 },
 }
 
-#[derive(Clone, Copy, Debug)]
+#[derive(Clone, Copy)]
 pub enum CompletionToNumbered {
     After { own: u32, next: u64 },
 }
 
-#[derive(Clone, Copy, Debug)]
+#[derive(Clone, Copy)]
 pub enum NumberedToCompletion {
     Turned { each: Each, array: Value, left: u64 },
 }

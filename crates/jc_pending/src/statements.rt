@@ -71,7 +71,7 @@ pub enum ValueToCompletion {
     },
 }
 
-#[derive(Clone, Copy, Debug)]
+#[derive(Clone, Copy)]
 pub enum ValuesToCompletion {
     For {
         own: u32,
@@ -85,7 +85,7 @@ pub enum ValuesToCompletion {
     },
 }
 
-#[derive(Clone, Copy, Debug)]
+#[derive(Clone, Copy)]
 pub enum NothingToCompletion {
     Normally,
     For {
@@ -108,18 +108,18 @@ pub enum CompletionToCompletion {
 }
 
 /// What the body of a method gives.
-#[derive(Clone, Copy, Debug)]
+#[derive(Clone, Copy)]
 pub enum CompletionToValue {
     Answer,
 }
 
-#[derive(Clone, Copy, Debug)]
+#[derive(Clone, Copy)]
 pub enum ValueToNothing {
     Drop,
     SetLocal { local: u32 },
 }
 
-#[derive(Clone, Copy, Debug)]
+#[derive(Clone, Copy)]
 pub enum ValuesToNothing {
     Drop,
     SetFirst { local: u32 },

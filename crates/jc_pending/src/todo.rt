@@ -107,7 +107,7 @@ pub enum Todo {
 }
 
 /// The method whose nodes are meant, and the depth of the meaning.
-#[derive(Clone, Copy, Debug)]
+#[derive(Clone, Copy)]
 pub struct Level {
     pub method: MethodId,
     pub depth: u64,
