@@ -1,0 +1,13 @@
+use Rattle.std.proofs.Common.{ap, sym, ◌∙◌, arith}
+use Rattle.jc_pending.proofs.Entering.{use_at, use_none, use_spent}
+use Rattle.jc_pending.proofs.Halting.{nothing_going}
+use Rattle.jc_calling.proofs.classes.first_use.Goals as goal
+
+pub returns-then-depth-eq0 : goal.returns-then-depth-eq0
+returns-then-depth-eq0 c = λ k coherent. nothing_going k _ coherent ∙ sym (ap k.nothing (use_none _ _ _ _ _ c.if-depth-eq0.true))
+
+pub returns-then-run-eq0 : goal.returns-then-run-eq0
+returns-then-run-eq0 c = λ k coherent. nothing_going k _ coherent ∙ sym (ap k.nothing (use_spent _ _ _ _ _ c.if-run-eq0.true))
+
+pub returns-else-run-eq0 : goal.returns-else-run-eq0
+returns-else-run-eq0 c = λ k coherent. sym (ap k.nothing (use_at _ _ _ _ _ (omega arith) (omega arith)))

@@ -1,0 +1,3 @@
+pub mod Catches
+pub mod Turning
+pub mod Skips

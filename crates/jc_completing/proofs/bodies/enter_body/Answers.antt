@@ -1,0 +1,13 @@
+use Rattle.std.proofs.Common.{ap, sym, ◌∙◌, arith}
+use Rattle.jc_pending.proofs.Entering.{body_at, body_none, body_spent}
+use Rattle.jc_pending.proofs.Halting.{completion_going}
+use Rattle.jc_completing.proofs.bodies.enter_body.Goals as goal
+
+pub returns-then-depth-eq0 : goal.returns-then-depth-eq0
+returns-then-depth-eq0 c = λ k coherent. completion_going k _ coherent ∙ sym (ap k.completion (body_none _ _ _ _ _ c.if-depth-eq0.true))
+
+pub returns-then-run-eq0 : goal.returns-then-run-eq0
+returns-then-run-eq0 c = λ k coherent. completion_going k _ coherent ∙ sym (ap k.completion (body_spent _ _ _ _ _ c.if-run-eq0.true))
+
+pub returns-else-run-eq0 : goal.returns-else-run-eq0
+returns-else-run-eq0 c = λ k coherent. sym (ap k.completion (body_at _ _ _ _ _ (omega arith) (omega arith)))

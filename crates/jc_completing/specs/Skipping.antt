@@ -1,0 +1,6 @@
+-- The statements that a `switch` runs (JLS 14.11).
+use Rattle.std.specs.Prelude.{ℕ, List, [], drop, Option, Some, None}
+
+abbrev pub behind_label : {A : Type 0} → Option ℕ → List A → List A
+behind_label None ss = []
+behind_label (Some n) ss = drop n ss

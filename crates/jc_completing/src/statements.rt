@@ -1,0 +1,319 @@
+ghost use Rattle.std.specs.Prelude.{◌≡◌, drop, length, reverse};
+ghost use Rattle.jc_pending.specs.Frames.{Rest};
+ghost use Rattle.jc_pending.specs.Leads.{Coherent, Leads};
+ghost use Rattle.jc_pending.specs.Statements.{completion_to_completion, nothing_to_completion, value_to_completion, values_to_completion};
+ghost use Rattle.jc_pending.specs.declared.statements.ValueToCompletion.TheVariants as vc;
+ghost use Rattle.jc_pending.specs.declared.statements.ValuesToCompletion.TheVariants as lc;
+ghost use Rattle.jc_pending.specs.declared.statements.CompletionToCompletion.TheVariants as cc;
+ghost use Rattle.jc_completing.specs.Skipping.{behind_label};
+
+use crate::listing::stmts_back;
+use jc_acts::{broken, default_in, instead, labelled, or_else, value_or_null};
+use jc_layout::is_static;
+use jc_numbers::{boolean_of, whole_of};
+use jc_pending::{
+    CallTask, CompletionTask, CompletionToCompletion, Given, Next, NothingTask,
+    NothingToCompletion, Task, TurnTask, ValueToCompletion, ValuesToCompletion, call, operands,
+    wait,
+};
+use jc_places::case_list;
+use jc_rules::Items;
+use jc_running::{Completion, Value};
+use jc_typed::{Nodes, TypedProgram};
+use jc_types::{FieldId, MethodId};
+use jc_values::{Halt, Running, address_of, local, set_field};
+use std::alloc::Global;
+
+// The statements behind a label, of those that stand in reverse order; none where no label fits.
+fn labelled_stmts(back: Items<u32>, skips: Option<u32>) -> Items<u32>
+    ensures { reverse result ≡ behind_label skips (reverse back) }
+{
+    let mut list = back.into_vec();
+    let kept = match skips {
+        None => 0,
+        Some(n) => list.len().saturating_sub(n as usize),
+    };
+    list.truncate(kept);
+    Items::of(list)
+}
+
+// The cases of a `switch` (JLS 14.11).
+fn switch(
+    alloc: Global,
+    program: &TypedProgram,
+    nodes: &Nodes,
+    depth: u64,
+    own: u32,
+    cases: u32,
+    stmts: u32,
+    v: Value,
+    run: &mut Running,
+) -> Result<Next, Halt>
+    ensures { (k : Rest) → Coherent k → Leads program.now nodes.now depth k result run.new (k.completion (value_to_completion program.now nodes.now depth (vc.Switch own cases stmts) v run.old.units run.old.state)) }
+{
+    let Some(n) = whole_of(v) else {
+        return Err(Halt::Wrong);
+    };
+    let list = case_list(alloc, nodes, cases)?;
+    let back = stmts_back(alloc, nodes, stmts)?;
+    let skips = or_else(labelled(list.slice(), n), default_in(list.slice()));
+    Ok(Next::Then(
+        wait!(
+            CompletionToCompletion,
+            CompletionToCompletion::Broken { own }
+        ),
+        Task::Completion(CompletionTask::Stmts {
+            stmts: labelled_stmts(back, skips),
+        }),
+    ))
+}
+
+// The initialiser of a field sets the static field, or that of this object (JLS 8.3.2).
+#[tactic(auto, using(jc_pending::proofs::Halting::of_completion))]
+fn initialise(
+    alloc: Global,
+    program: &TypedProgram,
+    nodes: &Nodes,
+    depth: u64,
+    field: FieldId,
+    v: Value,
+    run: &mut Running,
+) -> Result<Next, Halt>
+    ensures { (k : Rest) → Coherent k → Leads program.now nodes.now depth k result run.new (k.completion (value_to_completion program.now nodes.now depth (vc.Initialise field) v run.old.units run.old.state)) }
+{
+    if is_static(&program.table, field) {
+        return Ok(Next::Then(
+            wait!(NothingToCompletion, NothingToCompletion::Normally),
+            Task::Nothing(NothingTask::SetStatic { field, value: v }),
+        ));
+    }
+    let o = local(run, 0)?;
+    set_field(alloc, program, run, field, o, v)?;
+    Ok(Next::Give(Given::Completion(Completion::Normal)))
+}
+
+#[tactic(auto, using(jc_pending::proofs::Halting::of_completion))]
+fn throw(
+    alloc: Global,
+    program: &TypedProgram,
+    nodes: &Nodes,
+    depth: u64,
+    v: Value,
+    run: &mut Running,
+) -> Result<Next, Halt>
+    ensures { (k : Rest) → Coherent k → Leads program.now nodes.now depth k result run.new (k.completion (value_to_completion program.now nodes.now depth vc.Throw v run.old.units run.old.state)) }
+{
+    let a = address_of(alloc, program, run, v)?;
+    Err(Halt::Thrown(a))
+}
+
+/// What follows a value in a statement.
+#[tactic(auto, using(jc_pending::proofs::Halting::of_completion))]
+pub fn value_to_completion(
+    alloc: Global,
+    program: &TypedProgram,
+    nodes: &Nodes,
+    depth: u64,
+    todo: ValueToCompletion,
+    v: Value,
+    run: &mut Running,
+) -> Result<Next, Halt>
+    ensures { (k : Rest) → Coherent k → Leads program.now nodes.now depth k result run.new (k.completion (value_to_completion program.now nodes.now depth todo v run.old.units run.old.state)) }
+{
+    match todo {
+        ValueToCompletion::Normally => Ok(Next::Give(Given::Completion(Completion::Normal))),
+        ValueToCompletion::Arm { then, arms, other } => match boolean_of(v) {
+            None => Err(Halt::Wrong),
+            Some(true) => Ok(Next::Begin(Task::Completion(CompletionTask::Stmt { at: then }))),
+            Some(false) => Ok(Next::Begin(Task::Completion(CompletionTask::Arms { arms, other }))),
+        },
+        ValueToCompletion::Throw => throw(alloc, program, nodes, depth, v, run),
+        ValueToCompletion::Switch { own, cases, stmts } => {
+            switch(alloc, program, nodes, depth, own, cases, stmts, v, run)
+        }
+        ValueToCompletion::Initialise { field } => {
+            initialise(alloc, program, nodes, depth, field, v, run)
+        }
+        ValueToCompletion::EachOf { each } => {
+            Ok(Next::Begin(Task::Completion(CompletionTask::ArrayTurns {
+                each,
+                array: v,
+                at: 0,
+                left: depth,
+            })))
+        }
+        ValueToCompletion::IteratorOf { each } => Ok(Next::Then(
+            wait!(ValueToCompletion, ValueToCompletion::Iterate { each }),
+            call!(CallTask::Virtual {
+                method: program.known.iterating.iterator,
+                receiver: v,
+                args: Items::new(alloc),
+                types: Items::new(alloc),
+            }),
+        )),
+        ValueToCompletion::Iterate { each } => {
+            Ok(Next::Begin(Task::Completion(CompletionTask::Turns {
+                turn: TurnTask::Iterate { each, iterator: v },
+                left: depth,
+            })))
+        }
+    }
+}
+
+// A call of a constructor by `this` or `super` (JLS 8.8.7.1).
+#[tactic(auto, using(jc_pending::proofs::Halting::of_completion))]
+fn construct(
+    alloc: Global,
+    program: &TypedProgram,
+    nodes: &Nodes,
+    depth: u64,
+    method: MethodId,
+    values: Items<Value>,
+    run: &mut Running,
+) -> Result<Next, Halt>
+    ensures { (k : Rest) → Coherent k → Leads program.now nodes.now depth k result run.new (k.completion (values_to_completion program.now nodes.now depth (lc.Construct method) values run.old.units run.old.state)) }
+{
+    let receiver = local(run, 0)?;
+    Ok(Next::Then(
+        wait!(ValueToCompletion, ValueToCompletion::Normally),
+        call!(CallTask::Direct {
+            method,
+            receiver,
+            args: values,
+            types: Items::new(alloc),
+        }),
+    ))
+}
+
+/// What follows the values of operands in a statement.
+pub fn values_to_completion(
+    alloc: Global,
+    program: &TypedProgram,
+    nodes: &Nodes,
+    depth: u64,
+    todo: ValuesToCompletion,
+    values: Items<Value>,
+    run: &mut Running,
+) -> Result<Next, Halt>
+    ensures { (k : Rest) → Coherent k → Leads program.now nodes.now depth k result run.new (k.completion (values_to_completion program.now nodes.now depth todo values run.old.units run.old.state)) }
+{
+    match todo {
+        ValuesToCompletion::For {
+            own,
+            test,
+            update,
+            body,
+        } => Ok(Next::Begin(Task::Completion(CompletionTask::Turns {
+            turn: TurnTask::For {
+                own,
+                test,
+                update,
+                body,
+            },
+            left: depth,
+        }))),
+        ValuesToCompletion::Return => Ok(Next::Give(Given::Completion(Completion::Returned(
+            value_or_null(values.slice()),
+        )))),
+        ValuesToCompletion::Construct { method } => {
+            construct(alloc, program, nodes, depth, method, values, run)
+        }
+    }
+}
+
+/// What follows what gives nothing in a statement.
+pub fn nothing_to_completion(
+    program: &TypedProgram,
+    nodes: &Nodes,
+    depth: u64,
+    todo: NothingToCompletion,
+    run: &mut Running,
+) -> Result<Next, Halt>
+    ensures { (k : Rest) → Coherent k → Leads program.now nodes.now depth k result run.new (k.completion (nothing_to_completion program.now nodes.now depth todo run.old.units run.old.state)) }
+{
+    match todo {
+        NothingToCompletion::Normally => Ok(Next::Give(Given::Completion(Completion::Normal))),
+        NothingToCompletion::For {
+            own,
+            before,
+            test,
+            update,
+            body,
+        } => Ok(Next::Then(
+            wait!(
+                ValuesToCompletion,
+                ValuesToCompletion::For {
+                    own,
+                    test,
+                    update,
+                    body
+                }
+            ),
+            operands!(before),
+        )),
+    }
+}
+
+// The statements that come next run where this one completed normally.
+fn next(
+    program: &TypedProgram,
+    nodes: &Nodes,
+    depth: u64,
+    stmts: Items<u32>,
+    c: Completion,
+    run: &mut Running,
+) -> Result<Next, Halt>
+    ensures { (k : Rest) → Coherent k → Leads program.now nodes.now depth k result run.new (k.completion (completion_to_completion program.now nodes.now depth (cc.Next stmts) c run.old.units run.old.state)) }
+{
+    match c {
+        Completion::Normal => Ok(Next::Begin(Task::Completion(CompletionTask::Stmts { stmts }))),
+        Completion::Broke(t) => Ok(Next::Give(Given::Completion(Completion::Broke(t)))),
+        Completion::Continued(t) => Ok(Next::Give(Given::Completion(Completion::Continued(t)))),
+        Completion::Returned(v) => Ok(Next::Give(Given::Completion(Completion::Returned(v)))),
+    }
+}
+
+// Behind a finally block an object is thrown on where the block completed normally (JLS 14.20.2).
+#[tactic(auto, using(jc_pending::proofs::Halting::of_completion))]
+fn thrown_on(
+    program: &TypedProgram,
+    nodes: &Nodes,
+    depth: u64,
+    address: u64,
+    c: Completion,
+    run: &mut Running,
+) -> Result<Next, Halt>
+    ensures { (k : Rest) → Coherent k → Leads program.now nodes.now depth k result run.new (k.completion (completion_to_completion program.now nodes.now depth (cc.InsteadThrown address) c run.old.units run.old.state)) }
+{
+    match c {
+        Completion::Normal => Err(Halt::Thrown(address)),
+        Completion::Broke(t) => Ok(Next::Give(Given::Completion(Completion::Broke(t)))),
+        Completion::Continued(t) => Ok(Next::Give(Given::Completion(Completion::Continued(t)))),
+        Completion::Returned(v) => Ok(Next::Give(Given::Completion(Completion::Returned(v)))),
+    }
+}
+
+/// What follows a statement or a finally block.
+pub fn completion_to_completion(
+    program: &TypedProgram,
+    nodes: &Nodes,
+    depth: u64,
+    todo: CompletionToCompletion,
+    c: Completion,
+    run: &mut Running,
+) -> Result<Next, Halt>
+    ensures { (k : Rest) → Coherent k → Leads program.now nodes.now depth k result run.new (k.completion (completion_to_completion program.now nodes.now depth todo c run.old.units run.old.state)) }
+{
+    match todo {
+        CompletionToCompletion::Broken { own } => {
+            Ok(Next::Give(Given::Completion(broken(own, c))))
+        }
+        CompletionToCompletion::Instead { completion } => {
+            Ok(Next::Give(Given::Completion(instead(c, completion))))
+        }
+        CompletionToCompletion::InsteadThrown { address } => {
+            thrown_on(program, nodes, depth, address, c, run)
+        }
+        CompletionToCompletion::Next { stmts } => next(program, nodes, depth, stmts, c, run),
+    }
+}

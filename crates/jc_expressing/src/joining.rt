@@ -1,0 +1,70 @@
+ghost use Rattle.jc_pending.specs.Frames.{Rest};
+ghost use Rattle.jc_pending.specs.Leads.{Coherent, Leads};
+ghost use Rattle.jc_pending.specs.Values.{join_value};
+
+use jc_acts::one_value;
+use jc_numbers::operated;
+use jc_pending::{
+    CallTask, ExpressionTask, Given, JoinTodo, Next, call, expression, join, operand,
+};
+use jc_rules::Items;
+use jc_running::Value;
+use jc_typed::{Nodes, TypedProgram};
+use jc_values::{Halt, Running, given};
+use std::alloc::Global;
+
+/// What follows a value between the operands of an operator (JLS 15.7.3, 15.18.1).
+#[tactic(auto, using(jc_pending::proofs::Halting::of_value))]
+pub fn join_value(
+    alloc: Global,
+    program: &TypedProgram,
+    nodes: &Nodes,
+    depth: u64,
+    todo: JoinTodo,
+    v: Value,
+    run: &mut Running,
+) -> Result<Next, Halt>
+    ensures { (k : Rest) → Coherent k → Leads program.now nodes.now depth k result run.new (k.value (join_value program.now nodes.now depth todo v run.old.units run.old.state)) }
+{
+    match todo {
+        JoinTodo::Link { joint, left, right } => Ok(Next::Then(
+            join!(JoinTodo::Joining { joint, right }),
+            expression!(ExpressionTask::Steps {
+                steps: left,
+                value: v
+            }),
+        )),
+        JoinTodo::Joining { joint, right } => {
+            Ok(Next::Begin(expression!(ExpressionTask::Joined {
+                joint,
+                left: v,
+                right
+            })))
+        }
+        JoinTodo::Operate { op, left } => Ok(Next::Give(Given::Value(given(
+            alloc,
+            program,
+            run,
+            operated(op, left, v),
+        )?))),
+        JoinTodo::TextAgain => Ok(Next::Begin(call!(CallTask::Static {
+            method: program.known.printing.of_object,
+            args: one_value(alloc, v)?,
+            types: Items::new(alloc),
+        }))),
+        JoinTodo::ConcatRight { of, right } => Ok(Next::Then(
+            join!(JoinTodo::ConcatText { of, left: v }),
+            operand!(right),
+        )),
+        JoinTodo::ConcatText { of, left } => Ok(Next::Then(
+            join!(JoinTodo::Concat { left }),
+            expression!(ExpressionTask::Text { of, value: v }),
+        )),
+        JoinTodo::Concat { left } => Ok(Next::Begin(call!(CallTask::Direct {
+            method: program.known.printing.concat,
+            receiver: left,
+            args: one_value(alloc, v)?,
+            types: Items::new(alloc),
+        }))),
+    }
+}

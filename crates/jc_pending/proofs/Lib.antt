@@ -1,0 +1,5 @@
+pub mod Halting
+pub mod Coherence
+pub mod Entering
+pub mod Lists
+pub mod Idles
