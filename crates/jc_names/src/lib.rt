@@ -3,4 +3,4 @@
 
 mod stage;
 
-pub use stage::{first_names_break, names};
+pub use stage::names;

@@ -132,17 +132,3 @@ pub fn names(alloc: Global, units: &[SourceUnit]) -> Result<Table, Stop<Refusal>
     let heads = heads(alloc, units)?;
     with_heads(alloc, units, &heads)
 }
-
-/// The first rule of names (301 to 311) that sources break, by file, offset and number. None where they break none.
-pub fn first_names_break(
-    alloc: Global,
-    units: &[SourceUnit],
-) -> Result<Option<Refusal>, WantOfMemory>
-    ensures { IfOk result (λ it. LeastOf (BreaksNames (sites_of units.now)) it) }
-{
-    match names(alloc, units) {
-        Ok(_) => Ok(None),
-        Err(Stop::Refused(refusal)) => Ok(Some(refusal)),
-        Err(Stop::WantOfMemory) => Err(WantOfMemory),
-    }
-}
