@@ -1,5 +1,5 @@
 -- The least of breaks that follow one another.
-use Rattle.std.proofs.Common.{◌≡◌, ◌+◌, ◌<◌, ℕ, suc, Bool, true, false, Option, List, [], ◌∷◌, ◌++◌, drop, length, get_or, add-one, drop-cons, refl, sym, ap, ◌∙◌}
+use Rattle.std.proofs.Common.{◌≡◌, ◌+◌, ◌-◌, ◌<◌, ◌≤◌, ℕ, zero, suc, take, arith, Option, List, [], ◌∷◌, ◌++◌, drop, length, get_or, add-one, drop-cons, refl, sym, ap, ◌∙◌}
 use Rattle.jc_types.specs.Breaks.{least}
 use Rattle.jc_types.proofs.Least.{least_append}
 use Rattle.jc_rules.specs.declared.rule.Refusal.{Refusal}
@@ -25,5 +25,33 @@ each_turn f found next xs i x within is e =
     ∙ sym (least_append found (f i x) (of_each f (i + 1) (drop (i + 1) xs)))
     ∙ ap (λ k. least found (f i x ++ of_each f k (drop (i + 1) xs))) (add-one i)
     ∙ ap (λ l. least found (of_each f i l)) (sym (first_left xs i x within is))
+
+take_whole : {X : Type 0} (xs : List X) (n : ℕ) → n ≡ length xs → take n xs ≡ xs
+take_whole [] zero e = refl
+take_whole [] (suc n) e = absurd (omega arith)
+take_whole (x ∷ xs) zero e = absurd (omega arith)
+take_whole (x ∷ xs) (suc n) e = ap (λ ys. x ∷ ys) (take_whole xs n (omega arith))
+
+-- what a slice pattern leaves behind its first element
+pub left_over : {X : Type 0} (xs : List X) (x d : X) → 1 ≤ length xs → x ≡ get_or xs 0 d → xs ≡ x ∷ take (length xs - 1) (drop 1 xs)
+left_over [] x d le e = absurd (omega arith)
+left_over (y ∷ ys) x d le e = let n : length (y ∷ ys) - 1 ≡ length ys = omega arith in ap (λ z. z ∷ ys) (sym e) ∙ ap (λ zs. x ∷ zs) (sym (take_whole ys (length (y ∷ ys) - 1) n))
+
+-- a loop over a list by a slice pattern
+pub one_turn : {X : Type 0} (F : List X → List Refusal) (g : X → List Refusal) → ((x : X) (xs : List X) → F (x ∷ xs) ≡ g x ++ F xs)
+    → (found next : Option Refusal) (xs : List X) (x d : X) → 1 ≤ length xs → x ≡ get_or xs 0 d → next ≡ least found (g x) → least next (F (take (length xs - 1) (drop 1 xs))) ≡ least found (F xs)
+one_turn F g app found next xs x d le is e =
+    ap (λ n. least n (F (take (length xs - 1) (drop 1 xs)))) e ∙ sym (least_append found (g x) (F (take (length xs - 1) (drop 1 xs)))) ∙ ap (least found) (sym (app x (take (length xs - 1) (drop 1 xs))))
+    ∙ ap (λ ys. least found (F ys)) (sym (left_over xs x d le is))
+
+-- .. and over two lists side by side
+pub both_turn : {X Y : Type 0} (F : List X → List Y → List Refusal) (g : X → Y → List Refusal) → ((x : X) (xs : List X) (y : Y) (ys : List Y) → F (x ∷ xs) (y ∷ ys) ≡ g x y ++ F xs ys)
+    → (found next : Option Refusal) (xs : List X) (ys : List Y) (x d : X) (y e : Y) → 1 ≤ length xs → 1 ≤ length ys → x ≡ get_or xs 0 d → y ≡ get_or ys 0 e → next ≡ least found (g x y)
+    → least next (F (take (length xs - 1) (drop 1 xs)) (take (length ys - 1) (drop 1 ys))) ≡ least found (F xs ys)
+both_turn F g app found next xs ys x d y e le l is at f =
+    ap (λ n. least n (F (take (length xs - 1) (drop 1 xs)) (take (length ys - 1) (drop 1 ys)))) f
+    ∙ sym (least_append found (g x y) (F (take (length xs - 1) (drop 1 xs)) (take (length ys - 1) (drop 1 ys))))
+    ∙ ap (least found) (sym (app x (take (length xs - 1) (drop 1 xs)) y (take (length ys - 1) (drop 1 ys))))
+    ∙ ap (λ zs. least found (F zs (y ∷ take (length ys - 1) (drop 1 ys)))) (sym (left_over xs x d le is)) ∙ ap (λ zs. least found (F xs zs)) (sym (left_over ys y e l at))
 
 pub ruleset turning = (least_append)

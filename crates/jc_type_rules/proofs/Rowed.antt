@@ -23,13 +23,13 @@ row_pushed T n k m e = let s : suc k ≡ m = omega arith in ap (rows_below T n) 
 
 -- ---- rows
 
+one_longer : (xs : List (List ℕ)) (x : List ℕ) → length (xs ++ x ∷ []) ≡ length xs + 1
+one_longer [] x = refl
+one_longer (y ∷ xs) x = let i = one_longer xs x in omega (arith, i)
+
 rows_length : (T : Table) (n k : ℕ) → length (rows_below T n k) ≡ k
 rows_length T n zero = refl
-rows_length T n (suc k) = pushed (rows_below T n k) (variables_below n (bounds_of T (var k))) ∙ ap (λ m. m + 1) (rows_length T n k) ∙ let e : k + 1 ≡ suc k = omega arith in e
-  where
-    pushed : (xs : List (List ℕ)) (x : List ℕ) → length (xs ++ x ∷ []) ≡ length xs + 1
-    pushed [] x = refl
-    pushed (y ∷ xs) x = ap (λ m. m + 1) (pushed xs x)
+rows_length T n (suc k) = one_longer (rows_below T n k) (variables_below n (bounds_of T (var k))) ∙ ap (λ m. m + 1) (rows_length T n k) ∙ let e : k + 1 ≡ suc k = omega arith in e
 
 get_old : (xs : List (List ℕ)) (x : List ℕ) (h : ℕ) → h < length xs → slice_get (xs ++ x ∷ []) h ≡ slice_get xs h
 get_old [] x h lt = absurd (omega arith)
@@ -47,13 +47,13 @@ below_or u n lt = grind arith
 
 row_is : (T : Table) (n k v : ℕ) → v < k → row (rows_below T n k) v ≡ variables_below n (bounds_of T (var v))
 row_is T n zero v lt = absurd (omega (arith, lt))
-row_is T n (suc k) v lt = by (below_or v k lt)
+row_is T n (suc k) v lt = by (λ l. row_is T n k v l) (below_or v k lt)
   where
-    by : (v < k) ⊎ (v ≡ k) → row (rows_below T n k ++ variables_below n (bounds_of T (var k)) ∷ []) v ≡ variables_below n (bounds_of T (var v))
-    by (inl l) =
+    by : (v < k → row (rows_below T n k) v ≡ variables_below n (bounds_of T (var v))) → (v < k) ⊎ (v ≡ k) → row (rows_below T n k ++ variables_below n (bounds_of T (var k)) ∷ []) v ≡ variables_below n (bounds_of T (var v))
+    by r (inl l) =
         let c = rows_length T n k in
-        ap listed (get_old (rows_below T n k) (variables_below n (bounds_of T (var k))) v (omega (arith, c, l))) ∙ row_is T n k v l
-    by (inr e) =
+        ap listed (get_old (rows_below T n k) (variables_below n (bounds_of T (var k))) v (omega (arith, c, l))) ∙ r l
+    by r (inr e) =
         let c = rows_length T n k in
         ap listed (get_new (rows_below T n k) (variables_below n (bounds_of T (var k))) v (omega (arith, c, e))) ∙ ap (λ v. variables_below n (bounds_of T (var v))) (sym e)
 
@@ -91,7 +91,7 @@ true_lt a b l = grind (arith, nat_tests)
 
 below_in : (n b : ℕ) (ts : List Ty) → IsIn b (variables_below n ts) → b < n
 below_in n b [] m = absurd m
-below_in n b (t ∷ ts) m = by (in_append b (variable_below n (out-Ty t)) (variables_below n ts) m)
+below_in n b (t ∷ ts) m = by (λ h. below_in n b ts h) (in_append b (variable_below n (out-Ty t)) (variables_below n ts) m)
   where
     chosen : (v : VarId) (c : Bool) → nat_lt v.0 n ≡ c → IsIn b (cond c (v.0 ∷ []) []) → b < n
     chosen v true e (inl f) = let l = lt_true v.0 n e in omega (arith, l, f)
@@ -108,9 +108,9 @@ below_in n b (t ∷ ts) m = by (in_append b (variable_below n (out-Ty t)) (varia
     layer (Ty-F.Meet us) h = absurd h
     layer Ty-F.NullTy h = absurd h
 
-    by : IsIn b (variable_below n (out-Ty t)) ⊎ IsIn b (variables_below n ts) → b < n
-    by (inl h) = layer (out-Ty t) h
-    by (inr h) = below_in n b ts h
+    by : (IsIn b (variables_below n ts) → b < n) → IsIn b (variable_below n (out-Ty t)) ⊎ IsIn b (variables_below n ts) → b < n
+    by r (inl h) = layer (out-Ty t) h
+    by r (inr h) = r h
 
 split : (v n : ℕ) → (v < n) ⊎ (n ≤ v)
 split v n = grind arith
@@ -151,7 +151,7 @@ module _ (T : Table) (w : VarId) where
 
   any_more : (f g : Ty → Bool) → ((t : Ty) → f t ≡ true → g t ≡ true) → (ts : List Ty) → list_any f ts ≡ true → list_any g ts ≡ true
   any_more f g h [] e = cc
-  any_more f g h (t ∷ ts) e = by (f t) refl e
+  any_more f g h (t ∷ ts) e = by (λ k. any_more f g h ts k) (f t) refl e
     where
       left : (a b : Bool) → a ≡ true → (a || b) ≡ true
       left true b e = refl
@@ -161,9 +161,9 @@ module _ (T : Table) (w : VarId) where
       right true b e = refl
       right false b e = e
 
-      by : (b : Bool) → f t ≡ b → (b || list_any f ts) ≡ true → (g t || list_any g ts) ≡ true
-      by true k e = left (g t) (list_any g ts) (h t k)
-      by false k e = right (g t) (list_any g ts) (any_more f g h ts e)
+      by : (list_any f ts ≡ true → list_any g ts ≡ true) → (b : Bool) → f t ≡ b → (b || list_any f ts) ≡ true → (g t || list_any g ts) ≡ true
+      by r true k e = left (g t) (list_any g ts) (h t k)
+      by r false k e = right (g t) (list_any g ts) (r e)
 
   abbrev D : ℕ → ℕ → Bool
   D n u = depends_within T n w (var u)
@@ -226,7 +226,7 @@ module _ (T : Table) where
 
   in_bounds : (ts : List Ty) (n : ℕ) (w : VarId) (f : VarId → Bool) → IsIn w.0 (variables_below n ts) → list_any (λ t. is_variable_at w (out-Ty t) || bound_depends f (out-Ty t)) ts ≡ true
   in_bounds [] n w f m = absurd m
-  in_bounds (t ∷ ts) n w f m = by (in_append w.0 (variable_below n (out-Ty t)) (variables_below n ts) m)
+  in_bounds (t ∷ ts) n w f m = by (λ h. in_bounds ts n w f h) (in_append w.0 (variable_below n (out-Ty t)) (variables_below n ts) m)
     where
       rest : list_any (λ t. is_variable_at w (out-Ty t) || bound_depends f (out-Ty t)) ts ≡ true → (a : Bool) → (a || list_any (λ t. is_variable_at w (out-Ty t) || bound_depends f (out-Ty t)) ts) ≡ true
       rest e true = refl
@@ -251,14 +251,14 @@ module _ (T : Table) where
       layer (Ty-F.Meet us) h = absurd h
       layer Ty-F.NullTy h = absurd h
 
-      by : IsIn w.0 (variable_below n (out-Ty t)) ⊎ IsIn w.0 (variables_below n ts) → ((is_variable_at w (out-Ty t) || bound_depends f (out-Ty t)) || list_any (λ t. is_variable_at w (out-Ty t) || bound_depends f (out-Ty t)) ts) ≡ true
-      by (inl h) = first (is_variable_at w (out-Ty t)) (bound_depends f (out-Ty t)) _ (layer (out-Ty t) h)
-      by (inr h) = rest (in_bounds ts n w f h) (is_variable_at w (out-Ty t) || bound_depends f (out-Ty t))
+      by : (IsIn w.0 (variables_below n ts) → list_any (λ t. is_variable_at w (out-Ty t) || bound_depends f (out-Ty t)) ts ≡ true) → IsIn w.0 (variable_below n (out-Ty t)) ⊎ IsIn w.0 (variables_below n ts) → ((is_variable_at w (out-Ty t) || bound_depends f (out-Ty t)) || list_any (λ t. is_variable_at w (out-Ty t) || bound_depends f (out-Ty t)) ts) ≡ true
+      by r (inl h) = first (is_variable_at w (out-Ty t)) (bound_depends f (out-Ty t)) _ (layer (out-Ty t) h)
+      by r (inr h) = rest (r h) (is_variable_at w (out-Ty t) || bound_depends f (out-Ty t))
 
   -- a bound that depends on w makes what it bounds do so
   by_bound : (ts : List Ty) (n : ℕ) (w : VarId) (f : VarId → Bool) (u : ℕ) → IsIn u (variables_below n ts) → f (var u) ≡ true → list_any (λ t. is_variable_at w (out-Ty t) || bound_depends f (out-Ty t)) ts ≡ true
   by_bound [] n w f u m e = absurd m
-  by_bound (t ∷ ts) n w f u m e = by (in_append u (variable_below n (out-Ty t)) (variables_below n ts) m)
+  by_bound (t ∷ ts) n w f u m e = by (λ h. by_bound ts n w f u h e) (in_append u (variable_below n (out-Ty t)) (variables_below n ts) m)
     where
       rest : (a b : Bool) → b ≡ true → (a || b) ≡ true
       rest true b e = refl
@@ -284,9 +284,9 @@ module _ (T : Table) where
       layer (Ty-F.Meet us) h = absurd h
       layer Ty-F.NullTy h = absurd h
 
-      by : IsIn u (variable_below n (out-Ty t)) ⊎ IsIn u (variables_below n ts) → ((is_variable_at w (out-Ty t) || bound_depends f (out-Ty t)) || list_any (λ t. is_variable_at w (out-Ty t) || bound_depends f (out-Ty t)) ts) ≡ true
-      by (inl h) = second (is_variable_at w (out-Ty t)) (bound_depends f (out-Ty t)) _ (layer (out-Ty t) h)
-      by (inr h) = rest (is_variable_at w (out-Ty t) || bound_depends f (out-Ty t)) _ (by_bound ts n w f u h e)
+      by : (IsIn u (variables_below n ts) → list_any (λ t. is_variable_at w (out-Ty t) || bound_depends f (out-Ty t)) ts ≡ true) → IsIn u (variable_below n (out-Ty t)) ⊎ IsIn u (variables_below n ts) → ((is_variable_at w (out-Ty t) || bound_depends f (out-Ty t)) || list_any (λ t. is_variable_at w (out-Ty t) || bound_depends f (out-Ty t)) ts) ≡ true
+      by r (inl h) = second (is_variable_at w (out-Ty t)) (bound_depends f (out-Ty t)) _ (layer (out-Ty t) h)
+      by r (inr h) = rest (is_variable_at w (out-Ty t) || bound_depends f (out-Ty t)) _ (r h)
 
   in_row : (v b : ℕ) → IsIn b (row rows v) → IsIn b (variables_below (variable_count T) (bounds_of T (var v)))
   in_row v b m = by (split v (variable_count T))
@@ -309,79 +309,81 @@ module _ (T : Table) where
       where
         no : false ≡ true → ⊥
         no e = cc
-    lift (suc n) a e = goes_up T (var c) (suc n) a ∙ any_more T (var c) (test T (var b) n) (test T (var c) (suc n)) (λ t h. layer (out-Ty t) h) (bounds_of T a) (sym (goes_up T (var b) n a) ∙ e)
+    lift (suc n) a e = goes_up T (var c) (suc n) a ∙ any_more T (var c) (test T (var b) n) (test T (var c) (suc n)) (λ t h. layer (λ v k. lift n v k) (out-Ty t) h) (bounds_of T a) (sym (goes_up T (var b) n a) ∙ e)
       where
         second : (x y : Bool) → y ≡ true → (x || y) ≡ true
         second true y e = refl
         second false y e = e
 
-        by_first : (v : VarId) (x : Bool) → (v.0 == b) ≡ x → (x || depends_within T n (var b) v) ≡ true → depends_within T (suc n) (var c) v ≡ true
-        by_first v true k h = subst (λ y. depends_within T (suc n) (var c) (var y) ≡ true) (sym (same_var v.0 b k)) (edge n)
-        by_first v false k h = lift n v h
+        by_first : ((v : VarId) → depends_within T n (var b) v ≡ true → depends_within T (suc n) (var c) v ≡ true) → (v : VarId) (x : Bool) → (v.0 == b) ≡ x → (x || depends_within T n (var b) v) ≡ true → depends_within T (suc n) (var c) v ≡ true
+        by_first r v true k h = subst (λ y. depends_within T (suc n) (var c) (var y) ≡ true) (sym (same_var v.0 b k)) (edge n)
+        by_first r v false k h = r v h
 
-        layer : (l : Ty-F Arg Ty) → (is_variable_at (var b) l || bound_depends (depends_within T n (var b)) l) ≡ true → (is_variable_at (var c) l || bound_depends (depends_within T (suc n) (var c)) l) ≡ true
-        layer (Ty-F.Variable v) h = second (v.0 == c) _ (by_first v (v.0 == b) refl h)
-        layer (Ty-F.Prim p) h = h
-        layer (Ty-F.Class i xs) h = h
-        layer (Ty-F.Raw i) h = h
-        layer (Ty-F.Array u k) h = h
-        layer (Ty-F.Captured q) h = h
-        layer (Ty-F.Meet us) h = h
-        layer Ty-F.NullTy h = h
+        layer : ((v : VarId) → depends_within T n (var b) v ≡ true → depends_within T (suc n) (var c) v ≡ true) → (l : Ty-F Arg Ty) → (is_variable_at (var b) l || bound_depends (depends_within T n (var b)) l) ≡ true → (is_variable_at (var c) l || bound_depends (depends_within T (suc n) (var c)) l) ≡ true
+        layer r (Ty-F.Variable v) h = second (v.0 == c) _ (by_first r v (v.0 == b) refl h)
+        layer r (Ty-F.Prim p) h = h
+        layer r (Ty-F.Class i xs) h = h
+        layer r (Ty-F.Raw i) h = h
+        layer r (Ty-F.Array u k) h = h
+        layer r (Ty-F.Captured q) h = h
+        layer r (Ty-F.Meet us) h = h
+        layer r Ty-F.NullTy h = h
 
   reached_depends : (a c : ℕ) → Reach rows a c → (n : ℕ) × (depends_within T n (var c) (var a) ≡ true)
-  reached_depends a c (one c m) = (1, edge a c m 0)
-  reached_depends a c (on b c r m) = let h = reached_depends a b r in (suc h.0, lift b c m h.0 (var a) h.1)
+  reached_depends a c (one d m) = (1, edge a d m 0)
+  reached_depends a c (on b d r m) = let h = reached_depends a b r in (suc h.0, lift b d m h.0 (var a) h.1)
 
   onward : (a b c : ℕ) → IsIn b (row rows a) → Reach rows b c → Reach rows a c
-  onward a b c m (one c k) = on b c (one b m) k
-  onward a b c m (on d c r k) = on d c (onward a b d m r) k
+  onward a b c m (one e k) = on b e (one b m) k
+  onward a b c m (on d e r k) = on d e (onward a b d m r) k
+
+  differ : {x : Bool} → x ≡ false → x ≡ true → ⊥
+  differ p q = cc
+
+  module _ (n a c : ℕ) (lt : c < variable_count T) (less : (v : ℕ) → depends_within T n (var c) (var v) ≡ true → Reach rows v c) where
+    listed_at : (v : VarId) → v.0 < variable_count T → IsIn v.0 (variable_below (variable_count T) (Ty-F.Variable v))
+    listed_at v l = subst (λ b. IsIn v.0 (cond b (v.0 ∷ []) [])) (sym (true_lt v.0 (variable_count T) l)) (inl refl)
+
+    abbrev Edges : Ty-F Arg Ty → Type 0
+    Edges l = (u : ℕ) → IsIn u (variable_below (variable_count T) l) → IsIn u (row rows a)
+
+    onto : (v : VarId) → Edges (Ty-F.Variable v) → (v.0 < variable_count T) ⊎ (variable_count T ≤ v.0) → depends_within T n (var c) v ≡ true → Reach rows a c
+    onto v i (inl l) k = onward a v.0 c (i v.0 (listed_at v l)) (less v.0 k)
+    onto v i (inr l) k = absurd (differ (outside T (var c) n v l) k)
+
+    variable : (ts : List Ty) → (list_any (test T (var c) n) ts ≡ true → Reach rows a c) → (v : VarId) → Edges (Ty-F.Variable v) → (x y : Bool) → (v.0 == c) ≡ x → depends_within T n (var c) v ≡ y
+        → ((x || y) || list_any (test T (var c) n) ts) ≡ true → Reach rows a c
+    variable ts rest v i true y p q k = let same = same_var v.0 c p in one c (subst (λ z. IsIn z (row rows a)) same (i v.0 (listed_at v (subst (λ z. z < variable_count T) (sym same) lt))))
+    variable ts rest v i false true p q k = onto v i (split v.0 (variable_count T)) q
+    variable ts rest v i false false p q k = rest k
+
+    head : (ts : List Ty) → (list_any (test T (var c) n) ts ≡ true → Reach rows a c) → (l : Ty-F Arg Ty) → Edges l
+        → ((is_variable_at (var c) l || bound_depends (depends_within T n (var c)) l) || list_any (test T (var c) n) ts) ≡ true → Reach rows a c
+    head ts rest (Ty-F.Variable v) i k = variable ts rest v i (v.0 == c) (depends_within T n (var c) v) refl refl k
+    head ts rest (Ty-F.Prim p) i k = rest k
+    head ts rest (Ty-F.Class j xs) i k = rest k
+    head ts rest (Ty-F.Raw j) i k = rest k
+    head ts rest (Ty-F.Array u j) i k = rest k
+    head ts rest (Ty-F.Captured q) i k = rest k
+    head ts rest (Ty-F.Meet us) i k = rest k
+    head ts rest Ty-F.NullTy i k = rest k
+
+    dig : (ts : List Ty) → ((u : ℕ) → IsIn u (variables_below (variable_count T) ts) → IsIn u (row rows a)) → list_any (test T (var c) n) ts ≡ true → Reach rows a c
+    dig [] h k = absurd (differ refl k)
+    dig (t ∷ ts) h k =
+        head ts (λ m. dig ts (λ u i. h u (in_right u (variable_below (variable_count T) (out-Ty t)) (variables_below (variable_count T) ts) i)) m) (out-Ty t)
+        (λ u m. h u (in_left u (variable_below (variable_count T) (out-Ty t)) (variables_below (variable_count T) ts) m)) k
+
+    one_up : depends_within T (suc n) (var c) (var a) ≡ true → Reach rows a c
+    one_up e = by (split a (variable_count T))
+      where
+        by : (a < variable_count T) ⊎ (variable_count T ≤ a) → Reach rows a c
+        by (inl l) = dig (bounds_of T (var a)) (λ u m. subst (λ xs. IsIn u xs) (sym (row_is T (variable_count T) (variable_count T) a l)) m) (sym (goes_up T (var c) n (var a)) ∙ e)
+        by (inr l) = absurd (differ (outside T (var c) (suc n) (var a) l) e)
 
   depends_reached : (n a c : ℕ) → c < variable_count T → depends_within T n (var c) (var a) ≡ true → Reach rows a c
-  depends_reached zero a c lt e = absurd (no (sym (none_at T (var c) (var a)) ∙ e))
-    where
-      no : false ≡ true → ⊥
-      no e = cc
-  depends_reached (suc n) a c lt e = by (split a (variable_count T))
-    where
-      no : {x : Bool} → x ≡ false → x ≡ true → ⊥
-      no p q = cc
-
-      dig : (ts : List Ty) → ((u : ℕ) → IsIn u (variables_below (variable_count T) ts) → IsIn u (row rows a)) → list_any (test T (var c) n) ts ≡ true → Reach rows a c
-      dig [] h k = absurd (no refl k)
-      dig (t ∷ ts) h k = head (out-Ty t) (λ u m. h u (in_left u (variable_below (variable_count T) (out-Ty t)) (variables_below (variable_count T) ts) m)) k
-        where
-          further : (test T (var c) n t || list_any (test T (var c) n) ts) ≡ true → list_any (test T (var c) n) ts ≡ true → Reach rows a c
-          further k m = dig ts (λ u i. h u (in_right u (variable_below (variable_count T) (out-Ty t)) (variables_below (variable_count T) ts) i)) m
-
-          rest : list_any (test T (var c) n) ts ≡ true → Reach rows a c
-          rest m = dig ts (λ u i. h u (in_right u (variable_below (variable_count T) (out-Ty t)) (variables_below (variable_count T) ts) i)) m
-
-          listed_at : (v : VarId) → v.0 < variable_count T → IsIn v.0 (variable_below (variable_count T) (Ty-F.Variable v))
-          listed_at v l = subst (λ b. IsIn v.0 (cond b (v.0 ∷ []) [])) (sym (true_lt v.0 (variable_count T) l)) (inl refl)
-
-          onto : (v : VarId) → ((u : ℕ) → IsIn u (variable_below (variable_count T) (Ty-F.Variable v)) → IsIn u (row rows a)) → (v.0 < variable_count T) ⊎ (variable_count T ≤ v.0) → depends_within T n (var c) v ≡ true → Reach rows a c
-          onto v i (inl l) k = onward a v.0 c (i v.0 (listed_at v l)) (depends_reached n v.0 c lt k)
-          onto v i (inr l) k = absurd (no (outside T (var c) n v l) k)
-
-          variable : (v : VarId) → ((u : ℕ) → IsIn u (variable_below (variable_count T) (Ty-F.Variable v)) → IsIn u (row rows a)) → (x y : Bool) → (v.0 == c) ≡ x → depends_within T n (var c) v ≡ y → ((x || y) || list_any (test T (var c) n) ts) ≡ true → Reach rows a c
-          variable v i true y p q k = let same = same_var v.0 c p in one c (subst (λ z. IsIn z (row rows a)) same (i v.0 (listed_at v (subst (λ z. z < variable_count T) (sym same) lt))))
-          variable v i false true p q k = onto v i (split v.0 (variable_count T)) q
-          variable v i false false p q k = rest k
-
-          head : (l : Ty-F Arg Ty) → ((u : ℕ) → IsIn u (variable_below (variable_count T) l) → IsIn u (row rows a)) → ((is_variable_at (var c) l || bound_depends (depends_within T n (var c)) l) || list_any (test T (var c) n) ts) ≡ true → Reach rows a c
-          head (Ty-F.Variable v) i k = variable v i (v.0 == c) (depends_within T n (var c) v) refl refl k
-          head (Ty-F.Prim p) i k = rest k
-          head (Ty-F.Class j xs) i k = rest k
-          head (Ty-F.Raw j) i k = rest k
-          head (Ty-F.Array u j) i k = rest k
-          head (Ty-F.Captured q) i k = rest k
-          head (Ty-F.Meet us) i k = rest k
-          head Ty-F.NullTy i k = rest k
-
-      by : (a < variable_count T) ⊎ (variable_count T ≤ a) → Reach rows a c
-      by (inl l) = dig (bounds_of T (var a)) (λ u m. subst (λ xs. IsIn u xs) (sym (row_is T (variable_count T) (variable_count T) a l)) m) (sym (goes_up T (var c) n (var a)) ∙ e)
-      by (inr l) = absurd (no (outside T (var c) (suc n) (var a) l) e)
+  depends_reached zero a c lt e = absurd (differ (none_at T (var c) (var a)) e)
+  depends_reached (suc n) a c lt e = one_up n a c lt (λ v k. depends_reached n v c lt k) e
 
   pub are_depending : (marks : List Bool) → AreReached rows marks (length rows) → AreDepending T marks
   are_depending marks h v lt = by (is_marked marks v) (depends_on_itself T (var v)) refl refl

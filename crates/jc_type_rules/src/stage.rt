@@ -56,6 +56,18 @@ fn method_broken(
     types_broken(alloc, table, found, &method.thrown)
 }
 
+fn field_broken(
+    alloc: Global,
+    table: &Table,
+    found: Option<Refusal>,
+    number: u64,
+    field: &FieldDecl,
+) -> Result<Option<Refusal>, WantOfMemory>
+    ensures { IfOk result (λ r. r ≡ least found (field_broken table.now number field.now)) }
+{
+    type_broken(alloc, table, found, &field.ty.ty, &field.ty.places)
+}
+
 fn use_broken(
     alloc: Global,
     table: &Table,
@@ -111,8 +123,7 @@ fn fields_broken(
 {
     let mut found = found;
     for number in 0..fields.len() {
-        let written = &fields[number].ty;
-        found = type_broken(alloc, table, found, &written.ty, &written.places)?;
+        found = field_broken(alloc, table, found, number as u64, &fields[number])?;
     }
     Ok(found)
 }
@@ -131,7 +142,14 @@ fn variables_broken(
     let mut found = found;
     for number in 0..variables.len() {
         let depends = is_marked(marks, number);
-        found = variable_broken(alloc, table, found, number as u64, &variables[number], depends)?;
+        found = variable_broken(
+            alloc,
+            table,
+            found,
+            number as u64,
+            &variables[number],
+            depends,
+        )?;
     }
     Ok(found)
 }
@@ -160,12 +178,6 @@ pub fn first_types_break(alloc: Global, table: &Table) -> Result<Option<Refusal>
     let found = classes_broken(alloc, table, None, table.classes.slice())?;
     let found = methods_broken(alloc, table, found, table.methods.slice())?;
     let found = fields_broken(alloc, table, found, table.fields.slice())?;
-    let found = variables_broken(
-        alloc,
-        table,
-        found,
-        marks.slice(),
-        table.variables.slice(),
-    )?;
+    let found = variables_broken(alloc, table, found, marks.slice(), table.variables.slice())?;
     uses_broken(alloc, table, found, table.uses.slice())
 }

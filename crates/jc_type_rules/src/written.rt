@@ -1,5 +1,5 @@
 //! The rules on written types (JLS 4.5): 401 to 406.
-ghost use Rattle.std.specs.Prelude.{◌≡◌, IfOk};
+ghost use Rattle.std.specs.Prelude.{◌≡◌, [], IfOk};
 ghost use Rattle.std.specs.Option.{option_copied};
 ghost use Rattle.jc_types.specs.Breaks.{least};
 ghost use Rattle.jc_types.specs.declared.form.Ty.{out-Ty};
@@ -7,6 +7,7 @@ ghost use Rattle.jc_types.specs.declared.form.Arg.{out-Arg};
 ghost use Rattle.jc_header_rules.specs.Places.{of_written};
 ghost use Rattle.jc_header_rules.specs.Types.{class_types_broken, faults_broken, has_wildcard_at, is_wildcard_at, rule_of_fault, supertype_broken, type_broken, types_broken};
 ghost use Rattle.std.specs.List.{list_any};
+ghost use Rattle.jc_judge.specs.Forming.{class_faults};
 
 use jc_header_rules::{if_broken, or_break};
 use jc_judge::TypeFault;

@@ -9,5 +9,5 @@ returns c =
     let T = c.args.table.now in
     let said : c.args.method.now.modifiers.says_override ≡ true = search rules in
     let told = some_told T c.args.m c.args.method.now c.named-ids.result.now c.in_ok-one.one c.requires.at
-      (c.named-ids.ensures ∙ ap (ids_in c.args.index.now.names c.args.index.now.groups) c.str.ensures ∙ c.requires.index.ids c.args.method.now.name) c.in_ok-one.ensures in
+    (c.named-ids.ensures ∙ ap (ids_in c.args.index.now.names c.args.index.now.groups) c.str.ensures ∙ c.requires.index.ids c.args.method.now.name) c.in_ok-one.ensures in
     ap not told ∙ ap (λ b. b && not (overrides_some T c.args.m 0 T.methods)) (sym said)

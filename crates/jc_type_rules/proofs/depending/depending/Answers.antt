@@ -5,8 +5,8 @@ use Rattle.jc_type_rules.specs.Depending.{rows_below}
 use Rattle.jc_type_rules.proofs.Rowed.{are_depending, rows_closed}
 use Rattle.jc_type_rules.proofs.depending.depending.Goals as goal
 
-pub on_cycles-marks-requires : goal.on_cycles-marks-requires
-on_cycles-marks-requires c = subst (λ (es : List (List ℕ)). IsClosed es) (sym (c.slice.ensures ∙ c.in_ok-rows.ensures)) (rows_closed c.args.table.now c.len.result)
+pub on_cycles-requires : goal.on_cycles-requires
+on_cycles-requires c = subst (λ (es : List (List ℕ)). IsClosed es) (sym (c.slice.ensures ∙ c.in_ok-rows.ensures)) (rows_closed c.args.table.now c.len.result)
 
 pub returns : goal.returns
 returns c =
