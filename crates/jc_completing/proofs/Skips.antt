@@ -8,7 +8,7 @@ pub dropped : {A : Type 0} (xs : List A) (n : ℕ) → n ≤ length xs → rever
 dropped xs n h =
     let m : ℕ = length xs - n in
     let parts : reverse xs ≡ reverse (drop m xs) ++ reverse (take m xs) =
-        ap reverse (sym (take-append-drop m xs)) ∙ reverse-append (take m xs) (drop m xs) in
+    ap reverse (sym (take-append-drop m xs)) ∙ reverse-append (take m xs) (drop m xs) in
     let size : length (reverse (drop m xs)) ≡ n = simp (length-reverse, length-drop) (omega arith) in
     let seam : drop (length (reverse (drop m xs))) (reverse (drop m xs) ++ reverse (take m xs)) ≡ reverse (take m xs) = drop-append_seam (reverse (drop m xs)) (reverse (take m xs)) in
     sym (ap (drop n) parts ∙ (rw size at seam))

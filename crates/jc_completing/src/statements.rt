@@ -7,8 +7,9 @@ ghost use Rattle.jc_pending.specs.declared.statements.ValuesToCompletion.TheVari
 ghost use Rattle.jc_pending.specs.declared.statements.CompletionToCompletion.TheVariants as cc;
 ghost use Rattle.jc_completing.specs.Skipping.{behind_label};
 
+use crate::acting::{label_of, returned_value};
 use crate::listing::stmts_back;
-use jc_acts::{broken, default_in, instead, labelled, or_else, value_or_null};
+use jc_acts::{broken, instead};
 use jc_layout::is_static;
 use jc_numbers::{boolean_of, whole_of};
 use jc_pending::{
@@ -56,7 +57,7 @@ fn switch(
     };
     let list = case_list(alloc, nodes, cases)?;
     let back = stmts_back(alloc, nodes, stmts)?;
-    let skips = or_else(labelled(list.slice(), n), default_in(list.slice()));
+    let skips = label_of(program, list.slice(), n);
     Ok(Next::Then(
         wait!(
             CompletionToCompletion,
@@ -213,7 +214,7 @@ pub fn values_to_completion(
             left: depth,
         }))),
         ValuesToCompletion::Return => Ok(Next::Give(Given::Completion(Completion::Returned(
-            value_or_null(values.slice()),
+            returned_value(program, values.slice()),
         )))),
         ValuesToCompletion::Construct { method } => {
             construct(alloc, program, nodes, depth, method, values, run)

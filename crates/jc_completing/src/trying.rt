@@ -7,13 +7,13 @@ ghost use Rattle.jc_pending.specs.Frames.{Rest, behind_finally, behind_try};
 ghost use Rattle.jc_pending.specs.Leads.{Coherent, Leads};
 ghost use Rattle.jc_completing.specs.Catching.{first_catch};
 
-use jc_acts::is_any_of;
+use crate::acting::is_caught;
 use jc_pending::{CompletionTask, CompletionToCompletion, Given, Next, Task, wait};
 use jc_places::{CatchPlaces, catch_list};
 use jc_rules::{Items, WantOfMemory};
 use jc_running::{Completion, Value};
 use jc_typed::{Nodes, TypedProgram};
-use jc_types::{Erased, Table};
+use jc_types::Erased;
 use jc_values::{Halt, Running, closed_erasure, set_local};
 use std::alloc::Global;
 
@@ -29,7 +29,7 @@ fn first_catch(
 {
     let mut rest = clauses;
     while let [first, more @ ..] = rest {
-        if is_any_of(alloc, &program.table, nodes, e, first.types)? {
+        if is_caught(alloc, program, nodes, e, first.types)? {
             return Ok(Some(*first));
         }
         rest = more;
