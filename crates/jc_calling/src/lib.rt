@@ -2,6 +2,7 @@
 //! of its point makes of the whole.
 #![tactic(auto)]
 
+mod acting;
 mod calls;
 mod classes;
 mod values;

@@ -4,9 +4,9 @@ ghost use Rattle.jc_pending.specs.Values.{nothing_to_value, values_to_value};
 ghost use Rattle.jc_pending.specs.declared.calls.NothingToValue.TheVariants as nv;
 ghost use Rattle.jc_pending.specs.declared.calls.ValuesToValue.TheVariants as lv;
 
+use crate::acting::{array_lengths, printer};
 use jc_acts::{
-    arrays, closed_type, closed_types, constant_at, lengths_of, method_class, new_object,
-    one_value, printer_of,
+    arrays, closed_type, closed_types, constant_at, method_class, new_object, one_value,
 };
 use jc_pending::{
     CallTask, ExpressionTask, Given, JoinTodo, Next, NothingToValue, UseTodo, ValuesToValue, call,
@@ -51,7 +51,7 @@ fn text(
     Ok(Next::Then(
         join!(JoinTodo::TextAgain),
         call!(CallTask::Static {
-            method: printer_of(&program.known.printing, of),
+            method: printer(program, of),
             args,
             types: Items::new(alloc),
         }),
@@ -170,7 +170,7 @@ fn new_array(
 ) -> Result<Next, Halt>
     ensures { (k : Rest) → Coherent k → Leads program.now nodes.now depth k result run.new (k.value (values_to_value program.now nodes.now depth (lv.NewArray ty) values.now run.old.units run.old.state)) }
 {
-    let lengths = lengths_of(alloc, program, values, run)?;
+    let lengths = array_lengths(alloc, program, values, run)?;
     let closed = closed_type(alloc, nodes, ty, run)?;
     let v = arrays(alloc, program, &closed, lengths.slice(), run)?;
     Ok(Next::Give(Given::Value(v)))

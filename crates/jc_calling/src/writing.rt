@@ -3,8 +3,9 @@ ghost use Rattle.jc_pending.specs.Leads.{Coherent, Leads};
 ghost use Rattle.jc_pending.specs.Values.{nothing_task, nothing_to_nothing, value_to_nothing, values_to_nothing};
 ghost use Rattle.jc_pending.specs.declared.expressions.NothingTask.TheVariants as n;
 
+use crate::acting::{note_element, set_declared};
 use crate::classes::class_task;
-use jc_acts::{capture, note, set_first};
+use jc_acts::capture;
 use jc_layout::field_class;
 use jc_meaning::Target;
 use jc_pending::{
@@ -96,7 +97,7 @@ fn take_element(
     ensures { (k : Rest) → Coherent k → Leads program.now nodes.now depth k result run.new (k.nothing (nothing_task program.now nodes.now depth (n.Take place ty captures steps local v) run.old.units run.old.state)) }
 {
     capture(alloc, program, nodes, captures, v, run)?;
-    let value = note(alloc, nodes, place, ty, v, run)?;
+    let value = note_element(alloc, program, nodes, place, ty, v, run)?;
     Ok(Next::Then(
         wait!(ValueToNothing, ValueToNothing::SetLocal { local }),
         expression!(ExpressionTask::Steps { steps, value }),
@@ -202,7 +203,7 @@ pub fn values_to_nothing(
     match todo {
         ValuesToNothing::Drop => Ok(Next::Give(Given::Nothing)),
         ValuesToNothing::SetFirst { local } => {
-            set_first(alloc, run, local, values);
+            set_declared(alloc, program, local, values, run);
             Ok(Next::Give(Given::Nothing))
         }
     }

@@ -1,5 +1,5 @@
 -- Catch clauses as a list from the first one on.
-use Rattle.std.proofs.Common.{◌≡◌, ℕ, List, [], ◌∷◌, Bool, true, false, Option, refl, ap, ◌∙◌, if◌then◌else◌}
+use Rattle.std.proofs.Common.{◌≡◌, ℕ, List, [], ◌∷◌, Bool, true, false, Option, Some, refl, ap, ◌∙◌, if◌then◌else◌}
 use Rattle.jc_types.specs.declared.erased.Erased.{Erased}
 use Rattle.jc_running.specs.declared.value.Completion.{Completion}
 use Rattle.jc_running.specs.declared.value.Value.TheVariants.{Address}
@@ -16,7 +16,7 @@ use Rattle.jc_pending.proofs.Idles.{any_idle}
 use Rattle.jc_completing.specs.Catching.{first_catch, taken}
 
 one : (P : TypedProgram) (d a : ℕ) (b : Bool) (c : Catch) (more : Option Catch)
-    → (if b then behind (set_local c.local (Address a)) (run P d c.body) else taken P d a more) ≡ taken P d a (if b then Option.Some c else more)
+    → (if b then behind (set_local c.local (Address a)) (run P d c.body) else taken P d a more) ≡ taken P d a (if b then Some c else more)
 one P d a true c more = refl
 one P d a false c more = refl
 
@@ -25,8 +25,5 @@ pub caught_first : (P : TypedProgram) (d : ℕ) (catches : Catches) (more : List
 caught_first P d NoCatches more a e = refl
 caught_first P d (MoreCatches before place local types body) more a e =
     let c : Catch = record { local = local; types = types; body = body } in
-    let other : TypedRun Completion = taken P d a (first_catch P e more) in
-    let same : s.is_any_of P (inner P d) (run P d) d e types ≡ s.is_any_of P idle (λ x. stop) 0 e types = ? in
-    let step : (if s.is_any_of P (inner P d) (run P d) d e types then behind (set_local local (Address a)) (run P d body) else other)
-    ≡ taken P d a (first_catch P e (c ∷ more)) = rw same (one P d a (s.is_any_of P idle (λ x. stop) 0 e types) c (first_catch P e more)) in
-    ap (λ (m : TypedRun Completion). s.caught P (inner P d) (run P d) d before a e m) step ∙ caught_first P d before (c ∷ more) a e
+    ap (λ (m : TypedRun Completion). s.caught P (inner P d) (run P d) d before a e m) (one P d a (s.is_any_of P idle (λ x. stop) 0 e types) c (first_catch P e more))
+    ∙ caught_first P d before (c ∷ more) a e

@@ -1,3 +1,4 @@
+pub mod Bodies
 pub mod Catches
 pub mod Turning
 pub mod Skips

@@ -1,14 +1,19 @@
--- Lists that stand in reverse order.
-use Rattle.std.proofs.Common.{◌≡◌, ℕ, ◌-◌, ◌≤◌, List, [], ◌∷◌, ◌++◌, map, reverse, length, take, drop, refl, ap, sym, ◌∙◌, arith}
-use Rattle.std.proofs.lemmas.List.{reverse-append, length-reverse, take-append-drop, length-drop}
-use Rattle.std.proofs.Math.Seq.{drop-append_seam}
+-- The statements behind a label.
+use Rattle.std.proofs.Common.{◌≡◌, ℕ, List, [], map, Option, Some, None, refl, sym}
+use Rattle.std.proofs.lemmas.List.{drop-map}
+use Rattle.jc_running.specs.declared.value.Completion.{Completion}
+use Rattle.jc_typed.specs.declared.program.TypedProgram.{TypedProgram}
+use Rattle.jc_typed.specs.Trees.{Stmt}
+use Rattle.jc_meaning.specs.Kept.{TypedState, TypedRun}
+use Rattle.jc_meaning.specs.Expressions as e
+use Rattle.jc_meaning.specs.Statements as s
+use Rattle.jc_completing.specs.Skipping.{behind_label}
 
--- without the first n of a list are all but the last n of the reversed one
-pub dropped : {A : Type 0} (xs : List A) (n : ℕ) → n ≤ length xs → reverse (take (length xs - n) xs) ≡ drop n (reverse xs)
-dropped xs n h =
-    let m : ℕ = length xs - n in
-    let parts : reverse xs ≡ reverse (drop m xs) ++ reverse (take m xs) =
-        ap reverse (sym (take-append-drop m xs)) ∙ reverse-append (take m xs) (drop m xs) in
-    let size : length (reverse (drop m xs)) ≡ n = simp (length-reverse, length-drop) (omega arith) in
-    let seam : drop (length (reverse (drop m xs))) (reverse (drop m xs) ++ reverse (take m xs)) ≡ reverse (take m xs) = drop-append_seam (reverse (drop m xs)) (reverse (take m xs)) in
-    sym (ap (drop n) parts ∙ (rw size at seam))
+pub map-behind : {A B : Type 0} (f : A → B) (o : Option ℕ) (xs : List A) → map f (behind_label o xs) ≡ behind_label o (map f xs)
+map-behind f None xs = refl
+map-behind f (Some n) xs = sym (drop-map f n xs)
+
+pub run_behind : (P : TypedProgram) (r : e.Inner) (run : Stmt → TypedRun Completion) (k : ℕ) (o : Option ℕ) (ss : List Stmt) (u : ℕ) (t : TypedState)
+    → s.run_all P r run k (behind_label o ss) u t ≡ s.run_from P r run k ss o u t
+run_behind P r run k None ss u t = refl
+run_behind P r run k (Some n) ss u t = refl

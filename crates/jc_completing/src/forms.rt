@@ -4,7 +4,7 @@ ghost use Rattle.jc_pending.specs.Leads.{Coherent, Leads};
 ghost use Rattle.jc_typed.specs.Parts.{parts, stmt_form_over};
 ghost use Rattle.jc_typed.specs.declared.statements.StmtForm.TheVariants as f;
 ghost use Rattle.jc_meaning.specs.Statements as s;
-ghost use Rattle.jc_pending.specs.Level.{inner, run};
+ghost use Rattle.jc_pending.specs.Level as l;
 ghost use Rattle.jc_pending.specs.Statements.{completion_task};
 ghost use Rattle.jc_pending.specs.declared.statements.CompletionTask.TheVariants as t;
 ghost use Rattle.jc_running.specs.declared.value.Completion.{Completion};
@@ -33,7 +33,7 @@ fn block(
     stmts: u32,
     run: &mut Running,
 ) -> Result<Next, Halt>
-    ensures { (k : Rest) → Coherent k → Leads program.now nodes.now depth k result run.new (k.completion (s.form_act program.now (inner program.now depth) (run program.now depth) depth place (stmt_form_over (parts nodes.now) (f.Block stmts)) run.old.units run.old.state)) }
+    ensures { (k : Rest) → Coherent k → Leads program.now nodes.now depth k result run.new (k.completion (s.form_act program.now (l.inner program.now depth) (l.run program.now depth) depth place (stmt_form_over (parts nodes.now) (f.Block stmts)) run.old.units run.old.state)) }
 {
     let stmts = stmts_back(alloc, nodes, stmts)?;
     Ok(Next::Begin(Task::Completion(CompletionTask::Stmts { stmts })))
@@ -51,7 +51,7 @@ fn if_else(
     other: u32,
     run: &mut Running,
 ) -> Result<Next, Halt>
-    ensures { (k : Rest) → Coherent k → Leads program.now nodes.now depth k result run.new (k.completion (s.form_act program.now (inner program.now depth) (run program.now depth) depth place (stmt_form_over (parts nodes.now) (f.If arms other)) run.old.units run.old.state)) }
+    ensures { (k : Rest) → Coherent k → Leads program.now nodes.now depth k result run.new (k.completion (s.form_act program.now (l.inner program.now depth) (l.run program.now depth) depth place (stmt_form_over (parts nodes.now) (f.If arms other)) run.old.units run.old.state)) }
 {
     let arms = arms_back(alloc, nodes, arms)?;
     Ok(Next::Begin(Task::Completion(CompletionTask::Arms { arms, other })))
@@ -70,7 +70,7 @@ fn try_finally(
     copies: u64,
     run: &mut Running,
 ) -> Result<Next, Halt>
-    ensures { (k : Rest) → Coherent k → Leads program.now nodes.now depth k result run.new (k.completion (s.form_act program.now (inner program.now depth) (run program.now depth) depth place (stmt_form_over (parts nodes.now) (f.Try body catches last copies)) run.old.units run.old.state)) }
+    ensures { (k : Rest) → Coherent k → Leads program.now nodes.now depth k result run.new (k.completion (s.form_act program.now (l.inner program.now depth) (l.run program.now depth) depth place (stmt_form_over (parts nodes.now) (f.Try body catches last copies)) run.old.units run.old.state)) }
 {
     let stmts = stmts_back(alloc, nodes, last)?;
     let task = Task::Completion(CompletionTask::Try { body, catches });
@@ -103,7 +103,7 @@ fn form(
     form: StmtForm,
     run: &mut Running,
 ) -> Result<Next, Halt>
-    ensures { (k : Rest) → Coherent k → Leads program.now nodes.now depth k result run.new (k.completion (s.form_act program.now (inner program.now depth) (run program.now depth) depth place (stmt_form_over (parts nodes.now) form) run.old.units run.old.state)) }
+    ensures { (k : Rest) → Coherent k → Leads program.now nodes.now depth k result run.new (k.completion (s.form_act program.now (l.inner program.now depth) (l.run program.now depth) depth place (stmt_form_over (parts nodes.now) form) run.old.units run.old.state)) }
 {
     match form {
         StmtForm::Empty => Ok(Next::Give(Given::Completion(Completion::Normal))),

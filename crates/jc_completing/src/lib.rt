@@ -2,6 +2,7 @@
 //! makes of the whole.
 #![tactic(auto)]
 
+mod acting;
 mod bodies;
 mod forms;
 mod listing;

@@ -2,7 +2,8 @@ ghost use Rattle.jc_pending.specs.Frames.{Rest};
 ghost use Rattle.jc_pending.specs.Leads.{Coherent, Leads};
 ghost use Rattle.jc_pending.specs.Loops.{completion_to_numbered, nothing_to_numbered, numbered_task, numbered_to_completion, turn_to_completion};
 
-use jc_acts::{is_before, numbered};
+use crate::acting::after_element;
+use jc_acts::is_before;
 use jc_pending::{
     CompletionTask, CompletionToNumbered, Given, Next, NothingTask, NothingToNumbered,
     NumberedTask, NumberedToCompletion, Task, TurnToCompletion, wait,
@@ -102,7 +103,7 @@ pub fn completion_to_numbered(
     ensures { (k : Rest) → Coherent k → Leads program.now nodes.now depth k result run.new (k.numbered (completion_to_numbered program.now nodes.now depth todo c run.old.units run.old.state)) }
 {
     let CompletionToNumbered::After { own, next } = todo;
-    Ok(Next::Give(Given::Numbered(numbered(own, c, next))))
+    Ok(Next::Give(Given::Numbered(after_element(program, own, c, next))))
 }
 
 /// What follows a turn over an array.

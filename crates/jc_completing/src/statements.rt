@@ -1,4 +1,11 @@
-ghost use Rattle.std.specs.Prelude.{◌≡◌, drop, length, reverse};
+ghost use Rattle.std.specs.Prelude.{◌≡◌, IfOk, reverse};
+ghost use Rattle.jc_running.specs.Outcomes.{bind, broken, give, stop};
+ghost use Rattle.jc_typed.specs.Parts.{cases_of, stmts_of};
+ghost use Rattle.jc_meaning.specs.Programs.{stmt_list};
+ghost use Rattle.jc_meaning.specs.Statements as s;
+ghost use Rattle.jc_values.specs.Idle.{idle};
+ghost use Rattle.jc_pending.specs.Level as l;
+ghost use Rattle.jc_pending.specs.Level.{stmts_back};
 ghost use Rattle.jc_pending.specs.Frames.{Rest};
 ghost use Rattle.jc_pending.specs.Leads.{Coherent, Leads};
 ghost use Rattle.jc_pending.specs.Statements.{completion_to_completion, nothing_to_completion, value_to_completion, values_to_completion};
@@ -7,8 +14,9 @@ ghost use Rattle.jc_pending.specs.declared.statements.ValuesToCompletion.TheVari
 ghost use Rattle.jc_pending.specs.declared.statements.CompletionToCompletion.TheVariants as cc;
 ghost use Rattle.jc_completing.specs.Skipping.{behind_label};
 
+use crate::acting::{label_of, returned_value};
 use crate::listing::stmts_back;
-use jc_acts::{broken, default_in, instead, labelled, or_else, value_or_null};
+use jc_acts::{broken, instead};
 use jc_layout::is_static;
 use jc_numbers::{boolean_of, whole_of};
 use jc_pending::{
@@ -17,7 +25,7 @@ use jc_pending::{
     wait,
 };
 use jc_places::case_list;
-use jc_rules::Items;
+use jc_rules::{Items, WantOfMemory};
 use jc_running::{Completion, Value};
 use jc_typed::{Nodes, TypedProgram};
 use jc_types::{FieldId, MethodId};
@@ -37,7 +45,48 @@ fn labelled_stmts(back: Items<u32>, skips: Option<u32>) -> Items<u32>
     Items::of(list)
 }
 
-// The cases of a `switch` (JLS 14.11).
+// The statements that a `switch` runs for a number, in reverse order (JLS 14.11).
+fn case_stmts(
+    alloc: Global,
+    program: &TypedProgram,
+    nodes: &Nodes,
+    cases: u32,
+    stmts: u32,
+    n: i32,
+) -> Result<Items<u32>, WantOfMemory>
+    ensures { IfOk result (λ r. stmts_back nodes.now r ≡ behind_label (s.or_else program.now idle (λ x. stop) 0 (s.labelled program.now idle (λ x. stop) 0 n (cases_of nodes.now cases)) (s.default_in program.now idle (λ x. stop) 0 (cases_of nodes.now cases))) (stmt_list (stmts_of nodes.now stmts))) }
+{
+    let list = case_list(alloc, nodes, cases)?;
+    let back = stmts_back(alloc, nodes, stmts)?;
+    let skips = label_of(program, list.slice(), n);
+    Ok(labelled_stmts(back, skips))
+}
+
+fn switch_on(
+    alloc: Global,
+    program: &TypedProgram,
+    nodes: &Nodes,
+    depth: u64,
+    own: u32,
+    cases: u32,
+    stmts: u32,
+    n: i32,
+    run: &mut Running,
+) -> Result<Next, Halt>
+    ensures { (k : Rest) → Coherent k → Leads program.now nodes.now depth k result run.new (k.completion (bind (s.switched program.now (l.inner program.now depth) (l.run program.now depth) depth (cases_of nodes.now cases) (stmt_list (stmts_of nodes.now stmts)) n) (λ x. give (broken own x)) run.old.units run.old.state)) }
+{
+    let kept = case_stmts(alloc, program, nodes, cases, stmts, n)?;
+    Ok(Next::Then(
+        wait!(
+            CompletionToCompletion,
+            CompletionToCompletion::Broken { own }
+        ),
+        Task::Completion(CompletionTask::Stmts { stmts: kept }),
+    ))
+}
+
+// The cases of a `switch`.
+#[tactic(auto, using(jc_pending::proofs::Halting::of_completion))]
 fn switch(
     alloc: Global,
     program: &TypedProgram,
@@ -51,21 +100,10 @@ fn switch(
 ) -> Result<Next, Halt>
     ensures { (k : Rest) → Coherent k → Leads program.now nodes.now depth k result run.new (k.completion (value_to_completion program.now nodes.now depth (vc.Switch own cases stmts) v run.old.units run.old.state)) }
 {
-    let Some(n) = whole_of(v) else {
-        return Err(Halt::Wrong);
-    };
-    let list = case_list(alloc, nodes, cases)?;
-    let back = stmts_back(alloc, nodes, stmts)?;
-    let skips = or_else(labelled(list.slice(), n), default_in(list.slice()));
-    Ok(Next::Then(
-        wait!(
-            CompletionToCompletion,
-            CompletionToCompletion::Broken { own }
-        ),
-        Task::Completion(CompletionTask::Stmts {
-            stmts: labelled_stmts(back, skips),
-        }),
-    ))
+    match whole_of(v) {
+        None => Err(Halt::Wrong),
+        Some(n) => switch_on(alloc, program, nodes, depth, own, cases, stmts, n, run),
+    }
 }
 
 // The initialiser of a field sets the static field, or that of this object (JLS 8.3.2).
@@ -213,7 +251,7 @@ pub fn values_to_completion(
             left: depth,
         }))),
         ValuesToCompletion::Return => Ok(Next::Give(Given::Completion(Completion::Returned(
-            value_or_null(values.slice()),
+            returned_value(program, values.slice()),
         )))),
         ValuesToCompletion::Construct { method } => {
             construct(alloc, program, nodes, depth, method, values, run)

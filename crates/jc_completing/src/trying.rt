@@ -1,19 +1,21 @@
-ghost use Rattle.std.specs.Prelude.{◌≡◌, IfOk, map};
+ghost use Rattle.std.specs.Prelude.{◌≡◌, [], IfOk, map};
+ghost use Rattle.jc_meaning.specs.Statements as s;
+ghost use Rattle.jc_pending.specs.Level as l;
+ghost use Rattle.jc_typed.specs.Parts.{catches_of};
 ghost use Rattle.std.specs.Option.{option_map};
-ghost use Rattle.jc_running.specs.Outcomes.{Thrown, Val};
-ghost use Rattle.jc_typed.specs.declared.program.TypedProgram.{TypedProgram};
-ghost use Rattle.jc_places.specs.Sorts.{catch_of};
+ghost use Rattle.jc_running.specs.Outcomes.{Thrown, Val, throw};
+ghost use Rattle.jc_places.specs.Sorts.{catch_of, catches_before};
 ghost use Rattle.jc_pending.specs.Frames.{Rest, behind_finally, behind_try};
 ghost use Rattle.jc_pending.specs.Leads.{Coherent, Leads};
-ghost use Rattle.jc_completing.specs.Catching.{first_catch};
+ghost use Rattle.jc_completing.specs.Catching.{first_catch, taken};
 
-use jc_acts::is_any_of;
+use crate::acting::is_caught;
 use jc_pending::{CompletionTask, CompletionToCompletion, Given, Next, Task, wait};
 use jc_places::{CatchPlaces, catch_list};
 use jc_rules::{Items, WantOfMemory};
 use jc_running::{Completion, Value};
 use jc_typed::{Nodes, TypedProgram};
-use jc_types::{Erased, Table};
+use jc_types::Erased;
 use jc_values::{Halt, Running, closed_erasure, set_local};
 use std::alloc::Global;
 
@@ -29,7 +31,7 @@ fn first_catch(
 {
     let mut rest = clauses;
     while let [first, more @ ..] = rest {
-        if is_any_of(alloc, &program.table, nodes, e, first.types)? {
+        if is_caught(alloc, program, nodes, e, first.types)? {
             return Ok(Some(*first));
         }
         rest = more;
@@ -51,8 +53,61 @@ pub fn caught(
     Ok(Next::Give(Given::Completion(c)))
 }
 
+// The clause of a `try` that takes an exception.
+fn clause_for(
+    alloc: Global,
+    program: &TypedProgram,
+    nodes: &Nodes,
+    catches: u32,
+    e: Erased,
+) -> Result<Option<CatchPlaces>, WantOfMemory>
+    ensures { IfOk result (λ r. first_catch program.now e (catches_before (catches_of nodes.now catches) []) ≡ option_map (catch_of nodes.now) r) }
+{
+    let list = catch_list(alloc, nodes, catches)?;
+    let clause = first_catch(alloc, program, nodes, e, list.slice())?;
+    Ok(clause)
+}
+
+// A clause runs with the exception in its variable; where there is none, it is thrown on.
+#[tactic(auto, using(jc_pending::proofs::Halting::of_completion))]
+fn taken(
+    alloc: Global,
+    program: &TypedProgram,
+    nodes: &Nodes,
+    depth: u64,
+    clause: Option<CatchPlaces>,
+    address: u64,
+    run: &mut Running,
+) -> Result<Next, Halt>
+    ensures { (k : Rest) → Coherent k → Leads program.now nodes.now depth k result run.new (k.completion (taken program.now depth address (option_map (catch_of nodes.now) clause) run.old.units run.old.state)) }
+{
+    match clause {
+        None => Err(Halt::Thrown(address)),
+        Some(places) => {
+            set_local(alloc, run, places.local as u64, Value::Address(address));
+            Ok(Next::Begin(Task::Completion(CompletionTask::Stmt { at: places.body })))
+        }
+    }
+}
+
+fn catch_in(
+    alloc: Global,
+    program: &TypedProgram,
+    nodes: &Nodes,
+    depth: u64,
+    catches: u32,
+    address: u64,
+    e: Erased,
+    run: &mut Running,
+) -> Result<Next, Halt>
+    ensures { (k : Rest) → Coherent k → Leads program.now nodes.now depth k result run.new (k.completion (s.caught program.now (l.inner program.now depth) (l.run program.now depth) depth (catches_of nodes.now catches) address e (throw address) run.old.units run.old.state)) }
+{
+    let clause = clause_for(alloc, program, nodes, catches, e)?;
+    taken(alloc, program, nodes, depth, clause, address, run)
+}
+
 /// Where the block throws an object, the first clause that takes it runs with it in its variable.
-#[tactic(auto, using(jc_pending::proofs::Halting::of_completion, crate::proofs::Catches::caught_first))]
+#[tactic(auto, using(jc_pending::proofs::Halting::of_completion))]
 pub fn thrown_into(
     alloc: Global,
     program: &TypedProgram,
@@ -68,14 +123,7 @@ pub fn thrown_into(
         return Err(Halt::Wrong);
     };
     let e = closed_erasure(alloc, &program.table, &object.kept);
-    let list = catch_list(alloc, nodes, catches)?;
-    match first_catch(alloc, program, nodes, e, list.slice())? {
-        None => Err(Halt::Thrown(address)),
-        Some(clause) => {
-            set_local(alloc, run, clause.local as u64, Value::Address(address));
-            Ok(Next::Begin(Task::Completion(CompletionTask::Stmt { at: clause.body })))
-        }
-    }
+    catch_in(alloc, program, nodes, depth, catches, address, e, run)
 }
 
 /// A finally block runs behind the rest where that completed (JLS 14.20.2).

@@ -66,7 +66,7 @@ fn leave_nothing(
 }
 
 // .. and with a thrown object
-fn leave_thrown(
+fn leave_value_thrown(
     program: &TypedProgram,
     nodes: &Nodes,
     depth: u64,
@@ -74,6 +74,38 @@ fn leave_thrown(
     run: &mut Running,
 ) -> Result<Next, Halt>
     ensures { (k : Rest) → Coherent k → Leads program.now nodes.now depth k result run.new (k.value (leave (Thrown address run.old.units run.old.state))) }
+{
+    if run.units == 0 {
+        return Err(Halt::Going);
+    }
+    run.units -= 1;
+    Err(Halt::Thrown(address))
+}
+
+fn leave_completion_thrown(
+    program: &TypedProgram,
+    nodes: &Nodes,
+    depth: u64,
+    address: u64,
+    run: &mut Running,
+) -> Result<Next, Halt>
+    ensures { (k : Rest) → Coherent k → Leads program.now nodes.now depth k result run.new (k.completion (leave (Thrown address run.old.units run.old.state))) }
+{
+    if run.units == 0 {
+        return Err(Halt::Going);
+    }
+    run.units -= 1;
+    Err(Halt::Thrown(address))
+}
+
+fn leave_nothing_thrown(
+    program: &TypedProgram,
+    nodes: &Nodes,
+    depth: u64,
+    address: u64,
+    run: &mut Running,
+) -> Result<Next, Halt>
+    ensures { (k : Rest) → Coherent k → Leads program.now nodes.now depth k result run.new (k.nothing (leave (Thrown address run.old.units run.old.state))) }
 {
     if run.units == 0 {
         return Err(Halt::Going);
@@ -183,9 +215,9 @@ pub fn thrown(
     match todo {
         Todo::Begin(_) => Err(Halt::Thrown(address)),
         Todo::Wait(_) => Err(Halt::Thrown(address)),
-        Todo::LeaveValue => leave_thrown(program, nodes, depth, address, run),
-        Todo::LeaveCompletion => leave_thrown(program, nodes, depth, address, run),
-        Todo::LeaveNothing => leave_thrown(program, nodes, depth, address, run),
+        Todo::LeaveValue => leave_value_thrown(program, nodes, depth, address, run),
+        Todo::LeaveCompletion => leave_completion_thrown(program, nodes, depth, address, run),
+        Todo::LeaveNothing => leave_nothing_thrown(program, nodes, depth, address, run),
         Todo::Back { locals, frame } => {
             back_thrown(program, nodes, depth, locals, frame, address, run)
         }

@@ -5,7 +5,7 @@ ghost use Rattle.jc_typed.specs.declared.program.TypedProgram.{TypedProgram};
 ghost use Rattle.jc_meaning.specs.Kept.{TypedState};
 ghost use Rattle.jc_values.specs.Doing.{Does};
 ghost use Rattle.jc_values.specs.declared.halt.Running.{Running};
-ghost use Rattle.jc_pending.specs.Frames.{Rest, all_to_do, at_the_end, begun, left_to_do};
+ghost use Rattle.jc_pending.specs.Frames.{Rest, all_to_do, at_the_end, begun, entry_to_do, left_to_do};
 ghost use Rattle.jc_pending.specs.Leads.{Coherent, GivenLeads, Leads};
 ghost use Rattle.jc_pending.specs.Level.{nodes_of};
 
@@ -30,7 +30,7 @@ pub fn nodes_of<'a>(program: &'a TypedProgram, none: &'a Nodes, m: MethodId) -> 
 }
 
 // What is left to do takes an outcome.
-fn step(
+fn apply(
     alloc: Global,
     program: &TypedProgram,
     nodes: &Nodes,
@@ -49,6 +49,30 @@ fn step(
         Err(Halt::Wrong) => Err(Halt::Wrong),
         Err(Halt::WantOfMemory) => Err(Halt::WantOfMemory),
     }
+}
+
+// .. over the nodes of its method
+fn step(
+    alloc: Global,
+    program: &TypedProgram,
+    none: &Nodes,
+    entry: Entry,
+    outcome: Result<Given, Halt>,
+    run: &mut Running,
+) -> Result<Next, Halt>
+    requires { none.now ≡ [] }
+    ensures { (k : Rest) (w : Out TypedState Value) → Coherent k → GivenLeads (entry_to_do program.now entry k) outcome run.old w → Leads program.now (nodes_of program.now entry.level.method) entry.level.depth k result run.new w }
+{
+    let nodes = nodes_of(program, none, entry.level.method);
+    apply(
+        alloc,
+        program,
+        nodes,
+        entry.level.depth,
+        entry.todo,
+        outcome,
+        run,
+    )
 }
 
 // What begins is left to do first.
@@ -128,13 +152,12 @@ pub fn do_all(
     let none = Nodes::new(alloc);
     let mut pending = pending;
     let mut outcome = outcome;
-    for _ in 0..u64::MAX {
+    'steps: for _ in 0..u64::MAX {
         match pending.pop() {
             None => return ended(outcome),
             Some(entry) => {
                 let level = entry.level;
-                let nodes = nodes_of(program, &none, level.method);
-                let next = step(alloc, program, nodes, level.depth, entry.todo, outcome, run);
+                let next = step(alloc, program, &none, entry, outcome, run);
                 outcome = settle(&mut pending, level, next);
             }
         }

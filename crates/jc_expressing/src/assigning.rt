@@ -1,8 +1,10 @@
+ghost use Rattle.std.specs.Prelude.{◌≡◌, if◌then◌else◌};
 ghost use Rattle.jc_pending.specs.Frames.{Rest};
 ghost use Rattle.jc_pending.specs.Leads.{Coherent, Leads};
 ghost use Rattle.jc_pending.specs.Values.{change_value, target_task, target_to_value, value_to_target, values_to_target};
+ghost use Rattle.jc_pending.specs.declared.expressions.ChangeTodo.TheVariants as h;
 
-use jc_acts::note;
+use crate::noting::note_read;
 use jc_meaning::Target;
 use jc_numbers::stepped;
 use jc_pending::{
@@ -11,8 +13,10 @@ use jc_pending::{
     operands, used, wait,
 };
 use jc_places::variable_node;
+use jc_rules::Place;
 use jc_running::Value;
-use jc_typed::{Nodes, TypedProgram, VariableNode};
+use jc_typed::{Joint, Nodes, TypedProgram, VariableNode};
+use jc_types::Op;
 use jc_values::{Halt, Running, given};
 use std::alloc::Global;
 
@@ -140,6 +144,76 @@ pub fn target_to_value(
     }
 }
 
+// The value of the variable of `v op= e` is noted, and converted.
+#[tactic(auto, using(jc_pending::proofs::Halting::of_value))]
+fn compound_note(
+    alloc: Global,
+    program: &TypedProgram,
+    nodes: &Nodes,
+    depth: u64,
+    place: Place,
+    ty: u32,
+    joint: Joint,
+    left: u32,
+    right: u32,
+    into: u32,
+    target: Target,
+    v: Value,
+    run: &mut Running,
+) -> Result<Next, Halt>
+    ensures { (k : Rest) → Coherent k → Leads program.now nodes.now depth k result run.new (k.value (change_value program.now nodes.now depth (h.CompoundNote place ty joint left right into target) v run.old.units run.old.state)) }
+{
+    let value = note_read(alloc, program, nodes, place, ty, v, run)?;
+    Ok(Next::Then(
+        change!(ChangeTodo::CompoundJoin {
+            joint,
+            right,
+            into,
+            target
+        }),
+        expression!(ExpressionTask::Steps { steps: left, value }),
+    ))
+}
+
+// .. and that of `++` and `--`
+#[tactic(auto, using(jc_pending::proofs::Halting::of_value))]
+fn step_note(
+    alloc: Global,
+    program: &TypedProgram,
+    nodes: &Nodes,
+    depth: u64,
+    place: Place,
+    ty: u32,
+    op: Op,
+    from: u32,
+    into: u32,
+    is_prefix: bool,
+    target: Target,
+    v: Value,
+    run: &mut Running,
+) -> Result<Next, Halt>
+    ensures { (k : Rest) → Coherent k → Leads program.now nodes.now depth k result run.new (k.value (change_value program.now nodes.now depth (h.StepNote place ty op from into is_prefix target) v run.old.units run.old.state)) }
+{
+    let value = note_read(alloc, program, nodes, place, ty, v, run)?;
+    Ok(Next::Then(
+        change!(ChangeTodo::StepBy {
+            op,
+            into,
+            is_prefix,
+            target,
+            before: v
+        }),
+        expression!(ExpressionTask::Steps { steps: from, value }),
+    ))
+}
+
+// The value before the change, or behind it.
+fn before_or_behind(is_prefix: bool, before: Value, behind: Value) -> Value
+    ensures { result ≡ (if is_prefix then behind else before) }
+{
+    if is_prefix { behind } else { before }
+}
+
 /// What follows between the parts of `v op= e`, and of `++` and `--`.
 #[tactic(auto, using(jc_pending::proofs::Halting::of_value))]
 pub fn change_value(
@@ -162,18 +236,9 @@ pub fn change_value(
             right,
             into,
             target,
-        } => {
-            let value = note(alloc, nodes, place, ty, v, run)?;
-            Ok(Next::Then(
-                change!(ChangeTodo::CompoundJoin {
-                    joint,
-                    right,
-                    into,
-                    target
-                }),
-                expression!(ExpressionTask::Steps { steps: left, value }),
-            ))
-        }
+        } => compound_note(
+            alloc, program, nodes, depth, place, ty, joint, left, right, into, target, v, run,
+        ),
         ChangeTodo::CompoundJoin {
             joint,
             right,
@@ -202,19 +267,9 @@ pub fn change_value(
             into,
             is_prefix,
             target,
-        } => {
-            let value = note(alloc, nodes, place, ty, v, run)?;
-            Ok(Next::Then(
-                change!(ChangeTodo::StepBy {
-                    op,
-                    into,
-                    is_prefix,
-                    target,
-                    before: v
-                }),
-                expression!(ExpressionTask::Steps { steps: from, value }),
-            ))
-        }
+        } => step_note(
+            alloc, program, nodes, depth, place, ty, op, from, into, is_prefix, target, v, run,
+        ),
         ChangeTodo::StepBy {
             op,
             into,
@@ -236,19 +291,14 @@ pub fn change_value(
             is_prefix,
             target,
             before,
-        } => {
-            let task = Task::Nothing(NothingTask::Write { target, value: v });
-            if is_prefix {
-                Ok(Next::Then(
-                    wait!(NothingToValue, NothingToValue::Give { value: v }),
-                    task,
-                ))
-            } else {
-                Ok(Next::Then(
-                    wait!(NothingToValue, NothingToValue::Give { value: before }),
-                    task,
-                ))
-            }
-        }
+        } => Ok(Next::Then(
+            wait!(
+                NothingToValue,
+                NothingToValue::Give {
+                    value: before_or_behind(is_prefix, before, v)
+                }
+            ),
+            Task::Nothing(NothingTask::Write { target, value: v }),
+        )),
     }
 }

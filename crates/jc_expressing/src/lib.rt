@@ -6,6 +6,7 @@ mod assigning;
 mod forms;
 mod joining;
 mod listing;
+mod noting;
 mod using;
 
 pub use assigning::{

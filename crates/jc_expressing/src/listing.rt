@@ -7,6 +7,7 @@ ghost use Rattle.jc_pending.specs.Level.{operands_back};
 ghost use Rattle.jc_pending.specs.Values.{list_value, value_task, value_to_values, values_task, values_to_values};
 ghost use Rattle.jc_pending.specs.declared.expressions.ValueTask.TheVariants as v;
 ghost use Rattle.jc_pending.specs.declared.expressions.ListTodo.TheVariants as i;
+ghost use Rattle.jc_pending.specs.declared.expressions.ValuesTask.TheVariants as vs;
 
 use jc_numbers::{boolean_of, truth};
 use jc_pending::{
@@ -34,8 +35,27 @@ pub fn operands_back(alloc: Global, nodes: &Nodes, at: u32) -> Result<Items<u32>
     Ok(out)
 }
 
-/// The values of operands, from left to right (JLS 15.7.1, 15.12.4.2).
-#[tactic(auto, using(jc_pending::proofs::Halting::of_values))]
+// The values of operands, from left to right (JLS 15.7.1, 15.12.4.2): those before the last one, and then that.
+fn values_of(
+    alloc: Global,
+    program: &TypedProgram,
+    nodes: &Nodes,
+    depth: u64,
+    at: u32,
+    run: &mut Running,
+) -> Result<Next, Halt>
+    ensures { (k : Rest) → Coherent k → Leads program.now nodes.now depth k result run.new (k.values (values_task program.now nodes.now depth (vs.Operands at) run.old.units run.old.state)) }
+{
+    match operands_node(nodes, at) {
+        ListNode::Empty => Ok(Next::Give(Given::Values(Items::new(alloc)))),
+        ListNode::More { before, last } => Ok(Next::Then(
+            wait!(ValuesToValues, ValuesToValues::Last { last }),
+            operands!(before),
+        )),
+    }
+}
+
+/// What the values of operands begin with.
 pub fn values_task(
     alloc: Global,
     program: &TypedProgram,
@@ -46,13 +66,8 @@ pub fn values_task(
 ) -> Result<Next, Halt>
     ensures { (k : Rest) → Coherent k → Leads program.now nodes.now depth k result run.new (k.values (values_task program.now nodes.now depth task run.old.units run.old.state)) }
 {
-    let ValuesTask::Operands { at } = task;
-    match operands_node(nodes, at) {
-        ListNode::Empty => Ok(Next::Give(Given::Values(Items::new(alloc)))),
-        ListNode::More { before, last } => Ok(Next::Then(
-            wait!(ValuesToValues, ValuesToValues::Last { last }),
-            operands!(before),
-        )),
+    match task {
+        ValuesTask::Operands { at } => values_of(alloc, program, nodes, depth, at, run),
     }
 }
 

@@ -2,8 +2,10 @@ ghost use Rattle.jc_pending.specs.Frames.{Rest};
 ghost use Rattle.jc_pending.specs.Leads.{Coherent, Leads};
 ghost use Rattle.jc_pending.specs.Values.{use_value};
 ghost use Rattle.jc_pending.specs.declared.expressions.UseTodo.TheVariants as u;
+ghost use Rattle.jc_typed.specs.declared.lists.StepNode.TheVariants as step;
 
-use jc_acts::{box_of, capture, forget, instance_of, is_noted, noted, one_value, prefixes};
+use crate::noting::{is_instance, note_form};
+use jc_acts::{box_of, capture, forget, one_value, prefixes};
 use jc_numbers::{boolean_of, converted};
 use jc_pending::{
     CallTask, ClassTask, ExpressionTask, Given, Next, NothingToValue, TargetTask, UseTodo, call,
@@ -55,7 +57,7 @@ pub fn use_value(
         )?))),
         UseTodo::Length => Ok(Next::Give(Given::Value(length_of(alloc, program, run, v)?))),
         UseTodo::Prefix { ops } => prefix_value(alloc, program, nodes, depth, ops, v, run),
-        UseTodo::InstanceOf { to } => Ok(Next::Give(Given::Value(instance_of(
+        UseTodo::InstanceOf { to } => Ok(Next::Give(Given::Value(is_instance(
             alloc, program, run, to, v,
         )?))),
         UseTodo::Branches {
@@ -91,7 +93,7 @@ fn note_value(
     ensures { (k : Rest) → Coherent k → Leads program.now nodes.now depth k result run.new (k.value (use_value program.now nodes.now depth (u.Noted place ty captures form) v run.old.units run.old.state)) }
 {
     capture(alloc, program, nodes, captures, v, run)?;
-    let w = noted(alloc, nodes, is_noted(form), place, ty, v, run)?;
+    let w = note_form(alloc, program, nodes, place, ty, form, v, run)?;
     Ok(Next::Give(Given::Value(w)))
 }
 

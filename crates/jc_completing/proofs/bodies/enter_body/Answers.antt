@@ -9,5 +9,5 @@ returns-then-depth-eq0 c = λ k coherent. completion_going k _ coherent ∙ sym 
 pub returns-then-run-eq0 : goal.returns-then-run-eq0
 returns-then-run-eq0 c = λ k coherent. completion_going k _ coherent ∙ sym (ap k.completion (body_spent _ _ _ _ _ c.if-run-eq0.true))
 
-pub returns-else-run-eq0 : goal.returns-else-run-eq0
-returns-else-run-eq0 c = λ k coherent. sym (ap k.completion (body_at _ _ _ _ _ (omega arith) (omega arith)))
+pub returns : goal.returns
+returns c = λ k coherent. sym (ap k.completion (body_at _ _ _ _ _ (omega arith) (omega arith)))

@@ -8,5 +8,5 @@ returns-then-depth-eq0 c = λ k coherent. sym (ap k.value (expr_none _ _ _ _ _ c
 pub returns-then-run-eq0 : goal.returns-then-run-eq0
 returns-then-run-eq0 c = λ k coherent. sym (ap k.value (expr_spent _ _ _ _ _ c.if-run-eq0.true))
 
-pub returns-else-run-eq0 : goal.returns-else-run-eq0
-returns-else-run-eq0 c = λ k coherent. sym (ap k.value (expr_at _ _ _ _ _ (omega arith) (omega arith)))
+pub returns : goal.returns
+returns c = λ k coherent. sym (ap k.value (expr_at _ _ _ _ _ (omega arith) (omega arith)))
