@@ -23,7 +23,14 @@ fn seen_of(alloc: Global, text: &str) -> Result<Option<Seen>, WantOfMemory> {
     }
     if run.is_main {
         let args: Vec<Items<u16>> = Vec::new(alloc);
-        evaluate_main(alloc, &program, run.method, args.as_slice(), input, run.units)
+        evaluate_main(
+            alloc,
+            &program,
+            run.method,
+            args.as_slice(),
+            input,
+            run.units,
+        )
     } else {
         evaluate(alloc, &program, run.method, input, run.units)
     }

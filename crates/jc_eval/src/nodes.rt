@@ -2,10 +2,13 @@ use crate::words::{number, op, primitive, signed, ty};
 use jc_rules::{Items, Place, WantOfMemory};
 use jc_running::Check;
 use jc_typed::{
-    ArmsNode, CallKind, Capture, CapturesNode, Case, CasesNode, CatchesNode, DeclaredNode, ExprForm, ExprNode, Joint,
-    LinksNode, ListNode, Nodes, OperandNode, OpsNode, Printed, StepNode, StepsNode, StmtForm, StmtNode, VariableNode,
+    ArmsNode, CallKind, Capture, CapturesNode, Case, CasesNode, CatchesNode, DeclaredNode,
+    ExprForm, ExprNode, Joint, LinksNode, ListNode, Nodes, OperandNode, OpsNode, Printed, StepNode,
+    StepsNode, StmtForm, StmtNode, VariableNode,
 };
-use jc_types::{CaptureId, ClassId, Constant, FieldId, MethodId, Phase, Primitive, erasure, Env, Table};
+use jc_types::{
+    CaptureId, ClassId, Constant, Env, FieldId, MethodId, Phase, Primitive, Table, erasure,
+};
 use std::alloc::Global;
 
 const NOWHERE: Place = Place { file: 1, at: 0 };
@@ -272,7 +275,12 @@ fn text(alloc: Global, w: &[&str]) -> Result<Constant, WantOfMemory> {
 }
 
 /// Adds the node that a line spells.
-pub fn push(alloc: Global, table: &Table, nodes: &mut Nodes, w: &[&str]) -> Result<u32, WantOfMemory> {
+pub fn push(
+    alloc: Global,
+    table: &Table,
+    nodes: &mut Nodes,
+    w: &[&str],
+) -> Result<u32, WantOfMemory> {
     let empty = w.len() > 1 && w[1] == "E";
     match w[0] {
         "type" => nodes.push_type(ty(alloc, w[1])?),

@@ -2,12 +2,13 @@ use crate::nodes::push;
 use crate::words::{number, ty, types, words};
 use jc_rules::{Items, Place, Text, WantOfMemory};
 use jc_typed::{
-    Body, BoxedIn, Boxes, Iterating, Known, Local, Natives, Nodes, Printing, Selection, ThrownClasses, TypedMethod,
-    TypedProgram,
+    Body, BoxedIn, Boxes, Iterating, Known, Local, Natives, Nodes, Printing, Selection,
+    ThrownClasses, TypedMethod, TypedProgram,
 };
 use jc_types::{
-    Access, Bounds, ClassDecl, ClassId, Env, FieldDecl, FieldId, FieldValue, Kind, MethodDecl, MethodId, MethodKind,
-    Modifiers, Names, Owner, ScopeId, Table, Ty, TypePlaces, VarId, VariableDecl, Written, WrittenTypes,
+    Access, Bounds, ClassDecl, ClassId, Env, FieldDecl, FieldId, FieldValue, Kind, MethodDecl,
+    MethodId, MethodKind, Modifiers, Names, Owner, ScopeId, Table, Ty, TypePlaces, VarId,
+    VariableDecl, Written, WrittenTypes,
 };
 use std::alloc::Global;
 
@@ -157,7 +158,11 @@ impl Reader {
             members: Items::new(alloc),
             scope: ScopeId(0),
             modifiers: modifiers(false),
-            kind: if w[2] == "i" { Kind::Interface } else { Kind::Class },
+            kind: if w[2] == "i" {
+                Kind::Interface
+            } else {
+                Kind::Class
+            },
             vars: range(alloc, w[4], w[5])?,
             supers: written_types(alloc, types(alloc, w[3])?),
             methods: Items::new(alloc),

@@ -83,9 +83,11 @@ sources_job : (n : ℕ) (lists : List (List Token)) (files : List SourceFile) �
 sources_job n [] [] h a = tt
 sources_job n [] (f ∷ files) h a = absurd h
 sources_job n (list ∷ lists) [] h a = absurd h
-sources_job n (list ∷ lists) (f ∷ files) h a =
-    (omega arith, (λ some. record { tokens = list; told = h.0.1.2; ascend = a.0 }),
-    subst (λ (k : ℕ). AreJob (suc (suc n)) (numbered_from k files)) (let e : suc (suc n) ≡ suc n + 1 = omega arith in e) (sources_job (suc n) lists files h.1 a.1))
+sources_job n (list ∷ lists) (f ∷ files) h a = (
+  omega arith,
+  (λ some. record { tokens = list; told = h.0.1.2; ascend = a.0 }),
+  subst (λ (k : ℕ). AreJob (suc (suc n)) (numbered_from k files)) (let e : suc (suc n) ≡ suc n + 1 = omega arith in e) (sources_job (suc n) lists files h.1 a.1),
+)
 
 library_job : (before : ℕ) (texts : List (List ℕ)) (us rest : List SourceUnit) → AreUnitsOf before texts us → AreJob 0 rest → AreJob 0 (us ++ rest)
 library_job before [] [] rest h j = j
