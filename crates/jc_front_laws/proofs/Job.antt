@@ -15,6 +15,7 @@ use Rattle.jc_types.specs.Tables.{IsTable}
 use Rattle.jc_judge.specs.Supers.{HasNoCycle}
 use Rattle.jc_unit_laws.specs.UnitAnswers.{UnitStands}
 use Rattle.jc_syntax.specs.Stage.{HaveUnits}
+use Rattle.jc_prelude.specs.Texts.{texts as library_texts}
 use Rattle.jc_declares.specs.declared.unit.SourceUnit.{SourceUnit}
 use Rattle.jc_declares.specs.Making.{table_of}
 use Rattle.jc_declares.specs.Sites.{sites_of}
@@ -75,31 +76,44 @@ files_ascend file before (bytes ∷ texts) lists e =
 
 -- ---- units
 
+same_least : (n : ℕ) → n ≤ n
+same_least n = omega arith
+
+from_nothing : (n : ℕ) → 0 ≤ n
+from_nothing n = omega arith
+
+lower_least : (a b c : ℕ) → a ≤ b → b ≤ c → a ≤ c
+lower_least a b c l k = omega (arith, l, k)
+
+no_source : {P : Type 0} (n : ℕ) → n ≡ 0 → 0 < n → P
+no_source n e l = absurd (omega (arith, e, l))
+
+one_on : (n : ℕ) → suc (suc n) ≡ suc n + 1
+one_on n = omega arith
+
 job_lower : (least more : ℕ) (us : List SourceUnit) → least ≤ more → AreJob more us → AreJob least us
 job_lower least more [] l j = tt
-job_lower least more (u ∷ us) l j = (omega (arith, l, j.0), j.1, j.2)
+job_lower least more (u ∷ us) l j = (lower_least least more u.file l j.0, j.1, j.2)
 
 sources_job : (n : ℕ) (lists : List (List Token)) (files : List SourceFile) → HaveUnits lists files → AllAscend lists → AreJob (suc n) (numbered_from (suc n) files)
 sources_job n [] [] h a = tt
 sources_job n [] (f ∷ files) h a = absurd h
 sources_job n (list ∷ lists) [] h a = absurd h
-sources_job n (list ∷ lists) (f ∷ files) h a = (
-  omega arith,
-  (λ some. record { tokens = list; told = h.0.1.2; ascend = a.0 }),
-  subst (λ (k : ℕ). AreJob (suc (suc n)) (numbered_from k files)) (let e : suc (suc n) ≡ suc n + 1 = omega arith in e) (sources_job (suc n) lists files h.1 a.1),
-)
+sources_job n (list ∷ lists) (f ∷ files) h a =
+    (same_least (suc n), (λ some. record { tokens = list; told = h.0.1.2; ascend = a.0 }),
+    subst (λ (k : ℕ). AreJob (suc (suc n)) (numbered_from k files)) (one_on n) (sources_job (suc n) lists files h.1 a.1))
 
 library_job : (before : ℕ) (texts : List (List ℕ)) (us rest : List SourceUnit) → AreUnitsOf before texts us → AreJob 0 rest → AreJob 0 (us ++ rest)
 library_job before [] [] rest h j = j
 library_job before [] (u ∷ us) rest h j = absurd h
 library_job before (text ∷ texts) [] rest h j = absurd h
 library_job before (text ∷ texts) (u ∷ us) rest h j =
-    (omega arith, (λ some. absurd (omega (arith, some, h.0))), subst (λ (f : ℕ). AreJob (next_file f) (us ++ rest)) (sym h.0) (library_job (before + length text) texts us rest h.2 j))
+    (from_nothing u.file, (λ some. no_source u.file h.0 some), subst (λ (f : ℕ). AreJob (next_file f) (us ++ rest)) (sym h.0) (library_job (before + length text) texts us rest h.2 j))
 
 pub are_job : (texts : List (List ℕ)) (lists : List (List Token)) (units : List SourceUnit) → HaveTrees texts lists units → AreJob 0 units
 are_job texts lists units h =
     subst (AreJob 0) (sym h.all)
-    (library_job 0 _ h.library (numbered_from 1 h.files) h.is_library (job_lower 0 1 (numbered_from 1 h.files) (omega arith) (sources_job 0 lists h.files h.trees (files_ascend 1 0 texts lists h.tokens))))
+    (library_job 0 library_texts h.library (numbered_from 1 h.files) h.is_library (job_lower 0 1 (numbered_from 1 h.files) (from_nothing 1) (sources_job 0 lists h.files h.trees (files_ascend 1 0 texts lists h.tokens))))
 
 -- ---- tables
 
