@@ -1,11 +1,8 @@
-use crate::conversions::{constant_of, conversion_words};
 use crate::heads::{class_of_name, scope_of, table_of};
 use crate::names::Scope;
 use crate::types::{read_argument, read_type};
 use crate::words::{put_bounds, put_erased, put_type};
 use crate::{Read, Unreadable};
-use jc_convert::{assignment, cast, invocation};
-use jc_lub::{lub, provably_distinct};
 use jc_rules::{Items, Stop};
 use jc_sub::{Answer, CaptureFault, below, capture, contained, glb, view};
 use jc_types::{Arg, Env, Table, Ty, class_types, element, erasure, reifiable, same_type, size};
@@ -63,11 +60,6 @@ impl Asker {
             "reifiable" => self.reifiable(alloc, first),
             "element" => self.element(alloc, first),
             "inside" => self.inside(alloc, first),
-            "lub" => self.lub(alloc, line),
-            "distinct" => self.distinct(alloc, first, second),
-            "assign" => self.assign(alloc, first, second, words.next()),
-            "invoke" => self.invoke(alloc, first, second),
-            "cast" => self.cast(alloc, first, second),
             _ => Err(Stop::Refused(Unreadable)),
         }
     }
@@ -119,60 +111,13 @@ impl Asker {
         }
     }
 
-    /// The types that stand behind a line's first word.
-    fn types_of(&self, alloc: Global, line: &str) -> Read<Items<Ty>> {
+    fn glb(&self, alloc: Global, line: &str) -> Read<String> {
         let mut types = Items::new(alloc);
         for (i, word) in line.split_whitespace().enumerate() {
             if i > 0 {
                 types.push(self.type_of(alloc, word)?)?;
             }
         }
-        Ok(types)
-    }
-
-    fn lub(&self, alloc: Global, line: &str) -> Read<String> {
-        let types = self.types_of(alloc, line)?;
-        let bound = lub(alloc, &self.table, &self.env, types.slice())?;
-        self.words_of(alloc, &bound)
-    }
-
-    fn distinct(&self, alloc: Global, first: &str, second: &str) -> Read<String> {
-        let s = self.type_of(alloc, first)?;
-        let t = self.type_of(alloc, second)?;
-        let holds = provably_distinct(alloc, &self.table, &self.env, &s, &t)?;
-        Ok(String::from_str(alloc, yes_or_no(holds))?)
-    }
-
-    fn assign(
-        &self,
-        alloc: Global,
-        first: &str,
-        second: &str,
-        constant: Option<&str>,
-    ) -> Read<String> {
-        let s = self.type_of(alloc, first)?;
-        let t = self.type_of(alloc, second)?;
-        let constant = constant_of(constant)?;
-        let found = assignment(alloc, &self.table, &self.env, &s, constant.as_ref(), &t)?;
-        conversion_words(alloc, &self.table, found)
-    }
-
-    fn invoke(&self, alloc: Global, first: &str, second: &str) -> Read<String> {
-        let s = self.type_of(alloc, first)?;
-        let t = self.type_of(alloc, second)?;
-        let found = invocation(alloc, &self.table, &self.env, &s, &t)?;
-        conversion_words(alloc, &self.table, found)
-    }
-
-    fn cast(&self, alloc: Global, first: &str, second: &str) -> Read<String> {
-        let s = self.type_of(alloc, first)?;
-        let t = self.type_of(alloc, second)?;
-        let found = cast(alloc, &self.table, &self.env, &s, &t)?;
-        conversion_words(alloc, &self.table, found)
-    }
-
-    fn glb(&self, alloc: Global, line: &str) -> Read<String> {
-        let types = self.types_of(alloc, line)?;
         match glb(alloc, &self.table, types.slice()) {
             Ok(bound) => self.words_of(alloc, &bound),
             Err(Stop::Refused(CaptureFault::ClassesMeet { i })) => {
