@@ -1,4 +1,4 @@
-use Rattle.std.proofs.Common.{◌≡◌, sym, ap, ◌∙◌}
+use Rattle.std.proofs.Common.{ap, ◌∙◌}
 use Rattle.jc_types.specs.Breaks.{least}
 use Rattle.jc_members.specs.Named.{ids_in}
 use Rattle.jc_header_rules.specs.Headers.{differ, pair_broken, says_wrongly, thrown_broken, wants_body}
