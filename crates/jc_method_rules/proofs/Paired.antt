@@ -1,19 +1,18 @@
 -- Methods of other names break nothing beside one another.
-use Rattle.std.proofs.Common.{◌≡◌, ◌≢◌, ℕ, zero, suc, ◌+◌, Bool, true, false, not, ◌&&◌, ◌||◌, cond, Option, Some, None, List, [], ◌∷◌, ◌++◌, length, slice_get, add-one, refl, sym, ap, subst, ◌∙◌}
+use Rattle.std.proofs.Common.{◌≡◌, ◌≢◌, ℕ, suc, ◌+◌, Bool, true, false, ◌&&◌, ◌||◌, cond, Some, List, [], ◌∷◌, ◌++◌, length, slice_get, add-one, refl, sym, ap, subst, ◌∙◌}
 use Rattle.std.specs.Str.{bytes_eq}
 use Rattle.std.proofs.lemmas.Slice.Eq.{bytes_eq-Decides}
 use Rattle.jc_rules.specs.declared.rule.Place.{Place}
-use Rattle.jc_rules.specs.declared.rule.Refusal.{Refusal}
 use Rattle.jc_types.specs.declared.declarations.MethodDecl.{MethodDecl}
 use Rattle.jc_types.specs.declared.ids.MethodId.{MethodId}
 use Rattle.jc_types.specs.declared.table.Table.{Table}
 use Rattle.jc_types.specs.Accessors.{method_name_in, method_name_of}
 use Rattle.jc_overriding.specs.Overriding.{has_name, hides, is_above, is_inheritable, is_instance, is_method, overrides, owner, subsignature_of}
-use Rattle.jc_overriding.specs.Signatures.{is_erasure, override_equivalent, same_name, same_signature, subsignature}
+use Rattle.jc_overriding.specs.Signatures.{is_erasure, override_equivalent, same_signature, subsignature}
 use Rattle.jc_overriding.specs.Viewing.{class_view, declared_view, is_static}
 use Rattle.jc_header_rules.specs.Headers.{differ, is_before, is_same_sort, overrides_some, pair_broken, repeats, replaces, replacing_broken, statics_meet}
 use Rattle.jc_header_rules.specs.Places.{broken_if, of_each}
-use Rattle.jc_members.specs.Named.{all_named, if_named, named_from}
+use Rattle.jc_members.specs.Named.{all_named, named_from}
 use Rattle.jc_members.proofs.Replacing.{own_below, overrides_told, hides_told}
 use Rattle.jc_members.proofs.Standing.{unnamed}
 use Rattle.jc_method_rules.specs.Pairs.{overrides_one, pair_breaks, pairs_breaks}

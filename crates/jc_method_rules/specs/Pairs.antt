@@ -1,5 +1,5 @@
 -- What a method breaks beside those of its name.
-use Rattle.std.specs.Prelude.{ℕ, Bool, false, ◌||◌, List, [], ◌∷◌, ◌++◌}
+use Rattle.std.specs.Prelude.{Bool, false, ◌||◌, List, [], ◌∷◌, ◌++◌}
 use Rattle.jc_rules.specs.declared.rule.Place.{Place}
 use Rattle.jc_rules.specs.declared.rule.Refusal.{Refusal}
 use Rattle.jc_types.specs.declared.ids.MethodId.{MethodId}

@@ -1,5 +1,5 @@
 //! What a method breaks beside another one of its name (JLS 8.4.2, 8.4.3.3, 8.4.8, 8.8.2): 503 to 508 and 512.
-ghost use Rattle.std.specs.Prelude.{◌≡◌, true, IfOk};
+ghost use Rattle.std.specs.Prelude.{◌≡◌, ◌&&◌, true, IfOk};
 ghost use Rattle.std.specs.Option.{option_copied};
 ghost use Rattle.jc_types.specs.Breaks.{least};
 ghost use Rattle.jc_overriding.specs.Overriding.{owner};
@@ -147,6 +147,23 @@ fn statics_meet(
     signature_below(alloc, table, above, owner(table, m), a, n)
 }
 
+fn is_same_sort(table: &Table, n: MethodId, m: MethodId) -> bool
+    ensures { result ≡ is_same_sort table.now n m }
+{
+    if is_method(table, n) {
+        is_method(table, m)
+    } else {
+        !is_method(table, m)
+    }
+}
+
+// Whether method n is an earlier one of the same class, and of the same sort.
+fn is_earlier(table: &Table, n: MethodId, m: MethodId) -> bool
+    ensures { result ≡ (is_before table.now n m && is_same_sort table.now n m) }
+{
+    n.0 < m.0 && same_class(owner(table, n), owner(table, m)) && is_same_sort(table, n, m)
+}
+
 // Whether an earlier method of the same class has an override-equivalent signature.
 fn repeats(
     alloc: Global,
@@ -158,17 +175,12 @@ fn repeats(
     requires { declared.now ≡ declared_view table.now m }
     ensures { IfOk result (λ r. r ≡ repeats table.now m n) }
 {
-    if n.0 >= m.0 {
-        return Ok(false);
-    }
-    if !same_class(owner(table, n), owner(table, m)) {
-        return Ok(false);
-    }
-    if is_method(table, n) != is_method(table, m) {
+    if !is_earlier(table, n, m) {
         return Ok(false);
     }
     let earlier = declared_view(alloc, table, n)?;
-    override_equivalent(alloc, table, declared, &earlier)
+    let same = override_equivalent(alloc, table, declared, &earlier)?;
+    Ok(same)
 }
 
 // What method m breaks where it overrides or hides method n.

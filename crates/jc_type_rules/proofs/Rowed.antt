@@ -1,8 +1,7 @@
 -- What is reached over the rows of type variables, they depend on.
-use Rattle.std.proofs.Common.{◌≡◌, ◌⊎◌, inl, inr, ℕ, zero, suc, ◌+◌, ◌<◌, ◌≤◌, ◌==◌, add-one, Bool, true, false, ◌||◌, cond, nat_lt, List, [], ◌∷◌, ◌++◌, Option, Some, None, length, slice_get, refl, sym, ap, subst, ◌∙◌, arith}
+use Rattle.std.proofs.Common.{◌≡◌, ◌⊎◌, inl, inr, ℕ, zero, suc, ◌+◌, ◌<◌, ◌≤◌, ◌==◌, Bool, true, false, ◌||◌, cond, nat_lt, List, [], ◌∷◌, ◌++◌, Some, None, length, slice_get, refl, sym, ap, subst, ◌∙◌, arith}
 use Rattle.std.specs.List.{list_any}
 use Rattle.std.proofs.lemmas.Bool.Decides.{nat_tests}
-use Rattle.std.proofs.lemmas.Option.{slice_get_within, slice_get_past}
 use Rattle.jc_types.specs.declared.form.Arg.{Arg}
 use Rattle.jc_types.specs.declared.form.Ty.{Ty, Ty-F, out-Ty}
 use Rattle.jc_types.specs.declared.ids.VarId.{VarId}
@@ -11,7 +10,7 @@ use Rattle.jc_types.specs.declared.table.Table.{Table}
 use Rattle.jc_types.specs.Accessors.{bounds_in, bounds_of, variable_count}
 use Rattle.jc_header_rules.specs.Types.{bound_depends, depends_on_itself, depends_within, is_variable_at}
 use Rattle.jc_components.specs.Reach.{IsIn, row, listed, Reach, one, on, IsClosed}
-use Rattle.jc_components.specs.Marks.{or_false, is_marked, AreReached}
+use Rattle.jc_components.specs.Marks.{is_marked, AreReached}
 use Rattle.jc_type_rules.specs.Depending.{AreDepending, rows_below, variable_below, variables_below}
 use Rattle.jc_type_rules.proofs.Pigeons.{Same, by_then}
 

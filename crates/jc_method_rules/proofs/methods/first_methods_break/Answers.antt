@@ -1,7 +1,9 @@
+use Rattle.std.proofs.Common.{arith, ◌∙◌}
+use Rattle.jc_header_rules.specs.Headers.{method_breaks}
+use Rattle.jc_header_rules.proofs.Turning.{each_turn}
 use Rattle.jc_method_rules.proofs.methods.first_methods_break.Goals as goal
 
-pub method_broken-found-requires-clause-at : goal.method_broken-found-requires-clause-at
-method_broken-found-requires-clause-at c = ?
-
 pub loop-number-preserved : goal.loop-number-preserved
-loop-number-preserved c = ?
+loop-number-preserved c =
+    each_turn (method_breaks c.args.table.now) c.loop-number.found c.in_ok-found.found c.slice-methods.result.now c.loop-number.number c.index-methods-number.result (omega arith) c.index-methods-number.is c.in_ok-found.ensures
+    ∙ c.loop-number.invariant

@@ -1,4 +1,4 @@
-use Rattle.std.proofs.Common.{◌≡◌, List, ℕ, length, subst, sym, ap, ◌∙◌}
+use Rattle.std.proofs.Common.{List, ℕ, length, subst, sym, ap, ◌∙◌}
 use Rattle.jc_components.specs.Reach.{IsClosed}
 use Rattle.jc_components.specs.Marks.{AreReached}
 use Rattle.jc_type_rules.specs.Depending.{rows_below}
