@@ -1,7 +1,7 @@
+use Rattle.std.proofs.Common.{◌∙◌, arith}
+use Rattle.jc_jvm.specs.Thrown.{Going}
+use Rattle.jc_core.proofs.Runs.{told-suc}
 use Rattle.jc_core.proofs.steps.advance.Goals as goal
 
 pub steps-preserved : goal.steps-preserved
 steps-preserved c = ?
-
-pub returns-in-Some : goal.returns-in-Some
-returns-in-Some c = ?
