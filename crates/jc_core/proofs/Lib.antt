@@ -1,4 +1,3 @@
-pub mod InPlace
 pub mod Placed
 pub mod Runs
 pub mod Strings

@@ -1,37 +1,24 @@
-// Steps one after the other, without a look at what they did but where it is seen.
-ghost use Rattle.std.specs.Prelude.{◌≡◌, ◌≤◌, ◌<◌, ℕ, List, IfOk, IsTrue, MatchOption, OnErr};
-ghost use Rattle.jc_jvm.specs.Calls.{Moves, Quiet, settled};
-ghost use Rattle.jc_jvm.specs.Runs.{run_by, run_of};
-ghost use Rattle.jc_jvm.specs.Classes.{placed_at};
-ghost use Rattle.jc_jvm.specs.Table.{placed_row, step_of};
-ghost use Rattle.jc_jvm.specs.Thrown.{Going};
-ghost use Rattle.jc_jvm.specs.declared.frame.Waiting.{Waiting};
-ghost use Rattle.jc_plain.specs.Acted.{acted};
+// Steps of the frame that runs.
+ghost use Rattle.std.specs.Prelude.{◌≡◌, ◌≤◌, ◌<◌, ℕ, List, IfOk, IsTrue, OnErr};
 ghost use Rattle.jc_core.specs.Memory.{placed_takes};
 ghost use Rattle.jc_core.specs.Ran.{told};
+ghost use Rattle.jc_jvm.specs.Classes.{placed_at};
+ghost use Rattle.jc_jvm.specs.Runs.{run_by, run_of};
+ghost use Rattle.jc_jvm.specs.Table.{placed_row};
+ghost use Rattle.jc_jvm.specs.Thrown.{Going};
 ghost use Rattle.jc_rows.specs.Laid.{row_at};
 ghost use Rattle.jc_stepping.specs.Done.{KeptWhenAsks, step_done};
 
 use jc_jvm::{Ending, Frame, Waiting, World};
-use jc_plain::Act;
 use jc_rows::Program;
 use jc_rules::WantOfMemory;
-use jc_stepping::{Did, act_in_place, step_row};
-use jc_waiting::{Onward, Stack, settle};
+use jc_stepping::{Did, step_row};
+use jc_waiting::{Onward, Stack};
 use std::alloc::Global;
-
-#[inline(always)]
-fn step_in_place(program: &Program, now: &mut Frame, world: &mut World) -> Option<Act>
-    ensures { MatchOption result ((world.new ≡ world.old) × (now.new ≡ now.old)) (λ act. (waiting : List Waiting) → step_of program.now (Going world.old now.old waiting) ≡ Moves Quiet (settled program.now world.new waiting (acted act now.new))) }
-{
-    match program.placed(now.class, now.method, now.at) {
-        Some(placed) => act_in_place(program.classes(), &placed.row, placed.next, now, world),
-        None => None,
-    }
-}
 
 /// One step of the frame that runs.
 #[tactic(auto, using(crate::proofs::Placed::placed_rules))]
+#[inline(always)]
 pub fn step_frame(
     alloc: Global,
     program: &Program,
@@ -65,7 +52,7 @@ pub struct Advanced {
     pub did: Did,
 }
 
-/// Steps of the frame that runs, and of those that run after it, at most so many: up to one that shows something, ends the machine or throws.
+/// Steps of the frame that runs, and of those that run after it, at most so many: up to one that shows something or ends the machine.
 pub fn advance(
     alloc: Global,
     program: &Program,
@@ -80,24 +67,11 @@ pub fn advance(
 {
     let mut left = most;
     'steps: while left > 0 {
-        match step_in_place(program, now, world) {
-            Some(Act::Goes) => left -= 1,
-            Some(act) => {
-                let on = settle(alloc, program.classes(), act, now, world, waiting)?;
-                return Ok(Advanced {
-                    left: left - 1,
-                    did: Did::Moves(on),
-                });
-            }
-            None => match step_frame(alloc, program, now, world, waiting)? {
-                Did::Moves(Onward::Runs) => left -= 1,
-                did => {
-                    return Ok(Advanced {
-                        left: left - 1,
-                        did,
-                    });
-                }
-            },
+        let did = step_frame(alloc, program, now, world, waiting)?;
+        left -= 1;
+        match did {
+            Did::Moves(Onward::Runs) => (),
+            _ => return Ok(Advanced { left, did }),
         }
     }
     Ok(Advanced {

@@ -53,7 +53,10 @@ acts_in_place classes world next now waiting (row.Cast shape) done e = same_acts
 acts_in_place classes world next now waiting (row.Test shape) done e = same_acts classes waiting (world, tests classes world next now shape now.stack.values) done e
 acts_in_place classes world next now waiting _ done e = cc
 
--- where a row on a class isn't done in place
-pub closed : (b : Bool) (x : Act_in) → if_open b x ≡ None → b ≡ false
+closed : (b : Bool) (x : Act_in) → if_open b x ≡ None → b ≡ false
 closed true x e = cc
 closed false x e = refl
+
+-- where a row on a class isn't done in place
+pub closed_class : (world : World) (class : ℕ) (x : Act_in) → if_open (is_open (state_of_class world class)) x ≡ None → is_open (state_of_class world class) ≡ false
+closed_class world class x e = closed (is_open (state_of_class world class)) x e

@@ -1,3 +1,3 @@
 pub mod InPlace
-pub mod Natives
+pub mod NativeCalls
 pub mod Receivers

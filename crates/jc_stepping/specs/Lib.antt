@@ -1,4 +1,3 @@
 pub mod Done
 pub mod InPlace
-pub mod Making
 pub mod Takes

@@ -13,5 +13,4 @@ mod rows;
 mod switches;
 
 pub use did::Did;
-pub use in_place::act_in_place;
-pub use rows::{step_out, step_row};
+pub use rows::step_row;

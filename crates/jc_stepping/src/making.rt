@@ -3,19 +3,17 @@ ghost use Rattle.std.specs.Prelude.{◌≡◌, IfOk};
 ghost use Rattle.jc_jvm.specs.Calls.{Moves, Quiet, acts};
 ghost use Rattle.jc_jvm.specs.Objects.{array_made, arrays_made, literal_pushed, object_made};
 ghost use Rattle.jc_jvm.specs.Table.{first_initialised};
-ghost use Rattle.jc_stepping.specs.Making.{made};
 ghost use Rattle.jc_waiting.specs.Onwards.{state_of};
 
 use jc_heap::{Classes, new_array, new_object, push_literal};
-use jc_jvm::{Ending, Frame, Shape, Waiting, World};
+use jc_jvm::{Frame, Shape, Waiting, World};
 use jc_nests::new_nest;
-use jc_rows::Row;
 use jc_rules::{Items, WantOfMemory};
 use jc_waiting::{Onward, Stack, initialise_first, is_open, settle};
 use std::alloc::Global;
 
-// A string of the constant pool.
-fn make_text(
+/// A string of the constant pool.
+pub fn make_text(
     alloc: Global,
     classes: &Classes,
     text: &Items<u16>,
@@ -30,8 +28,8 @@ fn make_text(
     settle(alloc, classes, act, now, world, waiting)
 }
 
-// newarray and anewarray.
-fn make_array(
+/// newarray and anewarray.
+pub fn make_array(
     alloc: Global,
     classes: &Classes,
     of: Shape,
@@ -46,8 +44,8 @@ fn make_array(
     settle(alloc, classes, act, now, world, waiting)
 }
 
-// multianewarray.
-fn make_nest(
+/// multianewarray.
+pub fn make_nest(
     alloc: Global,
     classes: &Classes,
     shape: Shape,
@@ -78,8 +76,8 @@ fn make_open(
     settle(alloc, classes, act, now, world, waiting)
 }
 
-// new.
-fn make_object(
+/// new.
+pub fn make_object(
     alloc: Global,
     classes: &Classes,
     class: u64,
@@ -94,28 +92,5 @@ fn make_object(
         make_open(alloc, classes, class, next, now, world, waiting)
     } else {
         initialise_first(alloc, classes, class, now, world, waiting)
-    }
-}
-
-/// The rows that make something; the others end the machine.
-pub fn make(
-    alloc: Global,
-    classes: &Classes,
-    row: &Row,
-    next: u32,
-    now: &mut Frame,
-    world: &mut World,
-    waiting: &mut Stack<Waiting>,
-) -> Result<Onward, WantOfMemory>
-    ensures { IfOk result (λ on. made classes.now world.old next now.old waiting.old row.now ≡ Moves Quiet (state_of on world.new now.new waiting.new)) }
-{
-    match row {
-        Row::New(class) => make_object(alloc, classes, *class, next, now, world, waiting),
-        Row::NewArray(of) => make_array(alloc, classes, *of, next, now, world, waiting),
-        Row::NewNest { shape, dims } => make_nest(
-            alloc, classes, *shape, *dims, next, now, world, waiting,
-        ),
-        Row::Literal(text) => make_text(alloc, classes, text, next, now, world, waiting),
-        _ => Ok(Onward::Ends(Ending::Stuck)),
     }
 }

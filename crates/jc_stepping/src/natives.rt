@@ -131,7 +131,23 @@ fn call_with_one(
     }
 }
 
-#[tactic(auto, using(crate::proofs::Natives::native_rules))]
+fn call_with_none(
+    classes: &Classes,
+    native: Native,
+    next: u32,
+    now: &Frame,
+    world: &World,
+    waiting: &Stack<Waiting>,
+) -> Did
+    ensures { native_call classes.now world.now next now.now waiting.now native [] now.now.stack.values ≡ step_done classes.now result world.now now.now waiting.now }
+{
+    match native {
+        Native::ReadByte => Did::Asks { next },
+        Native::HashCode | Native::ClassName | Native::Halt | Native::Put => stuck(),
+    }
+}
+
+#[tactic(auto, using(crate::proofs::NativeCalls::native_rules))]
 /// The call of a native method with so many arguments from the top of the frame's stack.
 pub fn call_native(
     alloc: Global,
@@ -148,17 +164,17 @@ pub fn call_native(
     ensures kept { IfOk result (λ did. KeptWhenAsks did world.old now.old waiting.now world.new now.new waiting.now) }
     ensures memory { OnErr result (IsTrue (native_takes native)) }
 {
-    match count {
-        0 => match native {
-            Native::ReadByte => Ok(Did::Asks { next }),
-            _ => Ok(stuck()),
-        },
-        1 => match now.stack.pop() {
-            Some(argument) => call_with_one(
-                alloc, classes, native, argument, next, now, world, waiting,
-            ),
-            None => Ok(stuck()),
-        },
-        _ => Ok(stuck()),
+    if count == 0 {
+        return Ok(call_with_none(classes, native, next, now, world, waiting));
+    }
+    if count > 1 {
+        return Ok(stuck());
+    }
+    match now.stack.pop() {
+        Some(argument) => {
+            let did = call_with_one(alloc, classes, native, argument, next, now, world, waiting)?;
+            Ok(did)
+        }
+        None => Ok(stuck()),
     }
 }

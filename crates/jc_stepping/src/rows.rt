@@ -13,13 +13,14 @@ use crate::Did;
 use crate::act::{stuck, throw_top};
 use crate::calls::{call_special, call_static, call_virtual};
 use crate::in_place::act_in_place;
-use crate::making::make;
+use crate::making::{make_array, make_nest, make_object, make_text};
 use crate::returns::leave;
 use jc_heap::Classes;
 use jc_jvm::{Frame, Sort, Waiting, World};
+use jc_plain::Act;
 use jc_rows::{Program, Row};
 use jc_rules::WantOfMemory;
-use jc_waiting::{Stack, initialise_first, is_open, settle};
+use jc_waiting::{Onward, Stack, initialise_first, is_open, settle};
 use std::alloc::Global;
 
 // invokestatic.
@@ -48,9 +49,9 @@ fn call_of_class(
     }
 }
 
-/// One step of a frame whose instruction is this row, where it isn't done in place.
-#[tactic(auto, using(crate::proofs::InPlace::closed))]
-pub fn step_out(
+// A row that isn't done in place.
+#[tactic(auto, using(crate::proofs::InPlace::closed_class))]
+fn step_out(
     alloc: Global,
     program: &Program,
     row: &Row,
@@ -114,12 +115,28 @@ pub fn step_out(
             let on = throw_top(alloc, classes, now, world, waiting)?;
             Ok(Did::Moves(on))
         }
-        Row::LoadStatic { class, .. } | Row::StoreStatic { class, .. } => {
+        Row::LoadStatic { class, .. } => {
             let on = initialise_first(alloc, classes, *class, now, world, waiting)?;
             Ok(Did::Moves(on))
         }
-        Row::New(_) | Row::NewArray(_) | Row::NewNest { .. } | Row::Literal(_) => {
-            let on = make(alloc, classes, row, next, now, world, waiting)?;
+        Row::StoreStatic { class, .. } => {
+            let on = initialise_first(alloc, classes, *class, now, world, waiting)?;
+            Ok(Did::Moves(on))
+        }
+        Row::New(class) => {
+            let on = make_object(alloc, classes, *class, next, now, world, waiting)?;
+            Ok(Did::Moves(on))
+        }
+        Row::NewArray(of) => {
+            let on = make_array(alloc, classes, *of, next, now, world, waiting)?;
+            Ok(Did::Moves(on))
+        }
+        Row::NewNest { shape, dims } => {
+            let on = make_nest(alloc, classes, *shape, *dims, next, now, world, waiting)?;
+            Ok(Did::Moves(on))
+        }
+        Row::Literal(text) => {
+            let on = make_text(alloc, classes, text, next, now, world, waiting)?;
             Ok(Did::Moves(on))
         }
         _ => Ok(stuck()),
@@ -128,6 +145,7 @@ pub fn step_out(
 
 /// One step of a frame whose instruction is this row, with the place behind it.
 #[tactic(auto, using(crate::proofs::InPlace::acts_in_place))]
+#[inline(always)]
 pub fn step_row(
     alloc: Global,
     program: &Program,
@@ -142,6 +160,7 @@ pub fn step_row(
     ensures memory { OnErr result (IsTrue (may_take program.now world.old next now.old waiting.old row.now)) }
 {
     match act_in_place(program.classes(), row, next, now, world) {
+        Some(Act::Goes) => Ok(Did::Moves(Onward::Runs)),
         Some(act) => {
             let on = settle(alloc, program.classes(), act, now, world, waiting)?;
             Ok(Did::Moves(on))

@@ -18,6 +18,9 @@ use Rattle.jc_jvm.specs.declared.value.Value.TheVariants.{Whole, Long, Address, 
 use Rattle.jc_jvm.specs.declared.world.Native.{Native}
 use Rattle.jc_jvm.specs.declared.world.Native.TheVariants as native
 use Rattle.jc_jvm.specs.declared.world.World.{World}
+use Rattle.jc_stepping.specs.Done.{KeptWhenAsks, NeverAsks}
+use Rattle.jc_stepping.specs.declared.did.Did.{Did}
+use Rattle.jc_stepping.specs.declared.did.Did.TheVariants as did
 
 -- what a native method does is the same with and without its arguments on the stack
 
@@ -74,4 +77,10 @@ pub native_of_several : (classes : List ClassModel) (world : World) (next : ℕ)
 native_of_several classes world next now waiting n count vs many there =
     several classes world next now waiting n (reverse (take count vs)) (drop count vs) (omega (arith, length-reverse (take count vs), length-take count vs))
 
-pub ruleset native_rules = (native_of_one, native_of_none, native_of_several)
+-- a step that asks for nothing keeps what one that asks would keep
+pub never_kept : (d : Did) (world : World) (now : Frame) (waiting : List Waiting) (world' : World) (now' : Frame) (waiting' : List Waiting) → NeverAsks d → KeptWhenAsks d world now waiting world' now' waiting'
+never_kept (did.Moves on) world now waiting world' now' waiting' h = tt
+never_kept (did.Puts byte on) world now waiting world' now' waiting' h = tt
+never_kept (did.Asks next) world now waiting world' now' waiting' h = absurd h
+
+pub ruleset native_rules = (native_of_one, native_of_none, native_of_several, never_kept)
