@@ -1,3 +1,10 @@
+ghost use Rattle.std.specs.Prelude.{◌∷◌};
+ghost use Rattle.jc_heaps.specs.States.{in_frame};
+ghost use Rattle.jc_meaning.specs.Calls as c;
+ghost use Rattle.jc_pending.specs.Level.{body};
+ghost use Rattle.jc_running.specs.Outcomes.{bind};
+ghost use Rattle.jc_running.specs.declared.value.Value.TheVariants.{Address};
+ghost use Rattle.jc_types.specs.Accessors.{params_of, result_of};
 ghost use Rattle.jc_pending.specs.Frames.{Rest};
 ghost use Rattle.jc_pending.specs.Leads.{Coherent, Leads};
 ghost use Rattle.jc_pending.specs.Values.{call_task, completion_to_value, value_to_value};
@@ -111,6 +118,62 @@ fn call_direct(
     })))
 }
 
+// A call of a body for an object, whose result is checked as the called method's.
+fn call_own(
+    alloc: Global,
+    program: &TypedProgram,
+    nodes: &Nodes,
+    depth: u64,
+    method: MethodId,
+    own: MethodId,
+    address: u64,
+    values: Items<Value>,
+    frame: Frame,
+    run: &mut Running,
+) -> Result<Next, Halt>
+    ensures { (k : Rest) → Coherent k → Leads program.now nodes.now depth k result run.new (k.value (bind (in_frame (c.first_locals program.now own (Address address ∷ values)) frame (bind (body program.now depth own) c.answer_of)) (c.answered program.now (result_of program.now.table method) (result_of program.now.table own)) run.old.units run.old.state)) }
+{
+    let given = led_by(alloc, Value::Address(address), values)?;
+    let locals = first_locals(alloc, program, own, given)?;
+    Ok(Next::Then(
+        wait!(ValueToValue, ValueToValue::Answered { method, own }),
+        call!(CallTask::Run {
+            method: own,
+            locals,
+            frame
+        }),
+    ))
+}
+
+// The arguments are checked as that body's parameters first (JLS 15.12.4.5).
+#[tactic(auto, using(jc_pending::proofs::Halting::of_value))]
+fn call_entered(
+    alloc: Global,
+    program: &TypedProgram,
+    nodes: &Nodes,
+    depth: u64,
+    method: MethodId,
+    own: MethodId,
+    address: u64,
+    args: &[Value],
+    frame: Frame,
+    run: &mut Running,
+) -> Result<Next, Halt>
+    ensures { (k : Rest) → Coherent k → Leads program.now nodes.now depth k result run.new (k.value (bind (c.entered_all program.now (params_of program.now.table method) (params_of program.now.table own) args.now) (λ vs. bind (in_frame (c.first_locals program.now own (Address address ∷ vs)) frame (bind (body program.now depth own) c.answer_of)) (c.answered program.now (result_of program.now.table method) (result_of program.now.table own))) run.old.units run.old.state)) }
+{
+    let values = entered_all(
+        alloc,
+        program,
+        method_params(&program.table, method),
+        method_params(&program.table, own),
+        args,
+        run,
+    )?;
+    call_own(
+        alloc, program, nodes, depth, method, own, address, values, frame, run,
+    )
+}
+
 // A call of the body that the class of the receiver selects (JLS 15.12.4.4); null throws.
 #[tactic(auto, using(jc_pending::proofs::Halting::of_value))]
 fn call_virtual(
@@ -135,24 +198,18 @@ fn call_virtual(
         return Err(Halt::Wrong);
     };
     let frame = frame_of(alloc, program, own, Some(object), types.slice())?;
-    let values = entered_all(
+    call_entered(
         alloc,
         program,
-        method_params(&program.table, method),
-        method_params(&program.table, own),
+        nodes,
+        depth,
+        method,
+        own,
+        a,
         args.slice(),
+        frame,
         run,
-    )?;
-    let given = led_by(alloc, Value::Address(a), values)?;
-    let locals = first_locals(alloc, program, own, given)?;
-    Ok(Next::Then(
-        wait!(ValueToValue, ValueToValue::Answered { method, own }),
-        call!(CallTask::Run {
-            method: own,
-            locals,
-            frame
-        }),
-    ))
+    )
 }
 
 // A body in its own variables and frame, behind which the former ones come back.

@@ -1,4 +1,4 @@
-pub mod Bodies
+pub mod StmtLists
 pub mod Catches
 pub mod Turning
 pub mod Skips

@@ -1,3 +1,4 @@
+ghost use Rattle.jc_pending.specs.declared.loops.CompletionToNumbered.TheVariants as cm;
 ghost use Rattle.jc_pending.specs.Frames.{Rest};
 ghost use Rattle.jc_pending.specs.Leads.{Coherent, Leads};
 ghost use Rattle.jc_pending.specs.Loops.{completion_to_numbered, nothing_to_numbered, numbered_task, numbered_to_completion, turn_to_completion};
@@ -91,6 +92,20 @@ pub fn nothing_to_numbered(
     ))
 }
 
+fn after(
+    program: &TypedProgram,
+    nodes: &Nodes,
+    depth: u64,
+    own: u32,
+    next: u64,
+    c: Completion,
+    run: &mut Running,
+) -> Result<Next, Halt>
+    ensures { (k : Rest) → Coherent k → Leads program.now nodes.now depth k result run.new (k.numbered (completion_to_numbered program.now nodes.now depth (cm.After own next) c run.old.units run.old.state)) }
+{
+    Ok(Next::Give(Given::Numbered(after_element(program, own, c, next))))
+}
+
 /// What follows the body in a turn over an array.
 pub fn completion_to_numbered(
     program: &TypedProgram,
@@ -102,8 +117,11 @@ pub fn completion_to_numbered(
 ) -> Result<Next, Halt>
     ensures { (k : Rest) → Coherent k → Leads program.now nodes.now depth k result run.new (k.numbered (completion_to_numbered program.now nodes.now depth todo c run.old.units run.old.state)) }
 {
-    let CompletionToNumbered::After { own, next } = todo;
-    Ok(Next::Give(Given::Numbered(after_element(program, own, c, next))))
+    match todo {
+        CompletionToNumbered::After { own, next } => after(
+            program, nodes, depth, own, next, c, run,
+        ),
+    }
 }
 
 /// What follows a turn over an array.

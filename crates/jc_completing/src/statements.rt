@@ -331,6 +331,20 @@ fn thrown_on(
     }
 }
 
+// Behind a finally block stays what completed before, unless the block completes otherwise (JLS 14.20.2).
+fn instead_of(
+    program: &TypedProgram,
+    nodes: &Nodes,
+    depth: u64,
+    completion: Completion,
+    c: Completion,
+    run: &mut Running,
+) -> Result<Next, Halt>
+    ensures { (k : Rest) → Coherent k → Leads program.now nodes.now depth k result run.new (k.completion (completion_to_completion program.now nodes.now depth (cc.Instead completion) c run.old.units run.old.state)) }
+{
+    Ok(Next::Give(Given::Completion(instead(c, completion))))
+}
+
 /// What follows a statement or a finally block.
 pub fn completion_to_completion(
     program: &TypedProgram,
@@ -347,7 +361,7 @@ pub fn completion_to_completion(
             Ok(Next::Give(Given::Completion(broken(own, c))))
         }
         CompletionToCompletion::Instead { completion } => {
-            Ok(Next::Give(Given::Completion(instead(c, completion))))
+            instead_of(program, nodes, depth, completion, c, run)
         }
         CompletionToCompletion::InsteadThrown { address } => {
             thrown_on(program, nodes, depth, address, c, run)

@@ -2,7 +2,7 @@ use Rattle.std.proofs.Common.{◌≡◌, [], ◌∷◌, ◌++◌, append_assoc, 
 use Rattle.jc_typed.specs.Parts.{stmt_of, stmts_of}
 use Rattle.jc_meaning.specs.Programs.{stmt_list, stmts_before}
 use Rattle.jc_pending.specs.Level.{stmts_back}
-use Rattle.jc_completing.proofs.Bodies.{stmts_onto}
+use Rattle.jc_completing.proofs.StmtLists.{stmts_onto}
 use Rattle.jc_completing.proofs.bodies.body_back.Goals as goal
 
 pub returns : goal.returns

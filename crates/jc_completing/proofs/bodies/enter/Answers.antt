@@ -1,13 +1,14 @@
 use Rattle.std.proofs.Common.{ap, sym, ◌∙◌, arith}
 use Rattle.jc_pending.proofs.Entering.{stmt_at, stmt_none, stmt_spent}
+use Rattle.jc_typed.specs.Parts.{stmt_of}
 use Rattle.jc_pending.proofs.Halting.{completion_going}
 use Rattle.jc_completing.proofs.bodies.enter.Goals as goal
 
 pub returns-then-depth-eq0 : goal.returns-then-depth-eq0
-returns-then-depth-eq0 c = λ k coherent. completion_going k _ coherent ∙ sym (ap k.completion (stmt_none _ _ _ _ _ c.if-depth-eq0.true))
+returns-then-depth-eq0 c = λ k coherent. completion_going k c.args.run.now.state coherent ∙ sym (ap k.completion (stmt_none c.args.program.now c.args.depth (stmt_of c.args.nodes.now c.args.at) c.args.run.now.units c.args.run.now.state c.if-depth-eq0.true))
 
 pub returns-then-run-eq0 : goal.returns-then-run-eq0
-returns-then-run-eq0 c = λ k coherent. completion_going k _ coherent ∙ sym (ap k.completion (stmt_spent _ _ _ _ _ c.if-run-eq0.true))
+returns-then-run-eq0 c = λ k coherent. completion_going k c.args.run.now.state coherent ∙ sym (ap k.completion (stmt_spent c.args.program.now c.args.depth (stmt_of c.args.nodes.now c.args.at) c.args.run.now.units c.args.run.now.state c.if-run-eq0.true))
 
 pub returns : goal.returns
-returns c = λ k coherent. sym (ap k.completion (stmt_at _ _ _ _ _ (omega arith) (omega arith)))
+returns c = λ k coherent. sym (ap k.completion (stmt_at c.args.program.now c.args.depth (stmt_of c.args.nodes.now c.args.at) c.args.run.now.units c.args.run.now.state (omega arith) (omega arith)))
