@@ -4,7 +4,8 @@ use Rattle.std.specs.Prelude.{nat_lt}
 use Rattle.jc_rules.specs.declared.rule.Refusal.{Refusal}
 use Rattle.jc_lexer.specs.declared.fault.LexFault.{LexFault}
 use Rattle.jc_lexer.specs.declared.token.Token.{Token}
-use Rattle.jc_lexer.specs.Files.{MOST_BYTES, refusal, file_result, lexed_file, with_list, then_files, lexed_files}
+use Rattle.jc_lexer.specs.declared.files.TheConstants.{MOST_BYTES}
+use Rattle.jc_lexer.specs.Files.{refusal, file_result, lexed_file, with_list, then_files, lexed_files}
 use Rattle.jc_lexer.specs.Lexing.{lexed}
 use Rattle.jc_lexer_laws.specs.TokensAreTold.{EndsBefore, AreInOrder}
 use Rattle.jc_lexer_laws.proofs.Telling.{tokens_are_told}
@@ -99,9 +100,11 @@ sources_job : (n : ℕ) (lists : List (List Token)) (files : List SourceFile) �
 sources_job n [] [] h a = tt
 sources_job n [] (f ∷ files) h a = absurd h
 sources_job n (list ∷ lists) [] h a = absurd h
-sources_job n (list ∷ lists) (f ∷ files) h a =
-    (same_least (suc n), (λ some. record { tokens = list; told = h.0.1.2; ascend = a.0 }),
-    subst (λ (k : ℕ). AreJob (suc (suc n)) (numbered_from k files)) (one_on n) (sources_job (suc n) lists files h.1 a.1))
+sources_job n (list ∷ lists) (f ∷ files) h a = (
+  same_least (suc n),
+  (λ some. record { tokens = list; told = h.0.1.2; ascend = a.0 }),
+  subst (λ (k : ℕ). AreJob (suc (suc n)) (numbered_from k files)) (one_on n) (sources_job (suc n) lists files h.1 a.1),
+)
 
 library_job : (before : ℕ) (texts : List (List ℕ)) (us rest : List SourceUnit) → AreUnitsOf before texts us → AreJob 0 rest → AreJob 0 (us ++ rest)
 library_job before [] [] rest h j = j
