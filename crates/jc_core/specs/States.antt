@@ -15,7 +15,7 @@ abbrev pub classes_of : Core → List ClassModel
 classes_of core = core.program
 
 abbrev pub state_in : Core → State
-state_in core = state_of core.on core.world core.now core.waiting
+state_in core = state_of core.on core.world core.frame core.waiting
 
 -- A frame that asked for a byte goes on at this place with the byte, or with -1 at the input's end.
 abbrev pub answered : List ClassModel → ℕ → State → Option ℕ → State

@@ -24,7 +24,7 @@ pub struct Core {
     pub program: Program,
     pub world: World,
     pub waiting: Stack<Waiting>,
-    pub now: Frame,
+    pub frame: Frame,
     pub on: Onward,
 }
 
@@ -59,8 +59,8 @@ pub struct Progress {
 impl Core {
     fn settle(&mut self, did: Did) -> Stepped
         ensures classes { classes_of self.new ≡ classes_of self.old }
-        ensures kept { KeptWhenAsking result (state_of Onward.Runs self.old.world self.old.now self.old.waiting) (state_in self.new) }
-        ensures step { step_done (classes_of self.old) did self.old.world self.old.now self.old.waiting ≡ step_told (classes_of self.old) result (state_in self.new) }
+        ensures kept { KeptWhenAsking result (state_of Onward.Runs self.old.world self.old.frame self.old.waiting) (state_in self.new) }
+        ensures step { step_done (classes_of self.old) did self.old.world self.old.frame self.old.waiting ≡ step_told (classes_of self.old) result (state_in self.new) }
     {
         match did {
             Did::Moves(on) => {
@@ -91,7 +91,7 @@ impl Core {
                     self.alloc,
                     &self.program,
                     most,
-                    &mut self.now,
+                    &mut self.frame,
                     &mut self.world,
                     &mut self.waiting,
                 )?;
@@ -120,7 +120,7 @@ impl Core {
                 let did = step_frame(
                     self.alloc,
                     &self.program,
-                    &mut self.now,
+                    &mut self.frame,
                     &mut self.world,
                     &mut self.waiting,
                 )?;
@@ -140,7 +140,7 @@ impl Core {
                 self.program.classes(),
                 read(byte),
                 next,
-                &mut self.now,
+                &mut self.frame,
                 &self.world,
                 &self.waiting,
             ),

@@ -285,7 +285,7 @@ impl Core {
             program,
             world,
             waiting,
-            now,
+            frame: now,
             on,
         })
     }
