@@ -10,7 +10,7 @@ use Rattle.jc_completing.proofs.acting.label_of.Goals as goal
 
 pub returns : goal.returns
 returns c =
-    let same = to_z-of_z w32 c.args.n c.ranges.n.sfits in
+    let same = to_z-of_z w32 c.args.n c.ranges.n in
     let first : c.labelled.result ≡ labelled c.args.n c.args.cases.now = rw same at c.labelled.ensures in
     c.first_of.ensures
     ∙ (ap (λ (o : Option ℕ). s.or_else c.args.program.now idle (λ x. stop) 0 o c.default_in.result) (first ∙ sym (same_labelled c.args.program.now idle (λ x. stop) 0 c.args.n c.args.cases.now))

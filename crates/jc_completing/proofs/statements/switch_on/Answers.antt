@@ -14,7 +14,7 @@ use Rattle.jc_completing.proofs.statements.switch_on.Goals as goal
 pub returns : goal.returns
 returns c = λ k coherent.
     let last : Completion → TypedRun Completion = λ x. give (broken c.args.own x) in
-    let same = to_z-of_z w32 c.args.n c.ranges.n.sfits in
+    let same = to_z-of_z w32 c.args.n c.ranges.n in
     rw same at (subst (λ (o : Option ℕ). Leads c.args.program.now c.args.nodes.now c.args.depth k c.switch_behind.result c.switch_behind.new.run
     (k.completion (bind (s.run_from c.args.program.now (inner c.args.program.now c.args.depth) (run c.args.program.now c.args.depth) c.args.depth (stmt_list (stmts_of c.args.nodes.now c.args.stmts)) o) last c.args.run.now.units c.args.run.now.state)))
     c.in_ok-skips.ensures (c.switch_behind.ensures k coherent))
