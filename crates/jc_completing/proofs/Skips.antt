@@ -1,6 +1,6 @@
 -- The statements behind a label.
-use Rattle.std.proofs.Common.{◌≡◌, ℕ, List, [], ◌∷◌, map, reverse, length, Option, Some, None, refl, ap, sym, arith, length-map}
-use Rattle.std.proofs.lemmas.List.{drop-map, length-reverse}
+use Rattle.std.proofs.Common.{◌≡◌, ℕ, List, [], ◌∷◌, map, reverse, length, Option, Some, None, refl, ap, sym, arith}
+use Rattle.std.proofs.lemmas.List.{drop-map, length-map, length-reverse}
 use Rattle.jc_running.specs.declared.value.Completion.{Completion}
 use Rattle.jc_typed.specs.declared.program.TypedProgram.{TypedProgram}
 use Rattle.jc_typed.specs.Trees.{Stmt}

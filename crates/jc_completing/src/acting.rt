@@ -13,11 +13,17 @@ use jc_typed::{Case, Nodes, TypedProgram};
 use jc_types::Erased;
 use std::alloc::Global;
 
+fn first_of(program: &TypedProgram, first: Option<u32>, second: Option<u32>) -> Option<u32>
+    ensures { result ≡ s.or_else program.now idle (λ x. stop) 0 first second }
+{
+    or_else(first, second)
+}
+
 /// How many statements of a `switch` stand before the label of a number, or else before `default`, if there is one (JLS 14.11).
 pub fn label_of(program: &TypedProgram, cases: &[Case], n: i32) -> Option<u32>
     ensures { result ≡ s.or_else program.now idle (λ x. stop) 0 (s.labelled program.now idle (λ x. stop) 0 n cases.now) (s.default_in program.now idle (λ x. stop) 0 cases.now) }
 {
-    or_else(labelled(cases, n), default_in(cases))
+    first_of(program, labelled(cases, n), default_in(cases))
 }
 
 /// The value behind `return`.

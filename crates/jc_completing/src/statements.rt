@@ -45,21 +45,53 @@ fn labelled_stmts(back: Items<u32>, skips: Option<u32>) -> Items<u32>
     Items::of(list)
 }
 
-// The statements that a `switch` runs for a number, in reverse order (JLS 14.11).
-fn case_stmts(
+// How many statements stand before the label of a number (JLS 14.11).
+fn label_at(
     alloc: Global,
     program: &TypedProgram,
     nodes: &Nodes,
     cases: u32,
-    stmts: u32,
     n: i32,
-) -> Result<Items<u32>, WantOfMemory>
-    ensures { IfOk result (λ r. stmts_back nodes.now r ≡ behind_label (s.or_else program.now idle (λ x. stop) 0 (s.labelled program.now idle (λ x. stop) 0 n (cases_of nodes.now cases)) (s.default_in program.now idle (λ x. stop) 0 (cases_of nodes.now cases))) (stmt_list (stmts_of nodes.now stmts))) }
+) -> Result<Option<u32>, WantOfMemory>
+    ensures { IfOk result (λ r. r ≡ s.or_else program.now idle (λ x. stop) 0 (s.labelled program.now idle (λ x. stop) 0 n (cases_of nodes.now cases)) (s.default_in program.now idle (λ x. stop) 0 (cases_of nodes.now cases))) }
 {
     let list = case_list(alloc, nodes, cases)?;
+    Ok(label_of(program, list.slice(), n))
+}
+
+// The statements behind a label, in reverse order.
+fn stmts_behind(
+    alloc: Global,
+    nodes: &Nodes,
+    stmts: u32,
+    skips: Option<u32>,
+) -> Result<Items<u32>, WantOfMemory>
+    ensures { IfOk result (λ r. stmts_back nodes.now r ≡ behind_label skips (stmt_list (stmts_of nodes.now stmts))) }
+{
     let back = stmts_back(alloc, nodes, stmts)?;
-    let skips = label_of(program, list.slice(), n);
     Ok(labelled_stmts(back, skips))
+}
+
+fn switch_behind(
+    alloc: Global,
+    program: &TypedProgram,
+    nodes: &Nodes,
+    depth: u64,
+    own: u32,
+    stmts: u32,
+    skips: Option<u32>,
+    run: &mut Running,
+) -> Result<Next, Halt>
+    ensures { (k : Rest) → Coherent k → Leads program.now nodes.now depth k result run.new (k.completion (bind (s.run_from program.now (l.inner program.now depth) (l.run program.now depth) depth (stmt_list (stmts_of nodes.now stmts)) skips) (λ x. give (broken own x)) run.old.units run.old.state)) }
+{
+    let kept = stmts_behind(alloc, nodes, stmts, skips)?;
+    Ok(Next::Then(
+        wait!(
+            CompletionToCompletion,
+            CompletionToCompletion::Broken { own }
+        ),
+        Task::Completion(CompletionTask::Stmts { stmts: kept }),
+    ))
 }
 
 fn switch_on(
@@ -75,14 +107,8 @@ fn switch_on(
 ) -> Result<Next, Halt>
     ensures { (k : Rest) → Coherent k → Leads program.now nodes.now depth k result run.new (k.completion (bind (s.switched program.now (l.inner program.now depth) (l.run program.now depth) depth (cases_of nodes.now cases) (stmt_list (stmts_of nodes.now stmts)) n) (λ x. give (broken own x)) run.old.units run.old.state)) }
 {
-    let kept = case_stmts(alloc, program, nodes, cases, stmts, n)?;
-    Ok(Next::Then(
-        wait!(
-            CompletionToCompletion,
-            CompletionToCompletion::Broken { own }
-        ),
-        Task::Completion(CompletionTask::Stmts { stmts: kept }),
-    ))
+    let skips = label_at(alloc, program, nodes, cases, n)?;
+    switch_behind(alloc, program, nodes, depth, own, stmts, skips, run)
 }
 
 // The cases of a `switch`.
