@@ -1,3 +1,4 @@
+//! How a run begins: fields, classes and arguments before the first statement (JLS 12.4.1).
 ghost use Rattle.std.specs.Prelude.{IfOk, length, replicate, ◌≡◌};
 ghost use Rattle.jc_values.specs.Doing.{Does, OutOf};
 ghost use Rattle.jc_running.specs.declared.value.Readiness.TheVariants.{Untouched};

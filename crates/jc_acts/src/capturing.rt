@@ -1,3 +1,4 @@
+//! Types of nodes with what their variables stand for, and what captures give (JLS 5.1.10).
 ghost use Rattle.std.specs.Prelude.{IfOk, List, map, slice_get, ◌≡◌};
 ghost use Rattle.jc_values.specs.Doing.{Does};
 ghost use Rattle.jc_typed.specs.declared.program.TypedProgram.{TypedProgram};

@@ -1,3 +1,4 @@
+//! The readiness of classes, and how initialisation ends (JLS 12.4.2).
 ghost use Rattle.std.specs.Prelude.{◌≡◌};
 ghost use Rattle.jc_values.specs.Doing.{Does};
 ghost use Rattle.jc_running.specs.Outcomes.{Val};

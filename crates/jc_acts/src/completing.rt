@@ -1,3 +1,4 @@
+//! What jumps do to completions, and the labels of `switch` (JLS 14.1, 14.11).
 ghost use Rattle.jc_acts.specs.Cases.{default_in, is_default, is_key, labelled};
 ghost use Rattle.std.specs.Prelude.{if◌then◌else◌, IfOk, IsTrue, [], int_lt, length, pos, ℕ, ◌<◌, ◌==◌, ◌^◌, ◌≡◌};
 ghost use Rattle.jc_typed.specs.declared.program.TypedProgram.{TypedProgram};

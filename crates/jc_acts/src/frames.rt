@@ -1,3 +1,4 @@
+//! The variables that a method begins with.
 ghost use Rattle.jc_types.specs.Erasing.{erasure};
 ghost use Rattle.std.specs.Prelude.{IfOk, replicate, ◌∷◌, ◌≡◌, []};
 ghost use Rattle.jc_values.specs.Doing.{Does};

@@ -1,3 +1,4 @@
+//! What a computation leaves behind: the run as it was round it.
 ghost use Rattle.jc_values.specs.Doing.{Does};
 ghost use Rattle.jc_meaning.specs.Kept.{TypedState};
 ghost use Rattle.jc_running.specs.Outcomes.{Out, leave};

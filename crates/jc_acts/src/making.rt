@@ -1,3 +1,4 @@
+//! New objects and arrays (JLS 15.9, 15.10.1).
 ghost use Rattle.jc_acts.specs.Rows.{rows};
 ghost use Rattle.std.specs.Prelude.{IfOk, ◌≡◌, ◌∷◌};
 ghost use Rattle.jc_values.specs.Doing.{Does};

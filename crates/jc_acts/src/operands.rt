@@ -1,3 +1,4 @@
+//! Acts on the values of operands: constants, prefix operators, printing and tests of classes.
 ghost use Rattle.std.specs.Prelude.{IfOk, [], ◌∷◌, ◌≡◌};
 ghost use Rattle.jc_values.specs.Doing.{Does};
 ghost use Rattle.jc_typed.specs.declared.program.TypedProgram.{TypedProgram};

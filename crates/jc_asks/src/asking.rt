@@ -1,3 +1,4 @@
+//! Questions about the types of a table, and their answers in words.
 use crate::heads::{class_of_name, scope_of, table_of};
 use crate::names::Scope;
 use crate::types::{read_argument, read_type};

@@ -1,3 +1,4 @@
+//! The names of a table's classes and variables.
 use jc_rules::WantOfMemory;
 use std::alloc::Global;
 use std::collections::BTreeMap;

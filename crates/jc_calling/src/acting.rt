@@ -1,3 +1,4 @@
+//! What calls and creations do with values that are there.
 ghost use Rattle.std.specs.Prelude.{◌≡◌};
 ghost use Rattle.jc_meaning.specs.Expressions as e;
 ghost use Rattle.jc_meaning.specs.Statements as s;

@@ -1,3 +1,4 @@
+//! Calls of methods and constructors (JLS 15.12.4).
 ghost use Rattle.std.specs.Prelude.{◌∷◌};
 ghost use Rattle.jc_heaps.specs.States.{in_frame};
 ghost use Rattle.jc_meaning.specs.Calls as c;

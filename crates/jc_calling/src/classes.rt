@@ -1,3 +1,4 @@
+//! The initialisation of classes (JLS 12.4.2).
 ghost use Rattle.jc_running.specs.Outcomes.{Thrown, Val};
 ghost use Rattle.jc_pending.specs.Frames.{Rest, behind_initialiser, behind_superclass};
 ghost use Rattle.jc_pending.specs.Leads.{Coherent, Leads};

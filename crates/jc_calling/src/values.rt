@@ -1,3 +1,4 @@
+//! Values that calls and creations give.
 ghost use Rattle.jc_pending.specs.Frames.{Rest};
 ghost use Rattle.jc_pending.specs.Leads.{Coherent, Leads};
 ghost use Rattle.jc_pending.specs.Values.{nothing_to_value, values_to_value};

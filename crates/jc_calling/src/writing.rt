@@ -1,3 +1,4 @@
+//! Writes to variables, fields and elements (JLS 15.26.1).
 ghost use Rattle.jc_pending.specs.Frames.{Rest};
 ghost use Rattle.jc_pending.specs.Leads.{Coherent, Leads};
 ghost use Rattle.jc_pending.specs.Values.{nothing_task, nothing_to_nothing, value_to_nothing, values_to_nothing};

@@ -1,3 +1,4 @@
+//! Methods by their numbers, and new frames for them.
 ghost use Rattle.std.specs.Prelude.{◌≡◌, ◌∷◌, ◌++◌, [], IfOk, OnOk, None, replicate};
 ghost use Rattle.std.specs.Option.{option_copied, option_map};
 ghost use Rattle.jc_jvm.specs.Classes.{method_at, code_at};

@@ -1,3 +1,4 @@
+//! The exception tables of methods (JVMS 2.10).
 ghost use Rattle.std.specs.Prelude.{◌≡◌};
 ghost use Rattle.jc_jvm.specs.Thrown.{catches as row_catches, covers as row_covers, handler_of};
 ghost use Rattle.jc_calls.specs.Handled.{handled_at};

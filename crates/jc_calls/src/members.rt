@@ -1,4 +1,4 @@
-// The methods that calls without a selection mean.
+//! The methods that calls without a selection mean.
 ghost use Rattle.std.specs.Prelude.{◌≡◌, ◌==◌, option_and_then};
 ghost use Rattle.std.specs.List.{list_any};
 ghost use Rattle.jc_jvm.specs.Calls.{special_class as class_of_special, own_method_if, special_method};

@@ -1,3 +1,4 @@
+//! Methods by name and descriptor, and the selection by an object's class (JVMS 6.5 invokevirtual).
 ghost use Rattle.std.specs.Prelude.{◌≡◌, ◌&&◌, position};
 ghost use Rattle.jc_jvm.specs.Classes.{is_method, is_selectable, is_static_method, methods_of, method_of as method_by_name, selected, initialiser_of};
 

@@ -1,4 +1,4 @@
-// What returns give.
+//! What returns give.
 ghost use Rattle.std.specs.Prelude.{◌≡◌};
 ghost use Rattle.jc_jvm.specs.Table.{top_of_sort, given_back};
 

@@ -1,3 +1,4 @@
+//! What the verifier begins a method with, by its descriptor (JVMS 4.3, 4.10.1.6).
 ghost use Rattle.std.specs.Prelude.{◌≡◌, ◌++◌, Ok, drop, codes};
 ghost use Rattle.std.specs.Str.{bytes_eq};
 ghost use Rattle.jc_class_out.specs.Descriptors.{item_of_type, items_on, is_static, this_item, entry_locals};

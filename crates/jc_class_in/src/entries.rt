@@ -1,3 +1,4 @@
+//! The constant pool (JVMS 4.4).
 ghost use Rattle.std.specs.Prelude.{◌≡◌, None, map};
 ghost use Rattle.jc_class_out.specs.Descriptors.{is_field_descriptor, is_method_descriptor};
 ghost use Rattle.jc_class_out.specs.Pool.{two_at, entry_by, entry_at, slot_at, slots_at, check_member, check_slot, checked, pool_at};

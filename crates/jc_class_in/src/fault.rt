@@ -1,3 +1,4 @@
+//! Why bytes are no class file.
 ghost use Rattle.std.specs.Prelude.{◌≡◌, ◌-◌, ◌^◌, min};
 ghost use Rattle.jc_class_in.specs.Faults.{place_in, fault_in};
 

@@ -1,3 +1,4 @@
+//! Stack map frames (JVMS 4.7.4).
 ghost use Rattle.std.specs.Prelude.{◌≡◌, ◌<◌, ◌^◌, IfOk, None, Ok, length};
 ghost use Rattle.jc_class_out.specs.Reading.{wants};
 ghost use Rattle.jc_class_out.specs.Frames.{begins, offset_item_at, item_by, item_at, place_of, place_at, same_item_at, same_item_extended_at, chop_at, same_extended_at, append_at, full_at, frame_by, frame_at, frames_at, table_at};

@@ -1,3 +1,4 @@
+//! Entries of the pool by their numbers.
 ghost use Rattle.std.specs.Prelude.{◌≡◌, MatchOption, None, Some};
 ghost use Rattle.jc_class_out.specs.Pool.{entry_of, text_of, class_of, pair_of, both, known_of, known_of_entry, tag_at};
 ghost use Rattle.jc_class_out.specs.Spelling.{known};

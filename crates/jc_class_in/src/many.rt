@@ -1,3 +1,4 @@
+//! Parts of a file of which many stand in a row.
 ghost use Rattle.std.specs.Prelude.{◌≡◌, ℕ, List, Result};
 ghost use Rattle.jc_class_out.specs.declared.format.Flaw.{Flaw};
 ghost use Rattle.jc_class_out.specs.Reading.{many, listed};

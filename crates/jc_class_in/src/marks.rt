@@ -1,3 +1,4 @@
+//! The places at which instructions begin.
 ghost use Rattle.std.specs.Prelude.{◌≡◌, ◌++◌, ◌<◌, OnOk, Ok, false, length, replicate};
 ghost use Rattle.std.specs.Bool.{OnTrue};
 ghost use Rattle.jc_class_out.specs.Frames.{begins};

@@ -1,3 +1,4 @@
+//! Interfaces, fields and methods (JVMS 4.5, 4.6).
 ghost use Rattle.std.specs.Prelude.{◌≡◌, codes};
 ghost use Rattle.jc_class_out.specs.Pool.{class_named_at};
 ghost use Rattle.jc_class_out.specs.Format.{field_at, code_attribute_at, with_code_at, without_code_at, method_at, inner_at, inners_at, class_attributes_at, members_at};

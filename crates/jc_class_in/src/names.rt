@@ -1,3 +1,4 @@
+//! Names of the pool, each with its rule.
 ghost use Rattle.std.specs.Prelude.{◌≡◌, Ok};
 ghost use Rattle.jc_class_out.specs.Descriptors.{is_field_descriptor, is_method_descriptor};
 ghost use Rattle.jc_class_out.specs.Pool.{named_at, class_named_at, class_or_none_at, name_or_none_at, descriptor_at};

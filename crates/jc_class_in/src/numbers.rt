@@ -1,3 +1,4 @@
+//! Numbers of one, two, four and eight bytes.
 ghost use Rattle.std.specs.Prelude.{◌≡◌};
 ghost use Rattle.std.specs.Int.{w16, w32, w64};
 ghost use Rattle.jc_class_out.specs.Reading.{wants, u8_at, number_at};

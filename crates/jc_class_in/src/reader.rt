@@ -1,3 +1,4 @@
+//! The whole of a class file (JVMS 4.1).
 ghost use Rattle.std.specs.Prelude.{◌≡◌};
 ghost use Rattle.jc_class_out.specs.declared.model.ClassModel.{ClassModel};
 ghost use Rattle.jc_class_out.specs.Format.{IsClassFile, head_at, read};

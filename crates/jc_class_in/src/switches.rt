@@ -1,3 +1,4 @@
+//! The operands of `lookupswitch` (JVMS 6.5).
 ghost use Rattle.std.specs.Prelude.{◌≡◌, ◌+◌, ◌^◌, ◌<◌, None};
 ghost use Rattle.jc_class_out.specs.Instructions.{padding, wide_target, zeros_at, is_above, case_at, cases_at, switch_op};
 ghost use Rattle.jc_class_in.specs.Gives.{Gives};

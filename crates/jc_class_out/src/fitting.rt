@@ -1,3 +1,4 @@
+//! Whether what a class says has room in the fields of a file.
 ghost use Rattle.std.specs.Prelude.{◌≡◌, ◌≤◌, ◌+◌, ◌*◌, ◌<◌, ◌^◌, ◌&&◌, true, false, nat_lt, MatchOption, None, Some, length, take, replicate, ◌++◌, ◌∷◌, ◌-◌};
 ghost use Rattle.std.specs.List.{list_all};
 ghost use Rattle.jc_class_out.specs.Descriptors.{parameter_units, or_zero, is_field_descriptor, is_method_descriptor};

@@ -1,3 +1,4 @@
+//! The parts of a file with their numbers, and what may be wrong with them.
 use jc_rules::Items;
 
 /// What is wrong with bytes that are no class file. A number is how many bytes are left from the field on that is at fault.

@@ -1,3 +1,4 @@
+//! The kinds of operands that opcodes have.
 ghost use Rattle.std.specs.Prelude.{◌≡◌};
 ghost use Rattle.jc_class_out.specs.Instructions.{is_constant, is_element, is_stack, is_arithmetic, is_conversion, is_return, is_plain, is_local, is_jump, is_class, is_array_code, member_kind, branch_kind, kind_of};
 

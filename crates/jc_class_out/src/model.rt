@@ -1,3 +1,4 @@
+//! What a class file says of one class or interface (JVMS 4.1).
 use jc_rules::Items;
 
 /// What a class file says of one class or interface (JVMS 4.1). Names, descriptors and texts are lists of UTF-16 units, and

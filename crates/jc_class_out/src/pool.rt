@@ -1,3 +1,4 @@
+//! The constant pool that a class is written with (JVMS 4.4).
 ghost use Rattle.std.specs.Prelude.{◌≡◌, ◌++◌, ◌∷◌, [], OnOk};
 ghost use Rattle.std.specs.Int.{w32, w64, to_be_bytes, cast_unsigned};
 ghost use Rattle.jc_class_out.specs.Pool.{KnownText};

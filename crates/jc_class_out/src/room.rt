@@ -1,3 +1,4 @@
+//! The room that numbers and texts take in a file.
 ghost use Rattle.std.specs.Prelude.{◌≡◌, ◌+◌, ◌-◌, ◌^◌, ◌<◌, ◌&&◌, ◌||◌, min, true, cond, length, take, nat_lt, nat_le, ◌↔◌, IsTrue};
 ghost use Rattle.std.specs.List.{list_all};
 ghost use Rattle.jc_class_out.specs.Texts.{unit_bytes, text_bytes};

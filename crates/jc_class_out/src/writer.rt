@@ -1,3 +1,4 @@
+//! The bytes of a class that has a class file.
 ghost use Rattle.std.specs.Prelude.{◌≡◌, ◌<◌, ◌++◌, IfOk, OnOk};
 ghost use Rattle.std.specs.List.{All};
 ghost use Rattle.jc_class_out.specs.Format.{IsClassFile, HasClassFile};

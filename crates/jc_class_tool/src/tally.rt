@@ -1,3 +1,4 @@
+//! How often a reader gave which answer.
 ghost use Rattle.std.specs.Prelude.{◌<◌, length};
 
 use jc_class_in::{ClassFault, read_class};

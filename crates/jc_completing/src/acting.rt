@@ -1,3 +1,4 @@
+//! What statements do with values and completions that are there.
 ghost use Rattle.std.specs.Prelude.{◌≡◌, IfOk, ℕ};
 ghost use Rattle.jc_meaning.specs.Kept.{TypedState};
 ghost use Rattle.jc_meaning.specs.Statements as s;

@@ -1,3 +1,4 @@
+//! The bodies of methods (JLS 8.4.7, 8.8.7).
 ghost use Rattle.std.specs.Prelude.{◌≡◌, ◌++◌, ◌∷◌, [], IfOk};
 ghost use Rattle.jc_typed.specs.Parts.{stmt_of, stmts_of};
 ghost use Rattle.jc_meaning.specs.Programs.{stmt_list};

@@ -1,3 +1,4 @@
+//! The forms of statements, each with what it begins (JLS 14).
 ghost use Rattle.jc_types.specs.declared.conversion.Phase.{Phase};
 ghost use Rattle.jc_pending.specs.Frames.{Rest};
 ghost use Rattle.jc_pending.specs.Leads.{Coherent, Leads};

@@ -1,3 +1,4 @@
+//! The places of statements and tests, the last first.
 ghost use Rattle.std.specs.Prelude.{◌≡◌, [], IfOk, OnOk};
 ghost use Rattle.jc_typed.specs.Parts.{arms_of, stmts_of};
 ghost use Rattle.jc_meaning.specs.Programs.{stmt_list, stmts_before};

@@ -1,3 +1,4 @@
+//! What follows a turn of a loop (JLS 14.12 to 14.14).
 ghost use Rattle.jc_pending.specs.declared.loops.CompletionToNumbered.TheVariants as cm;
 ghost use Rattle.jc_pending.specs.Frames.{Rest};
 ghost use Rattle.jc_pending.specs.Leads.{Coherent, Leads};

@@ -1,3 +1,4 @@
+//! Statements one after the other, and those of a `switch` (JLS 14.2, 14.11).
 ghost use Rattle.std.specs.Prelude.{◌≡◌, IfOk, reverse};
 ghost use Rattle.jc_running.specs.Outcomes.{bind, broken, give, stop};
 ghost use Rattle.jc_typed.specs.Parts.{cases_of, stmts_of};

@@ -1,3 +1,4 @@
+//! Catch clauses and `finally` (JLS 14.20).
 ghost use Rattle.std.specs.Prelude.{◌≡◌, [], IfOk, map};
 ghost use Rattle.jc_meaning.specs.Statements as s;
 ghost use Rattle.jc_pending.specs.Level as l;

@@ -1,3 +1,4 @@
+//! What a turn of a loop begins with (JLS 14.12 to 14.14).
 ghost use Rattle.jc_pending.specs.Frames.{Rest};
 ghost use Rattle.jc_pending.specs.Leads.{Coherent, Leads};
 ghost use Rattle.jc_pending.specs.Loops.{completion_to_turn, nothing_to_turn, turn_task, value_to_turn};

@@ -1,3 +1,5 @@
+//! The claims of two searches, which a check then has to find true.
+
 /// What the searches claim of a vertex.
 ///
 /// `part` is the number of its component, in an order in which no edge leads to a smaller one. Where the vertex lies on a cycle,

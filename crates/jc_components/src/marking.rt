@@ -1,3 +1,4 @@
+//! Of each vertex of a graph whether it lies on a cycle.
 ghost use Rattle.std.specs.Prelude.{◌<◌, IfOk, length};
 ghost use Rattle.jc_components.specs.Reach.{IsClosed};
 ghost use Rattle.jc_components.specs.Marks.{AreReached};

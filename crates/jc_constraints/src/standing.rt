@@ -1,3 +1,4 @@
+//! The forms of constraints (JLS 15.12.2.7).
 use jc_types::{Ty, VarId};
 
 /// How an actual type stands to a formal one in a constraint (JLS 15.12.2.7): `Below` is `A << F`, `Same` is `A = F`, and `Above` is `A >> F`.

@@ -1,3 +1,4 @@
+//! The machine that runs classes, and what one of its steps did.
 ghost use Rattle.std.specs.Prelude.{◌≡◌, ◌≤◌, ◌<◌, ℕ, List, IfOk, None, OnErr, IsTrue};
 ghost use Rattle.jc_jvm.specs.Runs.{ending_of, run_by, run_of};
 ghost use Rattle.jc_core.specs.Memory.{step_takes};

@@ -1,4 +1,4 @@
-// Runs.
+//! Runs.
 ghost use Rattle.std.specs.Prelude.{◌≡◌, ◌<◌, IfOk, IfSome, length, slice_get};
 ghost use Rattle.jc_jvm.specs.Runs.{ending_of, run_of};
 ghost use Rattle.jc_core.specs.Ran.{told};

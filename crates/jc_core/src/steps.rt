@@ -1,4 +1,4 @@
-// Steps of the frame that runs.
+//! Steps of the frame that runs.
 ghost use Rattle.std.specs.Prelude.{◌≡◌, ◌≤◌, ◌<◌, ℕ, List, IfOk, IsTrue, OnErr};
 ghost use Rattle.jc_core.specs.Memory.{placed_takes};
 ghost use Rattle.jc_core.specs.Ran.{told};

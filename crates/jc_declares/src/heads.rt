@@ -1,3 +1,4 @@
+//! What declarations say before their bodies.
 use jc_rules::{Items, Text};
 use jc_types::{Access, Kind, Owner};
 

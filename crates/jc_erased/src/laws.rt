@@ -1,3 +1,4 @@
+//! Laws of runs of erased programs.
 ghost use Rattle.std.specs.Prelude.{◌≡◌, ℕ, suc, ◌+◌, true, List};
 ghost use Rattle.jc_types.specs.declared.ids.MethodId.{MethodId};
 ghost use Rattle.jc_running.specs.Outcomes.{WithOneUnitMore};

@@ -1,3 +1,4 @@
+//! Programs after erasure.
 ghost use Rattle.std.specs.Prelude.{◌≡◌};
 ghost use Rattle.jc_typed.specs.Bulk.{capped, method_bulk};
 

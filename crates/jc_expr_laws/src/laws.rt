@@ -1,4 +1,4 @@
-// Laws of expressions.
+//! Laws of expressions.
 ghost use Rattle.jc_expr_laws.specs.ExprAnswers.{ExpressionsAreTold};
 
 /// A law: at each place there is one longest expression with a reach, and no other expression has the same tokens; or there is none, and

@@ -1,3 +1,4 @@
+//! Assignments, whose parts are evaluated from left to right (JLS 15.26).
 ghost use Rattle.std.specs.Prelude.{◌≡◌, if◌then◌else◌};
 ghost use Rattle.jc_pending.specs.Frames.{Rest};
 ghost use Rattle.jc_pending.specs.Leads.{Coherent, Leads};

@@ -1,3 +1,4 @@
+//! The forms of expressions, each with what it begins (JLS 15).
 ghost use Rattle.jc_pending.specs.Frames.{Rest};
 ghost use Rattle.jc_pending.specs.Leads.{Coherent, Leads};
 ghost use Rattle.jc_pending.specs.Values.{expression_task};

@@ -1,3 +1,4 @@
+//! Operators between values (JLS 15.17 to 15.22).
 ghost use Rattle.jc_pending.specs.Frames.{Rest};
 ghost use Rattle.jc_pending.specs.Leads.{Coherent, Leads};
 ghost use Rattle.jc_pending.specs.Values.{join_value};

@@ -1,3 +1,4 @@
+//! The values of operands, from left to right (JLS 15.7).
 ghost use Rattle.std.specs.Prelude.{◌≡◌, IfOk};
 ghost use Rattle.jc_typed.specs.Parts.{operands_of};
 ghost use Rattle.jc_meaning.specs.Programs.{operand_list};

@@ -1,3 +1,4 @@
+//! Values that are read, noted with their static types.
 ghost use Rattle.jc_meaning.specs.Expressions as e;
 ghost use Rattle.jc_typed.specs.Parts.{form_over, parts, type_of};
 ghost use Rattle.jc_values.specs.Doing.{Does};

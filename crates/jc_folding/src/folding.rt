@@ -1,3 +1,4 @@
+//! Operators on constants (JLS 15.28).
 ghost use Rattle.std.specs.Prelude.{◌≡◌, IfOk};
 ghost use Rattle.jc_heaps.specs.Numbers.{is_shift};
 ghost use Rattle.jc_folding.specs.Folding.{is_boolean, is_long, promoted, both_promoted, is_comparison, as_constant, given_constant, shifted, numbers, numeric, boolean_operator, booleans_by, wholes, fold};

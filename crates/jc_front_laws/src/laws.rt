@@ -1,3 +1,4 @@
+//! Laws of what the front end gives.
 ghost use Rattle.std.specs.Prelude.{ℕ, List};
 ghost use Rattle.jc_types.specs.Tables.{IsTable};
 ghost use Rattle.jc_judge.specs.Supers.{HasNoCycle};

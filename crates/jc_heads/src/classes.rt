@@ -1,4 +1,4 @@
-// The heads of types.
+//! The heads of types.
 ghost use Rattle.std.specs.Prelude.{◌≡◌, IfOk, map, ◌∷◌};
 ghost use Rattle.jc_tree.specs.Offsets.{first_offset_of_head, first_offset_of_modifier, modifiers_first};
 ghost use Rattle.jc_declares.specs.Sites.{is_interface_head, params_of_head};

@@ -1,4 +1,4 @@
-// What is declared beside types: parameters, fields, methods and scopes.
+//! What is declared beside types: parameters, fields, methods and scopes.
 ghost use Rattle.std.specs.Prelude.{◌≡◌, ◌++◌, [], ◌∷◌, map, cond, OnOk, Bool};
 ghost use Rattle.jc_declares.specs.Sites.{innermost, variable_sites, listed_params, field_walk, method_walk, implied_sites, class_sites, walked, MethodForm, Uses};
 ghost use Rattle.jc_declares.specs.Heads.{heads_of, variable_head};

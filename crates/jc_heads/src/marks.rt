@@ -1,4 +1,4 @@
-// The words among modifiers, and what they say of access.
+//! The words among modifiers, and what they say of access.
 ghost use Rattle.std.specs.Prelude.{◌≡◌};
 ghost use Rattle.jc_declares.specs.Words.{same_word, is_word, says};
 ghost use Rattle.jc_declares.specs.Heads.{written_access, access_with, access_of_type};

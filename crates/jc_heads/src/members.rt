@@ -1,4 +1,4 @@
-// What a type has to know of its members: whether one is a constructor, a static block or a static field.
+//! What a type has to know of its members: whether one is a constructor, a static block or a static field.
 ghost use Rattle.std.specs.Prelude.{◌≡◌, map, ◌||◌, ◌&&◌};
 ghost use Rattle.jc_declares.specs.Sites.{membered, some_of, is_constructor_implied, is_static_initialiser_implied};
 

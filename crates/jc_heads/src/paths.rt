@@ -1,4 +1,4 @@
-// Names of one part or several.
+//! Names of one part or several.
 ghost use Rattle.std.specs.Prelude.{◌≡◌, IfOk, map};
 ghost use Rattle.jc_declares.specs.Heads.{text_of, part_name, path_of_class, package_name, with_points, import_head};
 

@@ -1,4 +1,4 @@
-// The walk over declarations, each before those in it.
+//! The walk over declarations, each before those in it.
 ghost use Rattle.std.specs.Prelude.{◌≡◌, map, OnOk};
 ghost use Rattle.jc_declares.specs.Sites.{Membered, membered, walked, implied_forms, implied_sites, sites_of_declaration};
 ghost use Rattle.jc_declares.specs.Heads.{heads_of};

@@ -1,4 +1,4 @@
-// Lengths of arrays, and new arrays.
+//! Lengths of arrays, and new arrays.
 ghost use Rattle.std.specs.Prelude.{◌≡◌, IfOk, OnErr, replicate, slice_get};
 ghost use Rattle.jc_jvm.specs.Objects.{length_pushed, array_length as length_of, array_made};
 ghost use Rattle.jc_jvm.specs.Types.{zero_of};

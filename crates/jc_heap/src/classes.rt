@@ -1,3 +1,4 @@
+//! Classes with their supertypes and fields, looked up once.
 ghost use Rattle.std.specs.Prelude.{◌≡◌, IfOk, codes};
 ghost use Rattle.jc_jvm.specs.Classes.{class_named as class_by_name, is_class_below as class_below};
 ghost use Rattle.jc_jvm.specs.Types.{is_base_below as base_below, is_object as object_of, is_shape_below as shape_below, deeper, new_fields as fields_of_new};

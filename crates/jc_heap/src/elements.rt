@@ -1,4 +1,4 @@
-// Elements of arrays: null is tested first, then the range, and for references that are stored the type.
+//! Elements of arrays: null is tested first, then the range, and for references that are stored the type.
 ghost use Rattle.std.specs.Prelude.{◌≡◌, option_and_then, slice_get};
 ghost use Rattle.jc_jvm.specs.Objects.{is_element_base as element_base, is_array_of as array_of, place_in as place_of, element_pushed, element_of, element_loaded, narrowed_to, kept as kept_in, may_stand as stands, element_put, element_kept, element_stored};
 ghost use Rattle.jc_plain.specs.Acted.{acted};

@@ -1,4 +1,4 @@
-// Fields of objects.
+//! Fields of objects.
 ghost use Rattle.std.specs.Prelude.{◌≡◌, slice_get};
 ghost use Rattle.jc_jvm.specs.Objects.{field_pushed, slot_in as value_in, field_loaded, field_put, field_stored};
 ghost use Rattle.jc_plain.specs.Acted.{acted};

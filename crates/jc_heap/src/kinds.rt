@@ -1,4 +1,4 @@
-// Types of objects and arrays.
+//! Types of objects and arrays.
 ghost use Rattle.std.specs.Prelude.{◌≡◌, ◌∷◌, ◌≤◌, slice_get};
 ghost use Rattle.jc_jvm.specs.Objects.{cast_to, truth};
 ghost use Rattle.jc_jvm.specs.Table.{casts, tests};

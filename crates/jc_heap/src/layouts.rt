@@ -1,4 +1,4 @@
-// The fields of objects.
+//! The fields of objects.
 ghost use Rattle.std.specs.Prelude.{◌≡◌, ◌++◌, reverse, position, IfOk, OnOk};
 ghost use Rattle.jc_jvm.specs.Classes.{super_of, line_of, fields_of, is_static_field};
 ghost use Rattle.jc_jvm.specs.Types.{zero_of_field, new_fields};

@@ -1,4 +1,4 @@
-// What names and descriptors mean.
+//! What names and descriptors mean.
 ghost use Rattle.std.specs.Prelude.{◌≡◌};
 ghost use Rattle.std.specs.Str.{bytes_eq};
 ghost use Rattle.jc_jvm.specs.Classes.{class_named as class_by_name, has_flag as flag_in};

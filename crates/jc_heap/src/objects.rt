@@ -1,4 +1,4 @@
-// New objects.
+//! New objects.
 ghost use Rattle.std.specs.Prelude.{◌≡◌, IfOk, OnErr};
 ghost use Rattle.jc_jvm.specs.Objects.{object_made};
 ghost use Rattle.jc_jvm.specs.Worlds.{with_object, next_address};

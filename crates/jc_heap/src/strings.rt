@@ -1,4 +1,4 @@
-// Strings, and those of literals.
+//! Strings, and those of literals.
 ghost use Rattle.std.specs.Prelude.{◌≡◌, IfOk};
 ghost use Rattle.jc_jvm.specs.Objects.{literal_made, literal_by, literal_pushed};
 ghost use Rattle.jc_jvm.specs.Worlds.{with_cell, with_string, string_cell, string_address, chars_cell, next_address, interned_in};

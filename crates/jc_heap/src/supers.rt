@@ -1,4 +1,4 @@
-// The direct supertypes of classes, and what stands above them.
+//! The direct supertypes of classes, and what stands above them.
 ghost use Rattle.std.specs.Prelude.{◌≡◌, ◌++◌, IfOk, OnOk, option_and_then};
 ghost use Rattle.std.specs.List.{filter_map};
 ghost use Rattle.jc_jvm.specs.Classes.{class_named as class_by_name, listed};

@@ -1,3 +1,4 @@
+//! What an operator gives.
 use jc_running::Value;
 
 /// What an operator gives: a value, a division by zero, or nothing, where it doesn't take these values.

@@ -1,3 +1,4 @@
+//! Objects, arrays, and the state of a running program.
 ghost use Rattle.std.specs.Prelude.{◌≡◌, ◌↔◌, [], ◌∷◌, IsTrue, MatchOption};
 
 use jc_rules::Items;

@@ -1,3 +1,4 @@
+//! What inference gives, and why a method isn't applicable by it.
 use jc_rules::Items;
 use jc_types::{Ty, VarId};
 

@@ -1,3 +1,5 @@
+//! Why a type has no capture, no greatest lower bound, or isn't well formed.
+
 /// Why a type has no capture, or types have no greatest lower bound: at the argument or type `i` and at no earlier one, counted
 /// from 0, two classes of which neither is a subclass of the other meet (JLS 5.1.10).
 #[derive(Clone, Copy, Debug, PartialEq, Eq, Hash)]

@@ -1,3 +1,4 @@
+//! Laws of proofs and refutations of subtyping (JLS 4.10).
 ghost use Rattle.std.specs.Prelude.{◌≡◌, ◌+◌, ℕ, suc, List, Some};
 ghost use Rattle.jc_types.specs.declared.form.Ty.{Ty};
 ghost use Rattle.jc_types.specs.declared.ids.ClassId.{ClassId};

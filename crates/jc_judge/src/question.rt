@@ -1,3 +1,4 @@
+//! The questions of subtyping, and their answers.
 use jc_rules::Items;
 use jc_types::{Bounds, Ty};
 

@@ -1,3 +1,4 @@
+//! The answers to questions of subtyping are right.
 ghost use Rattle.std.specs.Prelude.{◌≡◌, ◌↔◌, ℕ, List, Option};
 ghost use Rattle.jc_types.specs.declared.form.Ty.{Ty};
 ghost use Rattle.jc_types.specs.declared.form.Arg.{Arg};

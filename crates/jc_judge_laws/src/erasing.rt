@@ -1,3 +1,4 @@
+//! Laws of erasure (JLS 4.6).
 ghost use Rattle.std.specs.Prelude.{◌≡◌, ◌++◌, List, Some};
 ghost use Rattle.jc_types.specs.declared.form.Ty.{Ty};
 ghost use Rattle.jc_types.specs.declared.table.Table.{Table};

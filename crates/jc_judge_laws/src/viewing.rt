@@ -1,3 +1,4 @@
+//! Laws of views, the supertypes of a class (JLS 4.10.2).
 ghost use Rattle.std.specs.Prelude.{◌≡◌, ◌↔◌, ◌<◌, ℕ, List, Some, []};
 ghost use Rattle.jc_types.specs.declared.form.Ty.{Ty, Ty-F, out-Ty};
 ghost use Rattle.jc_types.specs.declared.form.Ty.TheVariants.{Class};

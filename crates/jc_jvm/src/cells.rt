@@ -1,3 +1,4 @@
+//! Objects and arrays (JVMS 2.7).
 ghost use Rattle.std.specs.Prelude.{◌≡◌, ◌∷◌, ◌++◌, [], ◌↔◌, IsTrue, IfSome, OnOk, OnErr, nat_lt, length, slice_get};
 ghost use Rattle.std.specs.Option.{option_copied};
 ghost use Rattle.jc_jvm.specs.Slotted.{IsSmall, heap_with, has_slot, cell_with, slots_of};

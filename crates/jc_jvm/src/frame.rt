@@ -1,3 +1,4 @@
+//! Frames (JVMS 2.6).
 use crate::{Operands, Slots, Value};
 use std::alloc::Global;
 

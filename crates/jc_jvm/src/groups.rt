@@ -1,3 +1,4 @@
+//! What instructions do, by the groups of JVMS 2.11.
 use crate::{Sort, Value};
 
 /// What an instruction makes of two ints, or of two longs.

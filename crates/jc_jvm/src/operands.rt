@@ -1,3 +1,4 @@
+//! Operand stacks (JVMS 2.6.2).
 ghost use Rattle.std.specs.Prelude.{◌≡◌, ◌≤◌, ◌<◌, [], ◌∷◌, drop, length, reverse, take, MatchOption, MatchBool, IfOk, Some, None};
 ghost use Rattle.jc_jvm.specs.Stacked.{pushed, units_of, units_in};
 ghost use Rattle.jc_jvm.specs.Types.{sort_of_value};

@@ -1,3 +1,4 @@
+//! Lists of values whose length stays.
 ghost use Rattle.std.specs.Prelude.{◌≡◌, nat_lt, length, slice_get, slice_set};
 
 use std::marker::Model;

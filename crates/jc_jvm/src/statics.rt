@@ -1,3 +1,4 @@
+//! The static fields of classes.
 ghost use Rattle.std.specs.Prelude.{◌≡◌, ◌∷◌, ◌++◌, [], OnOk, OnErr};
 ghost use Rattle.jc_jvm.specs.Slotted.{static_in, statics_with};
 

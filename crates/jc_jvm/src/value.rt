@@ -1,3 +1,5 @@
+//! Values of the machine, and the types of objects and arrays (JVMS 2.2 to 2.4).
+
 /// A value of the machine: an int, which stands for the smaller whole numbers too, a long, a reference to an object or an array,
 /// or null (JVMS 2.3, 2.4). An address is the number of objects and arrays that were made before.
 #[derive(Clone, Copy, Debug, PartialEq, Eq)]

@@ -1,3 +1,4 @@
+//! What all frames share.
 use crate::{Cells, Slots, Statics};
 use jc_rules::Items;
 

@@ -1,3 +1,4 @@
+//! Laws of runs of the machine.
 ghost use Rattle.std.specs.Prelude.{◌≡◌, ◌≤◌, ◌+◌, ℕ, List, length, drop};
 ghost use Rattle.jc_class_out.specs.declared.model.ClassModel.{ClassModel};
 ghost use Rattle.jc_jvm.specs.Runs.{rests, run_of};

@@ -1,3 +1,4 @@
+//! Types with what their variables stand for in their places.
 ghost use Rattle.std.specs.Prelude.{◌≡◌, IfOk, map, get_or};
 ghost use Rattle.jc_types.specs.declared.form.Ty.TheVariants.{NullTy};
 ghost use Rattle.jc_meaning.specs.Kept.{bound_to, close};

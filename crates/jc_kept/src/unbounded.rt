@@ -1,3 +1,4 @@
+//! What a new array keeps where its type is raw.
 ghost use Rattle.std.specs.Prelude.{◌≡◌, IfOk, map, length, replicate};
 ghost use Rattle.jc_types.specs.Accessors.{vars_of};
 ghost use Rattle.jc_types.specs.declared.form.Arg.TheVariants.{Any};

@@ -1,4 +1,4 @@
-// Left-out forms of expressions.
+//! Left-out forms of expressions.
 ghost use Rattle.std.specs.Prelude.{◌≡◌};
 ghost use Rattle.jc_left_out.specs.LeftOut.{in_each, in_some_of, least_of, left_out_of_array, left_out_of_creation, left_out_of_expr, left_out_of_init, left_out_of_operand};
 

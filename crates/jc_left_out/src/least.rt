@@ -1,4 +1,4 @@
-// The earlier of two offsets, and one that may be none.
+//! The earlier of two offsets, and one that may be none.
 ghost use Rattle.std.specs.Prelude.{◌≡◌};
 ghost use Rattle.jc_left_out.specs.LeftOut.{earlier, least_of, only_if};
 

@@ -1,4 +1,4 @@
-// Left-out forms of what statements and declarations have but their statements and members.
+//! Left-out forms of what statements and declarations have but their statements and members.
 ghost use Rattle.std.specs.Prelude.{◌≡◌};
 ghost use Rattle.jc_left_out.specs.LeftOut.{in_each, in_some_of, is_known_annotation, is_static, least_of, left_out_of_clause_head, left_out_of_for, left_out_of_for_init, left_out_of_formals, left_out_of_locals, left_out_of_method, left_out_of_modifier, left_out_of_modifiers, left_out_of_pairs, left_out_of_resource, left_out_of_resources, left_out_of_value, left_out_of_var, some_static};
 

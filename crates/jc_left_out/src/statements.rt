@@ -1,4 +1,4 @@
-// Left-out forms of statements, declarations and source files.
+//! Left-out forms of statements, declarations and source files.
 ghost use Rattle.std.specs.Prelude.{◌≡◌, ◌<◌, ◌^◌, ◌++◌, length};
 ghost use Rattle.jc_left_out.specs.LeftOut.{first_left_out_form, forms_of_clause, forms_of_stmt, head_forms, in_each, is_class, is_class_of_name, is_inner, least_of, left_out_forms, left_out_of_declaration, left_out_of_import, left_out_of_member, left_out_of_method, left_out_of_top, misplaced, standing_of_method};
 

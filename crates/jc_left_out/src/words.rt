@@ -1,4 +1,4 @@
-// Words that are left out.
+//! Words that are left out.
 ghost use Rattle.std.specs.Prelude.{◌≡◌, ◌<◌, ◌^◌, length};
 ghost use Rattle.jc_left_out.specs.LeftOut.{first_left_out_word, is_left_out_word, tokens_before};
 

@@ -1,4 +1,4 @@
-// The sorts of what calls take.
+//! The sorts of what calls take.
 ghost use Rattle.std.specs.Prelude.{◌≡◌, ◌++◌, ◌-◌, IfOk, OnOk, true, false, take, drop, length};
 ghost use Rattle.jc_class_out.specs.Descriptors.{item_of_type};
 ghost use Rattle.jc_jvm.specs.Calls.{sorts_of_call};

@@ -1,4 +1,4 @@
-// Fields by name.
+//! Fields by name.
 ghost use Rattle.std.specs.Prelude.{◌≡◌, position};
 ghost use Rattle.jc_jvm.specs.Classes.{is_field, fields_of, field_on, field_of, field_at};
 ghost use Rattle.jc_jvm.specs.Table.{static_if, static_field};

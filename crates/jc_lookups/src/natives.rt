@@ -1,3 +1,4 @@
+//! The native methods of the library, by name.
 ghost use Rattle.std.specs.Prelude.{◌≡◌, codes};
 ghost use Rattle.jc_jvm.specs.Calls.{is_native_of, native_by, native_at};
 

@@ -1,3 +1,4 @@
+//! Types of objects and arrays by their names and descriptors (JVMS 4.3.2).
 ghost use Rattle.std.specs.Prelude.{◌≡◌, ◌-◌, IfSome, length, take};
 ghost use Rattle.std.specs.Option.{option_map};
 ghost use Rattle.jc_jvm.specs.Classes.{class_named as class_by_name};

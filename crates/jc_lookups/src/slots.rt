@@ -1,4 +1,4 @@
-// Where a field stands in objects.
+//! Where a field stands in objects.
 ghost use Rattle.std.specs.Prelude.{◌≡◌, ◌==◌, ◌++◌, ◌&&◌, reverse, position, IfOk, OnOk};
 ghost use Rattle.std.specs.List.{flat_map};
 ghost use Rattle.jc_jvm.specs.Classes.{fields_of, is_field, is_static_field, line_of, slot_of};

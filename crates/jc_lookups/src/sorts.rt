@@ -1,3 +1,4 @@
+//! The sorts of what methods give.
 ghost use Rattle.std.specs.Prelude.{◌≡◌};
 ghost use Rattle.jc_jvm.specs.Types.{behind_parameters, result_sort};
 

@@ -1,4 +1,4 @@
-// What the rows of the instruction table do.
+//! What the rows of the instruction table do.
 ghost use Rattle.std.specs.Prelude.{◌≡◌, ◌%◌, IfOk, MatchBool, Some, None, if◌then◌else◌};
 ghost use Rattle.std.specs.Int.{w32, cast_unsigned};
 ghost use Rattle.jc_machine.specs.Stacked.{pushed};

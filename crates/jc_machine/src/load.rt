@@ -1,4 +1,4 @@
-// Where a run begins.
+//! Where a run begins.
 ghost use Rattle.std.specs.Prelude.{◌≡◌, ◌-◌, ◌∷◌, [], ◌==◌, ◌↔◌, IsTrue, IfOk, IfErr, map, length, replicate, codes, None, Some, position, if◌then◌else◌};
 ghost use Rattle.std.specs.List.{flat_map};
 ghost use Rattle.std.specs.Char.Escape.{encode_utf16};

@@ -1,3 +1,4 @@
+//! Operand stacks (JVMS 2.6.2).
 ghost use Rattle.std.specs.Prelude.{◌≡◌, [], ◌∷◌, MatchOption, MatchBool, IfOk, Some, None};
 ghost use Rattle.jc_machine.specs.Stacked.{pushed, units_of};
 

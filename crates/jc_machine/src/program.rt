@@ -1,3 +1,4 @@
+//! Classes whose instructions are read once.
 ghost use Rattle.std.specs.Prelude.{◌≡◌, IfOk};
 ghost use Rattle.jc_machine.specs.Names.{placed_at};
 ghost use Rattle.jc_machine.specs.Places.{places_of_code, places_of_methods, places_of_classes};

@@ -1,4 +1,4 @@
-// Runs of the machine.
+//! Runs of the machine.
 ghost use Rattle.std.specs.Prelude.{◌≡◌, ◌≢◌, ◌≤◌, [], ◌∷◌, ◌++◌, ℕ, List, IfOk, OnErr, true, false};
 ghost use Rattle.jc_outside.specs.Told.{Rose, Stays, Gets, GetsPart};
 ghost use Rattle.jc_machine.specs.Table.{state_of, classes_of};

@@ -1,3 +1,4 @@
+//! What a running method knows of its types.
 use jc_rules::{Items, Place};
 use jc_running::Value;
 use jc_types::{MethodId, Ty, VarId};

@@ -1,3 +1,4 @@
+//! Laws of runs of typed programs.
 ghost use Rattle.std.specs.Prelude.{◌≡◌, ℕ, suc, ◌+◌, true, List};
 ghost use Rattle.jc_types.specs.declared.form.Ty.{Ty};
 ghost use Rattle.jc_types.specs.declared.ids.MethodId.{MethodId};

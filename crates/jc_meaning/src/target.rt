@@ -1,3 +1,4 @@
+//! Variables that are assigned, and the native methods.
 use jc_running::Value;
 use jc_types::FieldId;
 

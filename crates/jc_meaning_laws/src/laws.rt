@@ -1,3 +1,4 @@
+//! What more units do to a run.
 ghost use Rattle.std.specs.Prelude.{ℕ, ◌+◌, List};
 ghost use Rattle.jc_types.specs.declared.ids.MethodId.{MethodId};
 ghost use Rattle.jc_typed.specs.declared.program.TypedProgram.{TypedProgram};

@@ -1,4 +1,4 @@
-// Heads of declarations as lines of text.
+//! Heads of declarations as lines of text.
 use jc_declares::{ClassHead, Heads, ImportHead, Path, ScopeForm, ScopeHead};
 use jc_rules::{Text, WantOfMemory};
 use jc_types::{Access, Kind, Owner};

@@ -1,4 +1,4 @@
-// Sources as units.
+//! Sources as units.
 use jc_declares::SourceUnit;
 use jc_lexer::lex_all;
 use jc_rules::{Items, Refusal, Stop, WantOfMemory};

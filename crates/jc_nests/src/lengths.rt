@@ -1,4 +1,4 @@
-// The lengths that multianewarray takes.
+//! The lengths that multianewarray takes.
 ghost use Rattle.std.specs.Prelude.{◌≡◌, [], ◌∷◌, ◌-◌, false, reverse, IfOk, MatchBool, MatchOption, None, Some};
 ghost use Rattle.jc_jvm.specs.Objects.{lengths_on, naturals, arrays_within};
 ghost use Rattle.jc_nests.specs.Lengths.{has_length};

@@ -1,4 +1,4 @@
-// Arrays of arrays.
+//! Arrays of arrays.
 ghost use Rattle.std.specs.Prelude.{◌≡◌, ◌++◌, ◌+◌, ◌-◌, ◌∷◌, [], length, IfOk, OnOk};
 ghost use Rattle.jc_jvm.specs.Objects.{addresses, naturals, nest, nest_made, nest_by, arrays_made};
 ghost use Rattle.jc_jvm.specs.Types.{shallower};

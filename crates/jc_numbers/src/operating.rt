@@ -1,3 +1,4 @@
+//! Operators on two numbers (JLS 15.17 to 15.22).
 ghost use Rattle.std.specs.Prelude.{◌≡◌};
 ghost use Rattle.std.specs.Int.{w32, w64};
 ghost use Rattle.jc_heaps.specs.Numbers.{truth, int_eq, of_numbers, of_references, matched, operated, unless_zero, distance, is_shift, shifted_by};

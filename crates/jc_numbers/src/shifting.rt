@@ -1,3 +1,4 @@
+//! Shifts (JLS 15.19).
 ghost use Rattle.std.specs.Prelude.{◌≡◌, ◌%◌};
 ghost use Rattle.std.specs.Int.{w32, w64};
 ghost use Rattle.jc_heaps.specs.Numbers.{shifted, shifted_by, is_shift, distance};

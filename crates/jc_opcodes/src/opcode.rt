@@ -1,3 +1,4 @@
+//! The instructions with their numbers (JVMS 6.5, 7).
 ghost use Rattle.std.specs.Prelude.{◌≡◌, slice_get};
 ghost use Rattle.std.specs.Option.{option_flatten};
 ghost use Rattle.jc_opcodes.specs.Opcodes.{opcode_of};

@@ -1,3 +1,4 @@
+//! Ids ascend with places.
 ghost use Rattle.std.specs.Prelude.{List};
 ghost use Rattle.jc_declares.specs.declared.unit.SourceUnit.{SourceUnit};
 ghost use Rattle.jc_declares.specs.Making.{table_of};

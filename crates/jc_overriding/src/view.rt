@@ -1,3 +1,4 @@
+//! Methods as types have them.
 use jc_rules::Items;
 use jc_types::{MethodId, Ty, VarId};
 

@@ -1,3 +1,5 @@
+//! Trees with their heights.
+
 /// A tree with its height, which is counted as the tree is built.
 #[derive(Drop)]
 pub struct Measured<T> {

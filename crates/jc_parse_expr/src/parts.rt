@@ -1,3 +1,4 @@
+//! Parts of expressions whose operands aren't built yet.
 use jc_rules::Items;
 use jc_tree::{Creation, Expr, Ident, Init, TypeArg};
 

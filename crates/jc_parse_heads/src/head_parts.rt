@@ -1,3 +1,4 @@
+//! Parts of the heads of statements.
 use jc_rules::Items;
 use jc_tree::{ClassTree, Expr, Ident, Init, Resource, TypeTree, Var};
 

@@ -1,3 +1,4 @@
+//! Parts of the heads of declarations (JLS 8.3, 8.4).
 use crate::pieces::Typed;
 use jc_rules::Items;
 use jc_tree::{ClassTree, Formal, Ident, Init, LocalVars, MethodHead, ResultType, TypeParams, Var};

@@ -1,3 +1,4 @@
+//! Parts of statements before their bodies (JLS 14).
 use jc_parse_parts::HeadTree;
 use jc_rules::Items;
 use jc_tree::{Clause, ClauseHead, Expr, ForHead, Member, Stmt, TypeTree, Var};

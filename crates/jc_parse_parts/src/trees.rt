@@ -1,3 +1,4 @@
+//! Parts of declarations before their braces (JLS 8.1, 9.1, 9.6).
 use jc_rules::Items;
 use jc_tree::{AnnotationValue, ClassTree, Ident, TypeParam, TypeTree, Var};
 

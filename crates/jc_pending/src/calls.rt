@@ -1,3 +1,4 @@
+//! What a call still has to do.
 use jc_meaning::Frame;
 use jc_rules::Items;
 use jc_running::Value;

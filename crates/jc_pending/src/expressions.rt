@@ -1,3 +1,4 @@
+//! What an expression still has to do.
 use crate::calls::CallTask;
 use jc_meaning::Target;
 use jc_rules::{Items, Place};

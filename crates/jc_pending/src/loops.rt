@@ -1,3 +1,4 @@
+//! What a loop still has to do.
 use jc_rules::Place;
 use jc_running::Value;
 

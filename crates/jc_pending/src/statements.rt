@@ -1,3 +1,4 @@
+//! What a statement still has to do.
 use crate::loops::{Each, TurnTask};
 use jc_places::ArmPlaces;
 use jc_rules::Items;

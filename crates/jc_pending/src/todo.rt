@@ -1,3 +1,4 @@
+//! What is to be done next, by what it gives.
 use crate::calls::{NothingToNothing, NothingToValue, ValuesToValue};
 use crate::expressions::{
     NothingTask, TargetTask, TargetToValue, ValueTask, ValueToTarget, ValueToValue, ValueToValues,

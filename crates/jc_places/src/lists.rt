@@ -1,3 +1,4 @@
+//! The places of the members of lists, in order.
 ghost use Rattle.std.specs.Prelude.{◌≡◌, [], IfOk, map, reverse};
 ghost use Rattle.jc_typed.specs.Parts.{stmts_of, stmt_of, operands_of, operand_of, types_of, type_of, steps_of, step_over, parts, captures_of, cases_of, arms_of, catches_of};
 ghost use Rattle.jc_meaning.specs.Programs.{stmt_list, operand_list};

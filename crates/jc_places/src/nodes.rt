@@ -1,3 +1,4 @@
+//! The nodes at places of an arena.
 ghost use Rattle.std.specs.Prelude.{◌≡◌, ◌<◌};
 ghost use Rattle.jc_typed.specs.Parts.{BelowArms, BelowCaptures, BelowCases, BelowCatches, BelowDeclared, BelowLinks, BelowList, BelowOps, BelowSteps, arms_at, arms_of, captures_at, captures_of, cases_at, cases_of, catches_at, catches_of, declared_at, declared_of, expr_at, expr_of, links_at, links_of, operand_at, operand_of, operands_at, operands_of, ops_at, ops_of, steps_at, steps_of, stmt_at, stmt_of, stmts_at, stmts_of, types_at, types_of, variable_at, variable_of};
 

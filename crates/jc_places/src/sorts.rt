@@ -1,3 +1,5 @@
+//! Parts of statements by their places.
+
 /// A test of an `if` and its statement, by their places.
 #[derive(Clone, Copy, Debug)]
 pub struct ArmPlaces {

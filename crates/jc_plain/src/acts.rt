@@ -1,3 +1,4 @@
+//! What an instruction did to its frame.
 ghost use Rattle.std.specs.Prelude.{◌≡◌};
 ghost use Rattle.jc_jvm.specs.Frames.{Goes, throws, pushes};
 ghost use Rattle.jc_plain.specs.Acted.{acted};

@@ -1,3 +1,4 @@
+//! Instructions of arithmetic (JVMS 2.11.3).
 ghost use Rattle.std.specs.Prelude.{◌≡◌};
 ghost use Rattle.jc_jvm.specs.Table.{int_pairs, long_pairs, int_shifts, long_shifts, int_quotients, long_quotients, of_ints, of_longs, comparisons};
 ghost use Rattle.jc_plain.specs.Acted.{acted};

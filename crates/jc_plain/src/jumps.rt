@@ -1,3 +1,4 @@
+//! Jumps (JVMS 2.11.7).
 ghost use Rattle.std.specs.Prelude.{◌≡◌, pos, if◌then◌else◌};
 ghost use Rattle.jc_jvm.specs.Plain.{same_reference, is_null};
 ghost use Rattle.jc_jvm.specs.Table.{jumps, turned, reference_jumps, int_jumps, int_pair_jumps, pair_jumps, null_jumps};

@@ -1,3 +1,4 @@
+//! Loads and stores of local variables (JVMS 2.11.2).
 ghost use Rattle.std.specs.Prelude.{◌≡◌, ◌<◌, ◌^◌, Some, None, MatchBool, slice_get};
 ghost use Rattle.jc_jvm.specs.Frames.{with_local, last_unit, without_long_before, units_behind, is_long, local_of_sort};
 ghost use Rattle.jc_jvm.specs.Table.{gives, loads, keeps, stores, steps};

@@ -1,3 +1,4 @@
+//! The instructions that touch their frame alone.
 ghost use Rattle.std.specs.Prelude.{◌≡◌};
 ghost use Rattle.jc_jvm.specs.Table.{plain_act};
 ghost use Rattle.jc_plain.specs.Acted.{acted};

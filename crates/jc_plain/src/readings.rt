@@ -1,3 +1,4 @@
+//! What instructions take and give.
 ghost use Rattle.std.specs.Prelude.{◌≡◌};
 ghost use Rattle.jc_jvm.specs.Table.{group_of as group_by, alone_of, with_number, with_constant, on_local as by_local, by_step, jump_to, plain_of as plain_by};
 

@@ -1,3 +1,4 @@
+//! Values taken from a stack, and the instructions that move them (JVMS 2.11.6).
 ghost use Rattle.std.specs.Prelude.{◌≡◌, ◌∷◌, ◌≤◌, Some, None, MatchOption, MatchBool, nat_le};
 ghost use Rattle.jc_jvm.specs.Plain.{is_one_unit, one_unit, second_unit, two_units, units_taken};
 ghost use Rattle.jc_jvm.specs.Stacked.{units_in};

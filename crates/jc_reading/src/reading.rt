@@ -1,3 +1,4 @@
+//! What a parser of a part answers.
 use jc_lexer::Token;
 use jc_rules::WantOfMemory;
 use std::alloc::{AllocError, AllocFailed};

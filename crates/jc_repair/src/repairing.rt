@@ -1,3 +1,4 @@
+//! The type of a conditional whose lub is not well formed.
 ghost use Rattle.std.specs.Prelude.{◌≡◌, map, IfOk};
 ghost use Rattle.jc_repair.specs.Repairing.{is_yes, is_sound, loosened, repaired, repaired_arg};
 

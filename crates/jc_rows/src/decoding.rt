@@ -1,4 +1,4 @@
-// What an instruction means.
+//! What an instruction means.
 ghost use Rattle.std.specs.Prelude.{◌≡◌, IfOk};
 ghost use Rattle.std.specs.Option.{option_map};
 ghost use Rattle.jc_jvm.specs.Classes.{method_at};

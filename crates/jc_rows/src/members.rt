@@ -1,4 +1,4 @@
-// Rows of instructions that name a member, a class or an array type.
+//! Rows of instructions that name a member, a class or an array type.
 ghost use Rattle.std.specs.Prelude.{◌≡◌, IfOk, true};
 ghost use Rattle.jc_jvm.specs.Calls.{sorts_of_call};
 ghost use Rattle.jc_jvm.specs.Classes.{class_has_flag as has_class_flag};

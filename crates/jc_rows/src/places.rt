@@ -1,4 +1,4 @@
-// Where the instructions of a method stand, by byte offset.
+//! Where the instructions of a method stand, by byte offset.
 ghost use Rattle.std.specs.Prelude.{◌≡◌, ◌+◌, ◌++◌, ◌∷◌, [], IfOk, OnOk, replicate, None};
 ghost use Rattle.jc_class_out.specs.Instructions.{ins_size};
 ghost use Rattle.jc_rows.specs.Laid.{placed_as, places_of};

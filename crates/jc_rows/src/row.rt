@@ -1,3 +1,4 @@
+//! Instructions with what their names mean.
 use jc_class_out::SwitchCase;
 use jc_jvm::{Element, Plain, Shape, Sort};
 use jc_rules::Items;

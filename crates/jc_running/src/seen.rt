@@ -1,3 +1,4 @@
+//! What a run shows.
 use jc_rules::{Items, Text};
 
 /// What a check of a reference's class stands for: a cast that the source writes (JLS 15.16), or one that stands where

@@ -1,3 +1,5 @@
+//! Values of a running program (JLS 4.2, 4.3).
+
 /// A value of a running program (JLS 4.2, 4.3).
 ///
 /// `Whole` has the values of `boolean`, where false is 0 and true is 1, of `byte`, `short`, `char` and `int`. `Address` is a

@@ -1,4 +1,4 @@
-// The size of an instruction by what stands behind its opcode.
+//! The size of an instruction by what stands behind its opcode.
 ghost use Rattle.std.specs.Prelude.{◌≡◌, ◌≤◌, ◌<◌, ◌+◌, ◌^◌, length};
 ghost use Rattle.jc_class_out.specs.Instructions.{operand_size, wide_size, ins_size};
 

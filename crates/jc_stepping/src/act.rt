@@ -1,4 +1,4 @@
-// What an instruction that runs no other code does to the machine.
+//! What an instruction that runs no other code does to the machine.
 ghost use Rattle.std.specs.Prelude.{◌≡◌, ◌∷◌, IfOk, OnErr, IsTrue};
 ghost use Rattle.jc_jvm.specs.Calls.{Moves, Quiet, null_pointer as null_pointer_step};
 ghost use Rattle.jc_jvm.specs.Table.{throws_top};

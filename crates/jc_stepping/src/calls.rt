@@ -1,4 +1,4 @@
-// Calls. The caller waits at its call, with the arguments taken from its stack.
+//! Calls. The caller waits at its call, with the arguments taken from its stack.
 ghost use Rattle.std.specs.Prelude.{◌≡◌, ◌≤◌, [], IfOk, IsTrue, OnErr, Some, drop, length, option_and_then, reverse, slice_get, take};
 ghost use Rattle.jc_jvm.specs.Calls.{Moves, Quiet, arguments_of, called as call_of, called_by, entered, selecting_class, called_virtually, called_specially, called_statically};
 ghost use Rattle.jc_jvm.specs.Classes.{selected as selected_by};

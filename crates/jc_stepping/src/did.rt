@@ -1,3 +1,4 @@
+//! What a step does.
 use jc_waiting::Onward;
 
 /// What a step does.

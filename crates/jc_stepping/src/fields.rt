@@ -1,4 +1,4 @@
-// putstatic.
+//! putstatic.
 ghost use Rattle.std.specs.Prelude.{◌≡◌};
 ghost use Rattle.jc_jvm.specs.Table.{static_kept};
 ghost use Rattle.jc_plain.specs.Acted.{acted};

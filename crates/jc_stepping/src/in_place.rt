@@ -1,4 +1,4 @@
-// What a row does in place: on the frame and on what all frames share, where they lie.
+//! What a row does in place: on the frame and on what all frames share, where they lie.
 ghost use Rattle.std.specs.Prelude.{◌≡◌, MatchOption, Some, None};
 ghost use Rattle.jc_jvm.specs.Objects.{field_pushed};
 ghost use Rattle.jc_jvm.specs.Table.{static_kept};

@@ -1,4 +1,4 @@
-// New objects, arrays and strings of literals.
+//! New objects, arrays and strings of literals.
 ghost use Rattle.std.specs.Prelude.{◌≡◌, IfOk};
 ghost use Rattle.jc_jvm.specs.Calls.{Moves, Quiet, acts};
 ghost use Rattle.jc_jvm.specs.Objects.{array_made, arrays_made, literal_pushed, object_made};

@@ -1,4 +1,4 @@
-// The library's native methods, whose calls are a step each.
+//! The library's native methods, whose calls are a step each.
 ghost use Rattle.std.specs.Prelude.{◌≡◌, ◌≤◌, ◌∷◌, [], ◌%◌, IfOk, IsTrue, OnErr, drop, length, reverse, slice_get, take};
 ghost use Rattle.std.specs.Int.{w32, cast_unsigned};
 ghost use Rattle.std.specs.Option.{option_map};

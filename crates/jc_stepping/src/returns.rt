@@ -1,4 +1,4 @@
-// Returns.
+//! Returns.
 ghost use Rattle.std.specs.Prelude.{◌≡◌, ◌∷◌, IfOk, IsTrue, OnErr, Some};
 ghost use Rattle.jc_jvm.specs.Calls.{Moves, Quiet, behind as behind_call, returned as returned_by};
 ghost use Rattle.jc_jvm.specs.Table.{given_back, returns_by};

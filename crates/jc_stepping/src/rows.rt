@@ -1,4 +1,4 @@
-// One step, by its row.
+//! One step, by its row.
 ghost use Rattle.std.specs.Prelude.{◌≡◌, IfOk, OnErr, IsTrue, None, if◌then◌else◌, true};
 ghost use Rattle.jc_jvm.specs.Calls.{called_statically, arguments_of};
 ghost use Rattle.jc_jvm.specs.Table.{first_initialised};

@@ -1,4 +1,4 @@
-// lookupswitch.
+//! lookupswitch.
 ghost use Rattle.std.specs.Prelude.{◌≡◌};
 ghost use Rattle.jc_jvm.specs.Table.{case_of, switches};
 ghost use Rattle.jc_plain.specs.Acted.{acted};

@@ -1,3 +1,4 @@
+//! Answers to questions of subtyping.
 ghost use Rattle.std.specs.Prelude.{◌≡◌, ◌++◌, ◌≤◌, IfOk, OnOk, take, length};
 ghost use Rattle.jc_judge.specs.Trees.{Answers, Proof, Refute, PartProved, PartRefuted, Each, OneOf, Proved, Refuted, both, either};
 

@@ -1,3 +1,4 @@
+//! Whether one type is below another (JLS 4.10).
 ghost use Rattle.std.specs.Prelude.{◌≡◌, ◌↔◌, IfOk};
 ghost use Rattle.jc_judge.specs.Trees.{Proof, Refute, Contains, Excludes};
 ghost use Rattle.jc_judge.specs.Deciding.{answer_of, contained_answer};

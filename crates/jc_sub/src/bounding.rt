@@ -1,3 +1,4 @@
+//! Greatest lower bounds (JLS 5.1.10).
 ghost use Rattle.std.specs.Prelude.{◌≡◌, ◌++◌, ◌∷◌, [], false, None, IfOk, IfErr, OnOk};
 ghost use Rattle.jc_types.specs.declared.form.Ty.{out-Ty};
 ghost use Rattle.jc_judge.specs.Meeting.{glb, parts_at, clashes_before, brings_clash, unrelated};

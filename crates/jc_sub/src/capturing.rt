@@ -1,3 +1,4 @@
+//! Capture conversion (JLS 5.1.10).
 ghost use Rattle.std.specs.Prelude.{◌≡◌, ◌+◌, ◌++◌, ◌∷◌, [], true, map, length, None, IfOk, IfErr, OnOk, OnErr};
 ghost use Rattle.jc_types.specs.declared.form.Arg.{out-Arg};
 ghost use Rattle.jc_types.specs.declared.form.Arg.TheVariants.{Exact};

@@ -1,3 +1,4 @@
+//! The kinds of types.
 ghost use Rattle.std.specs.Prelude.{◌≡◌};
 ghost use Rattle.jc_judge.specs.Kinds.{is_primitive, is_null, is_object, class_of, primitive_below, primitives_below};
 

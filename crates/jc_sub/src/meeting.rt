@@ -1,3 +1,4 @@
+//! Intersections of types (JLS 4.9).
 ghost use Rattle.std.specs.Prelude.{◌≡◌, ◌++◌, ◌∷◌, [], filter, not, length, if◌then◌else◌, IfOk, OnOk};
 ghost use Rattle.jc_types.specs.declared.form.Ty.{out-Ty};
 ghost use Rattle.jc_types.specs.declared.form.Arg.{out-Arg};

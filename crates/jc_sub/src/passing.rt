@@ -1,3 +1,4 @@
+//! Classes whose arguments go unchanged to a supertype.
 ghost use Rattle.std.specs.Prelude.{◌≡◌, true, map, Some, IfSome, slice_get};
 ghost use Rattle.jc_types.specs.Accessors.{vars_of};
 ghost use Rattle.jc_types.specs.Reifying.{counted};

@@ -1,3 +1,4 @@
+//! What a question of subtyping leads to (JLS 4.10).
 ghost use Rattle.std.specs.Prelude.{◌≡◌, ◌++◌, map, length, Option, slice_get, IfOk, OnOk};
 ghost use Rattle.std.specs.Option.{option_copied};
 ghost use Rattle.jc_types.specs.declared.form.Ty.{out-Ty};

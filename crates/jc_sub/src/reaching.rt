@@ -1,3 +1,4 @@
+//! The way from a class to one above it.
 ghost use Rattle.std.specs.Prelude.{◌≡◌, ◌+◌, ℕ, true, cond, IfOk, OnOk, nat_eq};
 ghost use Rattle.std.specs.HashSet.{contains};
 ghost use Rattle.jc_sub.specs.Reaching.{WayIs, SightIs};

@@ -1,4 +1,4 @@
-// A law of the syntactic stage.
+//! A law of the syntactic stage.
 ghost use Rattle.jc_syntax.specs.Stage.{SyntaxIsTold};
 
 /// A law: of sources at most one refusal is that of the stage, and then they have no trees.

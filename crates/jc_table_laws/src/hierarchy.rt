@@ -1,3 +1,4 @@
+//! No class is above itself.
 ghost use Rattle.std.specs.Prelude.{◌≡◌, []};
 ghost use Rattle.jc_rules.specs.declared.rule.Refusal.{Refusal};
 ghost use Rattle.jc_types.specs.Accessors.{supers_of};

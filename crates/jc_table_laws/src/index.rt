@@ -1,3 +1,4 @@
+//! The index of a table.
 ghost use Rattle.std.specs.Prelude.{◌≡◌, List, ℕ};
 ghost use Rattle.jc_types.specs.Names.{named};
 ghost use Rattle.jc_types.specs.Tables.{first_named};

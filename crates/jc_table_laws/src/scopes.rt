@@ -1,3 +1,4 @@
+//! The scopes of classes.
 ghost use Rattle.std.specs.Prelude.{◌≡◌, ℕ, List, Some, slice_get};
 ghost use Rattle.jc_types.specs.declared.declarations.ClassDecl.{ClassDecl};
 ghost use Rattle.jc_declares.specs.declared.unit.SourceUnit.{SourceUnit};

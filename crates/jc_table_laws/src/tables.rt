@@ -1,3 +1,4 @@
+//! The ids and written types of a table.
 ghost use Rattle.std.specs.Prelude.{List, IsTrue};
 ghost use Rattle.jc_rules.specs.declared.rule.Refusal.{Refusal};
 ghost use Rattle.jc_types.specs.Tables.{IsTable, ids_fit};

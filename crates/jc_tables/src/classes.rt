@@ -1,3 +1,4 @@
+//! Classes that are added to a table.
 ghost use Rattle.std.specs.Prelude.{◌≡◌, ◌∷◌, ◌++◌, [], None, Some, IsTrue, length, string_bytes, IfOk, OnOk, OnErr};
 ghost use Rattle.std.specs.Option.{option_map};
 ghost use Rattle.jc_types.specs.Names.{named};

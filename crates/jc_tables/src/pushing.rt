@@ -1,3 +1,4 @@
+//! Tables made by hand, declaration by declaration.
 ghost use Rattle.std.specs.Prelude.{◌≡◌, IsTrue, length, IfOk, OnOk, OnErr};
 ghost use Rattle.jc_types.specs.Tables.{IsTable, scope_fits};
 ghost use Rattle.jc_tables.specs.Making.{empty, with_method, with_field, with_variable, with_scope, with_use, method_stands, field_stands, variable_stands, use_stands};

@@ -1,3 +1,4 @@
+//! The units that expressions take at most.
 ghost use Rattle.std.specs.Prelude.{◌≡◌, ◌<◌, length};
 ghost use Rattle.jc_typed.specs.Parts.{BelowForm, expr_of, form_over, parts, links_of, operand_of, operands_of, variable_of};
 ghost use Rattle.jc_typed.specs.Bulk.{capped, expr_bulk, form_bulk, links_bulk, logic_weight, operand_bulk, operands_bulk, variable_bulk};

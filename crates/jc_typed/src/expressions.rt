@@ -1,3 +1,4 @@
+//! Typed expressions (JLS 15).
 use jc_rules::Place;
 use jc_types::{Erased, FieldId, MethodId, Op, Phase};
 

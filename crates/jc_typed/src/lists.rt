@@ -1,3 +1,4 @@
+//! Lists of typed parts.
 use crate::expressions::Joint;
 use jc_rules::Place;
 use jc_running::Check;

@@ -1,3 +1,4 @@
+//! The arenas of typed trees.
 ghost use Rattle.std.specs.Prelude.{◌≡◌, ◌<◌, [], length, IfOk};
 ghost use Rattle.jc_typed.specs.Parts.{Below, BelowArms, BelowCaptures, BelowCases, BelowCatches, BelowDeclared, BelowExpr, BelowLinks, BelowList, BelowOperand, BelowOps, BelowSteps, BelowStmt, BelowVariable, Grows, arms_at, arms_of, captures_at, captures_of, cases_at, cases_of, catches_at, catches_of, constant_of, declared_at, declared_of, expr_at, expr_of, links_at, links_of, operand_at, operand_of, operands_at, operands_of, ops_at, ops_of, part_at, part_of, steps_at, steps_of, stmt_at, stmt_of, stmts_at, stmts_of, type_of, types_at, types_of, variable_at, variable_of};
 

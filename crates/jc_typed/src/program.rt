@@ -1,3 +1,4 @@
+//! Typed programs.
 ghost use Rattle.std.specs.Prelude.{◌<◌, length, IfSome};
 ghost use Rattle.std.proofs.Props.{props};
 

@@ -1,3 +1,4 @@
+//! The units that statements take at most.
 ghost use Rattle.std.specs.Prelude.{◌≡◌, ◌<◌, length};
 ghost use Rattle.jc_typed.specs.Parts.{BelowStmtForm, arms_of, catches_of, declared_of, operands_of, parts, stmt_form_over, stmt_of, stmts_of};
 ghost use Rattle.jc_typed.specs.Bulk.{arms_bulk, capped, catches_bulk, declared_bulk, finally_bulk, initialiser_bulk, method_bulk, stmt_bulk, stmt_form_bulk, stmts_bulk};

@@ -1,3 +1,4 @@
+//! Typed statements (JLS 14).
 use jc_rules::Place;
 use jc_types::{FieldId, MethodId, Phase};
 

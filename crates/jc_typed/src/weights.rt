@@ -1,3 +1,4 @@
+//! The units that conversion steps and operators take.
 ghost use Rattle.std.specs.Prelude.{◌≡◌, ◌<◌, ◌*◌, length};
 ghost use Rattle.jc_typed.specs.Parts.{cases_of, operands_of, ops_of, steps_of, types_of};
 ghost use Rattle.jc_typed.specs.Bulk.{capped, joint_weight, operand_count, operator_weight, prefix_weight, prefixes_weight, steps_weight};

@@ -1,3 +1,4 @@
+//! The declarations of a table by their ids.
 ghost use Rattle.std.specs.Prelude.{◌≡◌, slice_get};
 ghost use Rattle.std.specs.Option.{option_copied};
 ghost use Rattle.jc_types.specs.Accessors.{class_name_of, binary_of, package_of, outer_of, members_of, class_modifiers_of, kind_of, is_interface, vars_of, supers_of, super_places_of, methods_of, fields_of, bounds_of, bound_places_of, variable_owner_of, method_owner_of, method_name_of, method_kind_of, method_modifiers_of, method_vars_of, params_of, param_places_of, param_names_of, result_of, thrown_of, thrown_places_of, is_variable_arity, has_body, field_owner_of, field_name_of, field_modifiers_of, field_type_of, class_named, uppers_of, lower_bound_of};

@@ -1,3 +1,4 @@
+//! Array types (JLS 10.1).
 ghost use Rattle.std.specs.Prelude.{◌≡◌, ◌+◌, IfOk};
 ghost use Rattle.jc_types.specs.Arrays.{array_over, element, lowered};
 

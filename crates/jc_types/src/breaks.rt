@@ -1,3 +1,4 @@
+//! The first of several breaks.
 ghost use Rattle.std.specs.Prelude.{◌≡◌};
 ghost use Rattle.jc_types.specs.Breaks.{before, sooner};
 

@@ -1,3 +1,4 @@
+//! Constants and operators (JLS 15.28).
 use crate::form::Primitive;
 use jc_rules::{Boxed, Items, Place, Text};
 

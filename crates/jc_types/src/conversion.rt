@@ -1,3 +1,4 @@
+//! The steps of conversions (JLS 5.1).
 use crate::form::{Primitive, Ty};
 use jc_rules::Items;
 

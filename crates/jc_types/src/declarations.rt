@@ -1,3 +1,4 @@
+//! What a program declares (JLS 8, 9).
 use crate::constant::{Constant, ConstantExpr};
 use crate::form::Ty;
 use crate::ids::{ClassId, FieldId, MethodId, ScopeId, VarId};

@@ -1,3 +1,4 @@
+//! Captured variables with their bounds (JLS 5.1.10).
 use crate::form::Ty;
 use jc_rules::Items;
 

@@ -1,3 +1,4 @@
+//! Whether two types are the same (JLS 4.3.4).
 ghost use Rattle.std.specs.Prelude.{◌≡◌, ◌↔◌, IsTrue};
 ghost use Rattle.jc_types.specs.Sameness.{same};
 

@@ -1,3 +1,4 @@
+//! Types after erasure.
 use crate::form::Primitive;
 use crate::ids::ClassId;
 

@@ -1,3 +1,4 @@
+//! Types (JLS 4).
 use crate::ids::{CaptureId, ClassId, VarId};
 use jc_rules::{Boxed, Items};
 

@@ -1,3 +1,5 @@
+//! Places in a table's lists.
+
 /// A class or interface: its place in the table's list of classes. The first class of a table is `java.lang.Object`.
 #[derive(Clone, Copy, Debug, PartialEq, Eq, PartialOrd, Ord, Hash)]
 pub struct ClassId(pub u64);

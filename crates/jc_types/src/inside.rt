@@ -1,3 +1,4 @@
+//! The class types inside a type.
 ghost use Rattle.std.specs.Prelude.{◌≡◌, ◌++◌, IfOk, OnOk};
 ghost use Rattle.jc_types.specs.Inside.{inside, inside_arg, inside_args, inside_types};
 

@@ -1,3 +1,4 @@
+//! Types that are wholly there at run time (JLS 4.7).
 ghost use Rattle.std.specs.Prelude.{◌≡◌, map};
 ghost use Rattle.std.specs.Option.{option_copied};
 ghost use Rattle.jc_types.specs.Reifying.{counted, arguments, reifiable, is_unbounded, all_true, raw_or_all};

@@ -1,3 +1,4 @@
+//! Variables whose numbers follow one another.
 ghost use Rattle.std.specs.Prelude.{◌≡◌, ◌+◌, true, length, IfOk};
 ghost use Rattle.jc_types.specs.Substitution.{is_row, is_row_from, replacement};
 

@@ -1,3 +1,4 @@
+//! Scopes (JLS 6.3).
 use crate::declarations::Written;
 use crate::ids::{ClassId, MethodId, ScopeId};
 use crate::index::Names;

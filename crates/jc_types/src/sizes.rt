@@ -1,3 +1,4 @@
+//! The sizes of types.
 ghost use Rattle.std.specs.Prelude.{◌≡◌, ◌+◌, sum, map};
 ghost use Rattle.jc_types.specs.Counting.{count_of, arg_count_of, capped};
 

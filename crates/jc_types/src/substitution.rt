@@ -1,3 +1,4 @@
+//! Types for variables (JLS 4.5.2).
 ghost use Rattle.std.specs.Prelude.{◌≡◌, true, IfOk, map, length};
 ghost use Rattle.jc_types.specs.Substitution.{subst, subst_arg, replacement, is_row};
 

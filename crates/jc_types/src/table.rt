@@ -1,3 +1,4 @@
+//! The table of what a program declares.
 use crate::declarations::{ClassDecl, FieldDecl, MethodDecl, VariableDecl};
 use crate::index::Names;
 use crate::scopes::{Scope, Use};

@@ -1,4 +1,4 @@
-// Laws of source files.
+//! Laws of source files.
 ghost use Rattle.jc_unit_laws.specs.UnitAnswers.{FilesAreTold};
 
 /// A law: no two source files have the same tokens, and where no file has them a place is told where that shows.

@@ -1,3 +1,4 @@
+//! Reads and stores of elements (JLS 15.13, 15.26.1).
 ghost use Rattle.std.specs.Prelude.{◌≡◌, replicate, IfOk};
 ghost use Rattle.jc_values.specs.Doing.{Does};
 ghost use Rattle.jc_values.specs.Idle.{get_element, set_element, storable_as, length_of};

@@ -1,3 +1,4 @@
+//! How a computation ends without a value, and the run that it is part of.
 use jc_heaps::State;
 use jc_meaning::{Frame, Read};
 use jc_rules::{Items, WantOfMemory};

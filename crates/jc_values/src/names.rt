@@ -1,3 +1,4 @@
+//! The names of classes as `Class.getName` gives them.
 ghost use Rattle.std.specs.Prelude.{◌≡◌, ◌++◌, IfOk, OnOk, replicate, string_bytes};
 ghost use Rattle.jc_meaning.specs.Natives.{element_name, letter_of, name_of, plain_name};
 

@@ -1,3 +1,4 @@
+//! The native methods of the library.
 ghost use Rattle.std.specs.Int.{w32, cast_unsigned};
 ghost use Rattle.jc_running.specs.Outcomes.{bind, behind, give};
 ghost use Rattle.jc_running.specs.declared.value.Value.TheVariants.{Null};

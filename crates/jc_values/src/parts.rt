@@ -1,3 +1,4 @@
+//! Variables, fields and elements by their places.
 ghost use Rattle.std.specs.Prelude.{◌≡◌, slice_set, slice_get, IfOk, Ok};
 ghost use Rattle.jc_running.specs.Outcomes.{Val, bind};
 ghost use Rattle.jc_heaps.specs.States.{local, set_local, set_part, object_at, some_or_wrong};

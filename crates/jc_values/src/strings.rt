@@ -1,3 +1,4 @@
+//! Strings, and those of literals (JLS 3.10.5).
 ghost use Rattle.std.specs.Prelude.{◌≡◌, ◌<◌, map, IfOk, IfSome, MatchOption, None, Some};
 ghost use Rattle.jc_heaps.specs.Making.{char_value, constant_string, interned_in, make_string};
 ghost use Rattle.jc_meaning.specs.Kept.{typed_keeping};

@@ -1,3 +1,4 @@
+//! The exceptions that the machine makes.
 ghost use Rattle.std.specs.Prelude.{◌≡◌};
 ghost use Rattle.jc_jvm.specs.Thrown.{fault_name as name_of_fault, fault_class as class_of_fault, is_error as error_by, is_throwable as throwable_by};
 ghost use Rattle.jc_jvm.specs.Worlds.{with_state};

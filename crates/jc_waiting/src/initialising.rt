@@ -1,3 +1,4 @@
+//! The initialisation of classes (JVMS 5.5).
 ghost use Rattle.std.specs.Prelude.{◌≡◌, ◌∷◌, [], IfOk, IfNone};
 ghost use Rattle.jc_jvm.specs.Classes.{class_has_flag};
 ghost use Rattle.jc_jvm.specs.Frames.{frame_of};

@@ -1,3 +1,4 @@
+//! How a machine goes on.
 use jc_jvm::Ending;
 
 /// How a machine goes on.

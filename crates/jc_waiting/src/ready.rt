@@ -1,3 +1,4 @@
+//! Whether a class has to be initialised first (JVMS 5.5).
 ghost use Rattle.std.specs.Prelude.{◌≡◌, IfOk, false};
 ghost use Rattle.jc_jvm.specs.Calls.{Moves, Quiet, Step};
 ghost use Rattle.jc_jvm.specs.Table.{first_initialised};

@@ -1,3 +1,4 @@
+//! How a machine goes on after an instruction.
 ghost use Rattle.std.specs.Prelude.{◌≡◌, IfOk, OnErr, IsTrue};
 ghost use Rattle.jc_jvm.specs.Calls.{settled, returned_to};
 ghost use Rattle.jc_jvm.specs.Frames.{pushes};

@@ -1,3 +1,4 @@
+//! Exceptions that come up (JVMS 2.10).
 ghost use Rattle.std.specs.Prelude.{◌≡◌, ◌∷◌, IfOk, IsTrue, OnErr, slice_get};
 ghost use Rattle.jc_jvm.specs.Thrown.{caught, unwound, class_of_cell, thrown as thrown_object, fault_among, fault_thrown};
 ghost use Rattle.jc_waiting.specs.Memory.{thrown_takes, unwound_takes};

@@ -1,3 +1,4 @@
+//! Whether several questions all hold.
 ghost use Rattle.std.specs.Prelude.{◌≡◌, ◌++◌, IfOk, OnOk};
 ghost use Rattle.jc_judge.specs.Trees.{both};
 ghost use Rattle.jc_judge.specs.Forming.{all_hold, is_no, is_deep};

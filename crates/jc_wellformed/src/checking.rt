@@ -1,3 +1,4 @@
+//! Whether a type is well formed (JLS 4.5).
 ghost use Rattle.std.specs.Prelude.{◌≡◌, ◌+◌, ◌++◌, None, IfOk, IfErr, OnOk, length};
 ghost use Rattle.jc_types.specs.declared.form.Arg.{out-Arg};
 ghost use Rattle.jc_judge.specs.Capturing.{captured_args, put_bounds};

@@ -1,3 +1,4 @@
+//! The faults of a class type (JLS 4.5).
 ghost use Rattle.std.specs.Prelude.{◌≡◌, ◌+◌, ◌++◌, true, false, IfOk, OnOk, length};
 ghost use Rattle.jc_types.specs.declared.form.Arg.{out-Arg};
 ghost use Rattle.jc_judge.specs.Forming.{class_faults, counted_faults, args_faults, arg_faults, faults_of_arg, reference_faults, fault_if, all_hold};

@@ -1,3 +1,4 @@
+//! Whether the arguments of a type are within their bounds (JLS 4.5).
 ghost use Rattle.std.specs.Prelude.{◌≡◌, ◌↔◌, ◌++◌, true, IfOk, OnOk, length};
 ghost use Rattle.jc_types.specs.declared.form.Arg.{out-Arg};
 ghost use Rattle.jc_judge.specs.Forming.{IsWellFormed, IsIllFormed, formed_answer, all_formed_answer, needs, needs_answer, counted_needs, all_hold, all_captured, all_bare, captured_parts, bare_parts};
