@@ -1,0 +1,120 @@
+-- Each argument of one place is contained in what the place gets.
+use Rattle.std.proofs.Common.{◌≡◌, inl, inr, ◌+◌, ◌==◌, ◌||◌, ◌&&◌, not, ℕ, zero, suc, Bool, true, false, Option, Some, None, List, [], ◌∷◌, length, drop, slice_get, refl, sym, ap, subst, ◌∙◌, if◌then◌else◌, arith}
+use Rattle.std.proofs.lemmas.Bool.Decides.{nat_tests}
+use Rattle.jc_types.specs.declared.form.Arg.{Arg, Arg-F, out-Arg}
+use Rattle.jc_types.specs.declared.form.Ty.{Ty}
+use Rattle.jc_types.specs.declared.ids.VarId.{VarId}
+use Rattle.jc_types.proofs.Sameness.{same_self}
+use Rattle.jc_lub.specs.Columns.{one_raw, or_any, column, all_same, upper_of, with_upper, uppers, joined_uppers, joined, joined_from}
+use Rattle.jc_lub.specs.Uncaptured.{same_args, same_arg_at, args_of}
+use Rattle.jc_lub_laws.specs.Under.{IsAmong, IsIn, as_it_is, any, AllIn}
+
+pub both_first : (a b : Bool) → (a && b) ≡ true → a ≡ true
+both_first true b e = refl
+both_first false b e = cc
+
+pub both_second : (a b : Bool) → (a && b) ≡ true → b ≡ true
+both_second true b e = e
+both_second false b e = cc
+
+alike_layer : (l : Arg-F Arg Ty) → same_arg_at l l ≡ true
+alike_layer (Arg-F.Exact t) = same_self t
+alike_layer Arg-F.Any = refl
+alike_layer (Arg-F.Extends t) = same_self t
+alike_layer (Arg-F.Super t) = same_self t
+
+alike_self : (a : Arg) → same_args a a ≡ true
+unfolding same_args
+alike_self a = alike_layer (out-Arg a)
+
+all_alike : (c a : Arg) (cs : List Arg) → all_same c cs ≡ true → IsAmong a cs → same_args a c ≡ true
+all_alike c a [] e o = absurd o
+all_alike c a (b ∷ cs) e (inl s) = subst (λ x. same_args x c ≡ true) (sym s) (both_first (same_args b c) (all_same c cs) e)
+all_alike c a (b ∷ cs) e (inr o) = all_alike c a cs (both_second (same_args b c) (all_same c cs) e) o
+
+-- ---- upper bounds of a place
+
+abbrev UpperAmong : Arg → List Ty → Type 0
+UpperAmong a ts = (t : Ty) × (upper_of a ≡ Some t) × IsAmong t ts
+
+some_eq : {X : Type 0} (x y : X) → Some x ≡ Some y → x ≡ y
+some_eq x y e = cc
+
+further : (a : Arg) (u : Ty) (us : List Ty) → UpperAmong a us → UpperAmong a (u ∷ us)
+further a u us (t, e, o) = (t, e, inr o)
+
+upper_by : (a c : Arg) (cs : List Arg) (ts : List Ty) (o : Option Ty) (os : Option (List Ty)) → upper_of c ≡ o → uppers cs ≡ os → with_upper o os ≡ Some ts
+    → ((us : List Ty) → uppers cs ≡ Some us → IsAmong a cs → UpperAmong a us) → IsAmong a (c ∷ cs) → UpperAmong a ts
+upper_by a c cs ts None os e f g h o = cc
+upper_by a c cs ts (Some u) None e f g h o = cc
+upper_by a c cs ts (Some u) (Some us) e f g h (inl s) =
+    subst (λ (x : List Ty). UpperAmong a x) (some_eq (u ∷ us) ts g) (u, ap upper_of s ∙ e, inl refl)
+upper_by a c cs ts (Some u) (Some us) e f g h (inr o) =
+    subst (λ (x : List Ty). UpperAmong a x) (some_eq (u ∷ us) ts g) (further a u us (h us f o))
+
+-- an argument of a place has an upper bound among those of the place, where there are some
+upper_among : (a : Arg) (cs : List Arg) (ts : List Ty) → uppers cs ≡ Some ts → IsAmong a cs → UpperAmong a ts
+upper_among a [] ts e o = absurd o
+upper_among a (c ∷ cs) ts e o = upper_by a c cs ts (upper_of c) (uppers cs) refl refl e (λ us f m. upper_among a cs us f m) o
+
+-- ---- one place
+
+module _ (R : Ty → Ty → Type 0) (f : List Ty → Arg) (ok : (ts : List Ty) (t : Ty) (a : Arg) → IsAmong t ts → upper_of a ≡ Some t → IsIn R a (f ts)) where
+  in_uppers : (a : Arg) (cs : List Arg) (os : Option (List Ty)) → uppers cs ≡ os → IsAmong a cs → IsIn R a (joined_uppers f os)
+  in_uppers a cs None e o = any a
+  in_uppers a cs (Some ts) e o = let u : UpperAmong a ts = upper_among a cs ts e o in ok ts u.0 a u.2 u.1
+
+  in_joined_by : (a c : Arg) (cs : List Arg) (t : Bool) → all_same c cs ≡ t → IsAmong a (c ∷ cs) → IsIn R a (if t then c else joined_uppers f (uppers (c ∷ cs)))
+  in_joined_by a c cs true e (inl s) = as_it_is a c (subst (λ x. same_args x c ≡ true) (sym s) (alike_self c))
+  in_joined_by a c cs true e (inr o) = as_it_is a c (all_alike c a cs e o)
+  in_joined_by a c cs false e o = in_uppers a (c ∷ cs) (uppers (c ∷ cs)) refl o
+
+  in_joined : (a : Arg) (cs : List Arg) → IsAmong a cs → IsIn R a (joined f cs)
+  in_joined a [] o = absurd o
+  in_joined a (c ∷ cs) o = in_joined_by a c cs (all_same c cs) refl o
+
+  -- ---- all places of a view
+
+  in_column : (i : ℕ) (v : Ty) (vs : List Ty) → IsAmong v vs → IsAmong (or_any (slice_get (args_of v) i)) (column i vs)
+  in_column i v [] o = absurd o
+  in_column i v (w ∷ vs) (inl s) = inl (ap (λ (x : Ty). or_any (slice_get (args_of x) i)) s)
+  in_column i v (w ∷ vs) (inr o) = inr (in_column i v vs o)
+
+  dropped_head : {X : Type 0} (i : ℕ) (xs : List X) (y : X) (ys : List X) → drop i xs ≡ y ∷ ys → slice_get xs i ≡ Some y
+  dropped_head zero [] y ys e = cc
+  dropped_head (suc i) [] y ys e = cc
+  dropped_head zero (x ∷ xs) y ys e = cc
+  dropped_head (suc i) (x ∷ xs) y ys e = dropped_head i xs y ys e
+
+  dropped_tail : {X : Type 0} (i : ℕ) (xs : List X) (y : X) (ys : List X) → drop i xs ≡ y ∷ ys → drop (suc i) xs ≡ ys
+  dropped_tail zero [] y ys e = cc
+  dropped_tail (suc i) [] y ys e = cc
+  dropped_tail zero (x ∷ xs) y ys e = cc
+  dropped_tail (suc i) (x ∷ xs) y ys e = dropped_tail i xs y ys e
+
+  all_from : (v : Ty) (vs : List Ty) → IsAmong v vs → (i : ℕ) (ps : List VarId) (xs : List Arg) → drop i (args_of v) ≡ xs → length xs ≡ length ps → AllIn R xs (joined_from f vs i ps)
+  all_from v vs o i [] [] d e = tt
+  all_from v vs o i [] (a ∷ xs) d e = cc
+  all_from v vs o i (p ∷ ps) [] d e = cc
+  all_from v vs o i (p ∷ ps) (a ∷ xs) d e =
+      let g : slice_get (args_of v) i ≡ Some a = dropped_head i (args_of v) a xs d in
+      let one : suc i ≡ i + 1 = omega arith in
+      let next : drop (i + 1) (args_of v) ≡ xs = subst (λ (n : ℕ). drop n (args_of v) ≡ xs) one (dropped_tail i (args_of v) a xs d) in
+      let shorter : length xs ≡ length ps = omega (arith, e) in
+      (in_joined a (column i vs) (subst (λ (x : Arg). IsAmong x (column i vs)) (ap or_any g) (in_column i v vs o)), all_from v vs o (i + 1) ps xs next shorter)
+
+  pub all_in : (v : Ty) (vs : List Ty) (ps : List VarId) → IsAmong v vs → length (args_of v) ≡ length ps → AllIn R (args_of v) (joined_from f vs 0 ps)
+  all_in v vs ps o e = all_from v vs o 0 ps (args_of v) refl e
+
+equal_of : (m n : ℕ) → (m == n) ≡ true → m ≡ n
+equal_of m n e = grind (arith, nat_tests)
+
+not_raw_by : (b c : Bool) → (not b || c) ≡ false → (b ≡ true) × (c ≡ false)
+not_raw_by true c e = (refl, e)
+not_raw_by false c e = cc
+
+-- where no view is raw, each has as many arguments as its class has parameters
+pub as_many : (n : ℕ) (v : Ty) (vs : List Ty) → one_raw n vs ≡ false → IsAmong v vs → length (args_of v) ≡ n
+as_many n v [] e o = absurd o
+as_many n v (w ∷ vs) e (inl s) = ap (λ (x : Ty). length (args_of x)) s ∙ equal_of (length (args_of w)) n (not_raw_by (length (args_of w) == n) (one_raw n vs) e).0
+as_many n v (w ∷ vs) e (inr o) = as_many n v vs (not_raw_by (length (args_of w) == n) (one_raw n vs) e).1 o

@@ -1,0 +1,8 @@
+//! The law, the contract of a function that does nothing.
+ghost use Rattle.jc_lub_laws.specs.Under.{OperandsAreUnder};
+
+/// Each of some reference types is under their least upper bound (JLS 15.12.2.7), by its supertypes as they stand: as each class of the bound it has
+/// a supertype whose arguments are contained in those of the bound.
+pub fn operands_are_under_their_lub()
+    ensures { OperandsAreUnder }
+{}
