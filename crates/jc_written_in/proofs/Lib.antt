@@ -1,0 +1,2 @@
+mod UsesWritten
+mod Told

@@ -1,0 +1,3 @@
+pub mod Writings
+pub mod Bodies
+pub mod Namings
