@@ -1,0 +1,4 @@
+pub mod Climbed
+pub mod Grouped
+pub mod Joined
+pub mod Lasting

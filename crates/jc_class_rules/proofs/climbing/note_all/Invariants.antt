@@ -1,0 +1,13 @@
+use Rattle.std.proofs.Common.{◌≡◌, ◌||◌, ◌++◌, length}
+use Rattle.jc_class_rules.specs.Climbing.{all_new, some_other}
+use Rattle.jc_class_rules.proofs.climbing.note_all.Given as goal
+
+abbrev pub invariant-loop-rest : goal.invariant-loop-rest
+invariant-loop-rest l = record {
+  other : (l.found || some_other l.met l.rest) ≡ some_other l.fn.met l.fn.types;
+  met : l.met ++ all_new l.met l.rest ≡ l.fn.met ++ all_new l.fn.met l.fn.types;
+  new : l.new ++ all_new l.met l.rest ≡ l.fn.new ++ all_new l.fn.met l.fn.types;
+}
+
+abbrev pub decreases-loop-rest : goal.decreases-loop-rest
+decreases-loop-rest l = length l.rest

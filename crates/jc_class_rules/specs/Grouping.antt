@@ -1,0 +1,77 @@
+-- The members of a class, name by name: whether they agree (JLS 8.4.8.4, 9.4.1).
+use Rattle.std.specs.Prelude.{ℕ, zero, suc, ◌==◌, Bool, false, cond, ◌&&◌, List, [], ◌∷◌, ◌++◌, length}
+use Rattle.std.specs.List.{list_any}
+use Rattle.jc_types.specs.declared.ids.ClassId.{ClassId}
+use Rattle.jc_types.specs.declared.ids.MethodId.{MethodId}
+use Rattle.jc_types.specs.declared.table.Table.{Table}
+use Rattle.jc_types.specs.Accessors.{method_name_of}
+use Rattle.jc_judge.specs.declared.question.Answer.{Answer}
+use Rattle.jc_judge.specs.declared.question.Answer.TheVariants.{Yes, No}
+use Rattle.jc_judge.specs.Trees.{both, either}
+use Rattle.jc_overriding.specs.declared.view.MethodView.{MethodView}
+use Rattle.jc_overriding.specs.Overriding.{members}
+use Rattle.jc_overriding.specs.Viewing.{own_type}
+use Rattle.jc_header_rules.specs.Inheriting.{agreement, disagrees, meets, stands_for_all, with_body}
+use Rattle.jc_header_rules.specs.Results.{result_answer}
+use Rattle.jc_members.specs.Named.{all_named}
+
+-- the answer where all of these hold
+abbrev pub all_answers : {X : Type 0} → (X → Answer) → List X → Answer
+all_answers f [] = Yes
+all_answers f (x ∷ xs) = both (f x) (all_answers f xs)
+
+-- .. where `a` is the answer of those before these
+abbrev pub all_from : {X : Type 0} → (X → Answer) → Answer → List X → Answer
+all_from f a [] = a
+all_from f a (x ∷ xs) = all_from f (both a (f x)) xs
+
+-- the answer where one of these holds, or what `a` answers
+abbrev pub one_from : {X : Type 0} → (X → Answer) → Answer → List X → Answer
+one_from f a [] = a
+one_from f a (x ∷ xs) = one_from f (either a (f x)) xs
+
+-- whether v's result may stand for w's, where they meet
+unfoldable pub stands_at : Table → ClassId → MethodView → MethodView → Answer
+stands_at T k v w = cond (meets T k v w) (result_answer T v w) Yes
+
+-- whether v meets w, whose result may stand for those of all that it meets
+unfoldable pub one_at : Table → ClassId → MethodView → List MethodView → MethodView → Answer
+one_at T k v all w = cond (meets T k v w) (stands_for_all T k w all) No
+
+abbrev pub no_if : Bool → Answer
+no_if b = cond b No Yes
+
+-- two members meet, and disagree
+unfoldable pub meets_badly : Table → ClassId → MethodView → MethodView → Bool
+meets_badly T k v w = meets T k v w && disagrees T v w
+
+-- a member meets one that has a body
+unfoldable pub meets_with_body : Table → ClassId → MethodView → MethodView → Bool
+meets_with_body T k v w = meets T k v w && with_body T w
+
+-- a member beside all of these
+abbrev pub disagrees_some : Table → ClassId → List MethodView → MethodView → Bool
+disagrees_some T k all v = list_any (meets_badly T k v) all
+
+unfoldable pub fitting : Table → ClassId → List MethodView → MethodView → Answer
+fitting T k all v = both (no_if (disagrees_some T k all v)) (agreement T k all v)
+
+-- whether all members of the name of method m agree
+unfoldable pub name_agrees : Table → ClassId → MethodId → Answer
+name_agrees T k m = all_answers (fitting T k (members T (own_type T k) (method_name_of T m))) (members T (own_type T k) (method_name_of T m))
+
+abbrev pub first_is : MethodId → List MethodId → Bool
+first_is m [] = false
+first_is m (n ∷ ns) = n.0 == m.0
+
+-- the first method of its name
+abbrev pub is_first : Table → MethodId → Bool
+is_first T m = first_is m (all_named T (method_name_of T m))
+
+-- of n methods from number i on those that are the first of their names
+abbrev pub firsts_from : Table → ℕ → ℕ → List MethodId
+firsts_from T i zero = []
+firsts_from T i (suc n) = cond (is_first T (record { 0 = i })) (record { 0 = i } ∷ []) [] ++ firsts_from T (suc i) n
+
+abbrev pub firsts : Table → List MethodId
+firsts T = firsts_from T 0 (length T.methods)
