@@ -1,3 +1,4 @@
 pub mod Named
 pub mod Lengths
+pub mod Faults
 pub mod Composed

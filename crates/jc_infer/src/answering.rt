@@ -64,8 +64,8 @@ fn parameter(
     })
 }
 
-// The first list, and the rest; none where there is no list.
-fn split(bounds: &[Items<Ty>]) -> (&[Ty], &[Items<Ty>])
+/// The first list, and the rest; none where there is no list.
+pub fn split(bounds: &[Items<Ty>]) -> (&[Ty], &[Items<Ty>])
     ensures { (result.0.now ≡ first_bounds bounds.now) × (result.1.now ≡ drop 1 bounds.now) }
 {
     match bounds {

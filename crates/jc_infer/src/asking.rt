@@ -2,7 +2,8 @@
 ghost use Rattle.std.specs.Prelude.{◌≡◌, ◌+◌, ◌≤◌, ◌^◌, IfOk, length, map};
 ghost use Rattle.jc_types.specs.Substitution.{subst};
 ghost use Rattle.jc_infer.specs.Steps.{answer, meets};
-ghost use Rattle.jc_infer.specs.Asked.{AreAsked, IsIllAt, IsOneAsked, within};
+ghost use Rattle.jc_judge.specs.Forming.{first_fault, type_faults};
+ghost use Rattle.jc_infer.specs.Asked.{all_asked, one_asked, refused, within};
 
 use crate::answering::{answer, meets};
 use crate::outcome::{Inference, Parameter, Why};
@@ -34,6 +35,8 @@ fn within(
     Ok(Answer::Yes)
 }
 
+// What the well-formedness of the i-th answer comes to: None where it is proved.
+#[tactic(auto, using(crate::proofs::Faults::the_fault))]
 fn ill_at(
     alloc: Global,
     table: &Table,
@@ -41,7 +44,7 @@ fn ill_at(
     i: u64,
     t: &Ty,
 ) -> Result<Option<Inference>, WantOfMemory>
-    ensures { IfOk result (λ r. IsIllAt table.now env.now.bounds i t.now r) }
+    ensures { IfOk result (λ r. r ≡ refused i (first_fault (type_faults table.now env.now.bounds t.now))) }
 {
     match check_type(alloc, table, env, t) {
         Ok(()) => Ok(None),
@@ -65,7 +68,7 @@ fn one_asked(
     p: &Parameter,
 ) -> Result<Option<Inference>, WantOfMemory>
     requires { length vars.now ≡ length answers.now }
-    ensures { IfOk result (λ r. IsOneAsked table.now env.now.bounds later.now vars.now answers.now i p.now r) }
+    ensures { IfOk result (λ r. r ≡ one_asked table.now env.now.bounds later.now vars.now answers.now i p.now) }
 {
     if meets(alloc, table, later, p)? {
         return Ok(Some(Inference::NotApplicable {
@@ -94,7 +97,7 @@ pub fn all_asked(
     parameters: &[Parameter],
 ) -> Result<Inference, WantOfMemory>
     requires { length vars.now ≡ length answers }
-    ensures { IfOk result (λ r. AreAsked table.now env.now.bounds later.now vars.now answers 0 parameters.now r) }
+    ensures { IfOk result (λ r. r ≡ all_asked table.now env.now.bounds later.now vars.now answers 0 parameters.now) }
 {
     let mut rest = parameters;
     let mut i: u64 = 0;

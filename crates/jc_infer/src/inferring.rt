@@ -1,7 +1,7 @@
 //! Inference.
 ghost use Rattle.std.specs.Prelude.{◌≡◌, IfOk, length};
 ghost use Rattle.std.specs.Option.{option_copied};
-ghost use Rattle.jc_infer.specs.Asked.{AreAnswered, IsInferred, IsInferredFor};
+ghost use Rattle.jc_infer.specs.Asked.{answered, inferred, inferred_for};
 
 use crate::answering::{answers, parameters};
 use crate::asking::all_asked;
@@ -15,7 +15,7 @@ use jc_types::{Env, Phase, Table, Ty};
 use std::alloc::Global;
 
 // The answers, and what is asked of them.
-#[tactic(auto, using(crate::proofs::Composed::answered_with, crate::proofs::Lengths::mapped_length))]
+#[tactic(auto, using(crate::proofs::Lengths::mapped_length))]
 fn answered(
     alloc: Global,
     table: &Table,
@@ -25,7 +25,7 @@ fn answered(
     later: &[Implied],
 ) -> Result<Inference, WantOfMemory>
     requires { length method.now.vars ≡ length parameters.now }
-    ensures { IfOk result (λ r. AreAnswered table.now env.now.bounds method.now parameters.now later.now r) }
+    ensures { IfOk result (λ r. r ≡ answered table.now env.now.bounds method.now parameters.now later.now) }
 {
     let answers = answers(alloc, table, later, parameters)?;
     let vars = method.vars.slice();
@@ -34,7 +34,6 @@ fn answered(
 }
 
 // The third step, and what follows.
-#[tactic(auto, using(crate::proofs::Composed::inferred_with))]
 fn inferred_for(
     alloc: Global,
     table: &Table,
@@ -44,7 +43,7 @@ fn inferred_for(
     target: Option<&Ty>,
 ) -> Result<Inference, WantOfMemory>
     requires { length method.now.vars ≡ length parameters.now }
-    ensures { IfOk result (λ r. IsInferredFor table.now env.now.bounds method.now parameters.now (option_copied target.entry) r) }
+    ensures { IfOk result (λ r. r ≡ inferred_for table.now env.now.bounds method.now parameters.now (option_copied target.entry)) }
 {
     let later = late(alloc, table, env.bounds.slice(), method, parameters, target)?;
     let found = answered(alloc, table, env, method, parameters, later.slice())?;
@@ -55,7 +54,7 @@ fn inferred_for(
 ///
 /// For each type parameter in order its answer is asked to be below each of its bounds, with the answers for the type parameters, and then to be well formed. The first
 /// question that isn't proved decides.
-#[tactic(auto, using(crate::proofs::Composed::inferred_by, crate::proofs::Lengths::parameters_length))]
+#[tactic(auto, using(crate::proofs::Lengths::parameters_length))]
 pub fn infer(
     alloc: Global,
     table: &Table,
@@ -65,7 +64,7 @@ pub fn infer(
     args: &[Ty],
     target: Option<&Ty>,
 ) -> Result<Inference, WantOfMemory>
-    ensures { IfOk result (λ r. IsInferred table.now env.now.bounds method.now phase args.now (option_copied target.entry) r) }
+    ensures { IfOk result (λ r. r ≡ inferred table.now env.now.bounds method.now phase args.now (option_copied target.entry)) }
 {
     let bounds = env.bounds.slice();
     let vars = method.vars.slice();

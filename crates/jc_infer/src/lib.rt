@@ -4,12 +4,14 @@
 mod answering;
 mod asking;
 mod collecting;
+mod giving;
 mod inferring;
 mod late;
 mod naming;
 mod outcome;
 mod stretching;
 
+pub use giving::given;
 pub use inferring::infer;
 pub use outcome::{Inference, Parameter, Why};
 pub use stretching::formals;
