@@ -1,4 +1,4 @@
--- Which steps may take memory.
+-- Whether a step makes an object, an array, a string or a frame. No other step takes memory.
 use Rattle.std.specs.Prelude.{Bool, false, List}
 use Rattle.std.specs.declared.option.Option.{Option}
 use Rattle.std.specs.declared.option.Option.TheVariants.{Some, None}
@@ -9,13 +9,13 @@ use Rattle.jc_jvm.specs.declared.frame.Waiting.{Waiting}
 use Rattle.jc_jvm.specs.declared.world.World.{World}
 use Rattle.jc_rows.specs.Laid.{row_at}
 use Rattle.jc_rows.specs.declared.row.Placed.{Placed}
-use Rattle.jc_stepping.specs.Takes.{may_take}
+use Rattle.jc_stepping.specs.Makes.{row_step_makes}
 
-abbrev pub placed_takes : List ClassModel → World → Frame → List Waiting → Option Placed → Bool
-placed_takes classes world now waiting (Some placed) = may_take classes world placed.next now waiting placed.row
-placed_takes classes world now waiting None = false
+abbrev pub placed_makes : List ClassModel → World → Frame → List Waiting → Option Placed → Bool
+placed_makes classes world now waiting (Some placed) = row_step_makes classes world placed.next now waiting placed.row
+placed_makes classes world now waiting None = false
 
--- whether a step from a state may take memory
-abbrev pub step_takes : List ClassModel → State → Bool
-step_takes classes (Going world now waiting) = placed_takes classes world now waiting (row_at classes now.class now.method now.at)
-step_takes classes (Over ending) = false
+-- the step from a state
+abbrev pub step_makes : List ClassModel → State → Bool
+step_makes classes (Going world now waiting) = placed_makes classes world now waiting (row_at classes now.class now.method now.at)
+step_makes classes (Over ending) = false

@@ -1,7 +1,7 @@
 //! The machine that runs classes, and what one of its steps did.
 ghost use Rattle.std.specs.Prelude.{◌≡◌, ◌≤◌, ◌<◌, ℕ, List, IfOk, None, OnErr, IsTrue};
 ghost use Rattle.jc_jvm.specs.Runs.{ending_of, run_by, run_of};
-ghost use Rattle.jc_core.specs.Memory.{step_takes};
+ghost use Rattle.jc_core.specs.Memory.{step_makes};
 ghost use Rattle.jc_core.specs.Ran.{told};
 ghost use Rattle.jc_jvm.specs.Calls.{byte_read};
 ghost use Rattle.jc_jvm.specs.Table.{step_of};
@@ -112,7 +112,7 @@ impl Core {
     /// for `answer`. After want of memory it is to be dropped.
     pub fn step(&mut self) -> Result<Stepped, WantOfMemory>
         ensures classes { classes_of self.new ≡ classes_of self.old }
-        ensures memory { OnErr result (IsTrue (step_takes (classes_of self.old) (state_in self.old))) }
+        ensures memory { OnErr result (IsTrue (step_makes (classes_of self.old) (state_in self.old))) }
         ensures kept { IfOk result (λ stepped. KeptWhenAsking stepped (state_in self.old) (state_in self.new)) }
         ensures step { IfOk result (λ stepped. step_of (classes_of self.old) (state_in self.old) ≡ step_told (classes_of self.old) stepped (state_in self.new)) }
     {

@@ -1,6 +1,6 @@
 //! Steps of the frame that runs.
 ghost use Rattle.std.specs.Prelude.{◌≡◌, ◌≤◌, ◌<◌, ℕ, List, IfOk, IsTrue, OnErr};
-ghost use Rattle.jc_core.specs.Memory.{placed_takes};
+ghost use Rattle.jc_core.specs.Memory.{placed_makes};
 ghost use Rattle.jc_core.specs.Ran.{told};
 ghost use Rattle.jc_jvm.specs.Classes.{placed_at};
 ghost use Rattle.jc_jvm.specs.Runs.{run_by, run_of};
@@ -28,7 +28,7 @@ pub fn step_frame(
 ) -> Result<Did, WantOfMemory>
     ensures step { IfOk result (λ did. placed_row program.now world.old now.old waiting.old (placed_at program.now now.old.class now.old.method now.old.at) ≡ step_done program.now did world.new now.new waiting.new) }
     ensures kept { IfOk result (λ did. KeptWhenAsks did world.old now.old waiting.old world.new now.new waiting.new) }
-    ensures memory { OnErr result (IsTrue (placed_takes program.now world.old now.old waiting.old (row_at program.now now.old.class now.old.method now.old.at))) }
+    ensures memory { OnErr result (IsTrue (placed_makes program.now world.old now.old waiting.old (row_at program.now now.old.class now.old.method now.old.at))) }
 {
     match program.placed(now.class, now.method, now.at) {
         Some(placed) => step_row(

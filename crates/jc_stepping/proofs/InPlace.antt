@@ -60,3 +60,8 @@ closed false x e = refl
 -- where a row on a class isn't done in place
 pub closed_class : (world : World) (class : ℕ) (x : Act_in) → if_open (is_open (state_of_class world class)) x ≡ None → is_open (state_of_class world class) ≡ false
 closed_class world class x e = closed (is_open (state_of_class world class)) x e
+
+-- where a literal wasn't used before
+pub unknown_literal : (world : World) (next : ℕ) (now : Frame) (o : Option ℕ) → literal_known world next now o ≡ None → o ≡ None
+unknown_literal world next now (Some address) e = cc
+unknown_literal world next now None e = refl

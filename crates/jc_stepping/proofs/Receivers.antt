@@ -10,8 +10,10 @@ use Rattle.jc_jvm.specs.declared.frame.Frame.{Frame}
 use Rattle.jc_jvm.specs.declared.frame.Waiting.{Waiting}
 use Rattle.jc_jvm.specs.declared.value.Value.{Value}
 use Rattle.jc_jvm.specs.declared.value.Value.TheVariants.{Whole, Long, Address, NullValue}
+use Rattle.jc_jvm.specs.declared.world.Fault.TheVariants.{NullPointer}
 use Rattle.jc_jvm.specs.declared.world.World.{World}
-use Rattle.jc_stepping.specs.Takes.{call_takes, special_takes, virtual_takes}
+use Rattle.jc_stepping.specs.Makes.{call_makes, special_makes, virtual_makes}
+use Rattle.jc_waiting.specs.Memory.{fault_makes}
 
 -- the method that an object's class selects
 abbrev pub target_for : List ClassModel → List ℕ → List ℕ → World → ℕ → Option (ℕ × ℕ)
@@ -41,26 +43,26 @@ virtual_by classes name descriptor world next now waiting taken arguments rest f
     ∙ virtual_first classes name descriptor world next now waiting arguments rest
     ∙ ap (λ (o : Option Value). virtual_step classes name descriptor world next now waiting arguments rest o) (sym at)
 
-abbrev pub virtual_memory : List ClassModel → List ℕ → List ℕ → World → Option Value → Bool
-virtual_memory classes name descriptor world (Some (Address at)) = call_takes classes (target_for classes name descriptor world at)
-virtual_memory classes name descriptor world (Some NullValue) = true
-virtual_memory classes name descriptor world _ = false
+abbrev pub virtual_memory : List ClassModel → List ℕ → List ℕ → World → List Value → Option Value → Bool
+virtual_memory classes name descriptor world arguments (Some (Address at)) = call_makes classes world arguments (target_for classes name descriptor world at)
+virtual_memory classes name descriptor world arguments (Some NullValue) = fault_makes classes NullPointer
+virtual_memory classes name descriptor world arguments _ = false
 
 memory_first : (classes : List ClassModel) (name descriptor : List ℕ) (world : World) (arguments rest : List Value) →
-    virtual_takes classes name descriptor world (Some (arguments, rest)) ≡ virtual_memory classes name descriptor world (slice_get arguments 0)
+    virtual_makes classes name descriptor world (Some (arguments, rest)) ≡ virtual_memory classes name descriptor world arguments (slice_get arguments 0)
 memory_first classes name descriptor world [] rest = refl
 memory_first classes name descriptor world (Address at ∷ more) rest = refl
 memory_first classes name descriptor world (NullValue ∷ more) rest = refl
 memory_first classes name descriptor world (Whole n ∷ more) rest = refl
 memory_first classes name descriptor world (Long n ∷ more) rest = refl
 
--- what it may take
+-- what it may make
 pub virtual_memory_by : (classes : List ClassModel) (name descriptor : List ℕ) (world : World) (taken : Option (List Value × List Value)) (arguments rest : List Value) (first : Option Value) →
-    taken ≡ Some (arguments, rest) → first ≡ slice_get arguments 0 → virtual_takes classes name descriptor world taken ≡ virtual_memory classes name descriptor world first
+    taken ≡ Some (arguments, rest) → first ≡ slice_get arguments 0 → virtual_makes classes name descriptor world taken ≡ virtual_memory classes name descriptor world arguments first
 virtual_memory_by classes name descriptor world taken arguments rest first is at =
-    ap (λ (o : Option (List Value × List Value)). virtual_takes classes name descriptor world o) is
+    ap (λ (o : Option (List Value × List Value)). virtual_makes classes name descriptor world o) is
     ∙ memory_first classes name descriptor world arguments rest
-    ∙ ap (λ (o : Option Value). virtual_memory classes name descriptor world o) (sym at)
+    ∙ ap (λ (o : Option Value). virtual_memory classes name descriptor world arguments o) (sym at)
 
 -- ---- invokespecial
 
@@ -86,25 +88,26 @@ special_by classes target world next now waiting taken arguments rest first is a
     ∙ special_first classes target world next now waiting arguments rest
     ∙ ap (λ (o : Option Value). special_step classes target world next now waiting arguments rest o) (sym at)
 
-abbrev pub special_memory : List ClassModel → Option (ℕ × ℕ) → Option Value → Bool
-special_memory classes target (Some (Address at)) = call_takes classes target
-special_memory classes target (Some NullValue) = true
-special_memory classes target _ = false
+abbrev pub special_memory : List ClassModel → Option (ℕ × ℕ) → World → List Value → Option Value → Bool
+special_memory classes target world arguments (Some (Address at)) = call_makes classes world arguments target
+special_memory classes target world arguments (Some NullValue) = fault_makes classes NullPointer
+special_memory classes target world arguments _ = false
 
-special_memory_first : (classes : List ClassModel) (target : Option (ℕ × ℕ)) (arguments rest : List Value) → special_takes classes target (Some (arguments, rest)) ≡ special_memory classes target (slice_get arguments 0)
-special_memory_first classes target [] rest = refl
-special_memory_first classes target (Address at ∷ more) rest = refl
-special_memory_first classes target (NullValue ∷ more) rest = refl
-special_memory_first classes target (Whole n ∷ more) rest = refl
-special_memory_first classes target (Long n ∷ more) rest = refl
+special_memory_first : (classes : List ClassModel) (target : Option (ℕ × ℕ)) (world : World) (arguments rest : List Value) →
+    special_makes classes target world (Some (arguments, rest)) ≡ special_memory classes target world arguments (slice_get arguments 0)
+special_memory_first classes target world [] rest = refl
+special_memory_first classes target world (Address at ∷ more) rest = refl
+special_memory_first classes target world (NullValue ∷ more) rest = refl
+special_memory_first classes target world (Whole n ∷ more) rest = refl
+special_memory_first classes target world (Long n ∷ more) rest = refl
 
--- what it may take
-pub special_memory_by : (classes : List ClassModel) (target : Option (ℕ × ℕ)) (taken : Option (List Value × List Value)) (arguments rest : List Value) (first : Option Value) →
-    taken ≡ Some (arguments, rest) → first ≡ slice_get arguments 0 → special_takes classes target taken ≡ special_memory classes target first
-special_memory_by classes target taken arguments rest first is at =
-    ap (λ (o : Option (List Value × List Value)). special_takes classes target o) is
-    ∙ special_memory_first classes target arguments rest
-    ∙ ap (λ (o : Option Value). special_memory classes target o) (sym at)
+-- what it may make
+pub special_memory_by : (classes : List ClassModel) (target : Option (ℕ × ℕ)) (world : World) (taken : Option (List Value × List Value)) (arguments rest : List Value) (first : Option Value) →
+    taken ≡ Some (arguments, rest) → first ≡ slice_get arguments 0 → special_makes classes target world taken ≡ special_memory classes target world arguments first
+special_memory_by classes target world taken arguments rest first is at =
+    ap (λ (o : Option (List Value × List Value)). special_makes classes target world o) is
+    ∙ special_memory_first classes target world arguments rest
+    ∙ ap (λ (o : Option Value). special_memory classes target world arguments o) (sym at)
 
 pub ruleset virtual_rules = (virtual_by, virtual_memory_by)
 

@@ -1,3 +1,5 @@
 pub mod Done
 pub mod InPlace
-pub mod Takes
+pub mod Lengths
+pub mod Makes
+pub mod Room

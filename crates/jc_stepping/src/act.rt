@@ -2,7 +2,8 @@
 ghost use Rattle.std.specs.Prelude.{◌≡◌, ◌∷◌, IfOk, OnErr, IsTrue};
 ghost use Rattle.jc_jvm.specs.Calls.{Moves, Quiet, null_pointer as null_pointer_step};
 ghost use Rattle.jc_jvm.specs.Table.{throws_top};
-ghost use Rattle.jc_stepping.specs.Takes.{throw_takes};
+ghost use Rattle.jc_stepping.specs.Makes.{throw_makes};
+ghost use Rattle.jc_waiting.specs.Memory.{fault_makes};
 ghost use Rattle.jc_waiting.specs.Onwards.{state_of};
 
 use crate::Did;
@@ -28,7 +29,8 @@ pub fn null_pointer(
     world: &mut World,
     waiting: &mut Stack<Waiting>,
 ) -> Result<Onward, WantOfMemory>
-    ensures { IfOk result (λ on. null_pointer_step classes.now world.old now.old waiting.old ≡ Moves Quiet (state_of on world.new now.new waiting.new)) }
+    ensures step { IfOk result (λ on. null_pointer_step classes.now world.old now.old waiting.old ≡ Moves Quiet (state_of on world.new now.new waiting.new)) }
+    ensures memory { OnErr result (IsTrue (fault_makes classes.now Fault.NullPointer)) }
 {
     let act = throw_in(Fault::NullPointer, now);
     settle(alloc, classes, act, now, world, waiting)
@@ -43,7 +45,7 @@ pub fn throw_top(
     waiting: &mut Stack<Waiting>,
 ) -> Result<Onward, WantOfMemory>
     ensures step { IfOk result (λ on. throws_top classes.now world.old now.old waiting.old now.old.stack.values ≡ Moves Quiet (state_of on world.new now.new waiting.new)) }
-    ensures memory { OnErr result (IsTrue (throw_takes classes.now world.old now.old waiting.old now.old.stack.values)) }
+    ensures memory { OnErr result (IsTrue (throw_makes classes.now world.old now.old waiting.old now.old.stack.values)) }
 {
     match now.stack.pop() {
         Some(Value::Address(address)) => {

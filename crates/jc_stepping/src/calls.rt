@@ -1,15 +1,18 @@
 //! Calls. The caller waits at its call, with the arguments taken from its stack.
-ghost use Rattle.std.specs.Prelude.{◌≡◌, ◌≤◌, [], IfOk, IsTrue, OnErr, Some, drop, length, option_and_then, reverse, slice_get, take};
+ghost use Rattle.std.specs.Prelude.{◌≡◌, ◌≤◌, [], IfOk, IsTrue, OnErr, Some, drop, is_some, length, option_and_then, reverse, slice_get, take};
 ghost use Rattle.jc_jvm.specs.Calls.{Moves, Quiet, arguments_of, called as call_of, called_by, entered, selecting_class, called_virtually, called_specially, called_statically};
 ghost use Rattle.jc_jvm.specs.Classes.{selected as selected_by};
+ghost use Rattle.jc_jvm.specs.Frames.{frame_of};
+ghost use Rattle.jc_jvm.specs.Stacked.{units_of};
 ghost use Rattle.jc_stepping.specs.Done.{KeptWhenAsks, step_done};
-ghost use Rattle.jc_stepping.specs.Takes.{call_takes, method_takes, special_takes, static_takes, virtual_takes};
+ghost use Rattle.jc_stepping.specs.Room.{fit_in};
+ghost use Rattle.jc_stepping.specs.Makes.{call_makes, method_makes, special_makes, static_makes, virtual_makes};
 ghost use Rattle.jc_waiting.specs.Onwards.{state_of};
 
 use crate::Did;
 use crate::act::{null_pointer, stuck};
 use crate::natives::call_native;
-use jc_calls::{frame_on, has_arguments, select_method};
+use jc_calls::{code_of, frame_on, has_arguments, select_method};
 use jc_class_out::ClassModel;
 use jc_heap::{Classes, class_spelled};
 use jc_jvm::{Cell, Ending, Frame, Native, Operands, Sort, Value, Waiting, World};
@@ -19,6 +22,29 @@ use jc_waiting::{Onward, Stack};
 use std::alloc::Global;
 use std::mem;
 
+// How many locals a value takes.
+fn locals_taken(value: Value) -> usize
+    ensures { result ≡ units_of value }
+{
+    match value {
+        Value::Long(_) => 2,
+        Value::Whole(_) | Value::Address(_) | Value::NullValue => 1,
+    }
+}
+
+// Whether so many locals have room for arguments.
+fn have_room(count: usize, arguments: &[Value]) -> bool
+    ensures { result ≡ fit_in count arguments.now }
+{
+    match arguments {
+        [] => true,
+        [value, rest @ ..] => {
+            let taken = locals_taken(*value);
+            taken <= count && have_room(count - taken, rest)
+        }
+    }
+}
+
 // The method's frame runs, and its caller waits without so many values from the top of its stack.
 fn enter(
     frame: Option<Frame>,
@@ -27,7 +53,8 @@ fn enter(
     world: &World,
     waiting: &mut Stack<Waiting>,
 ) -> Result<Onward, WantOfMemory>
-    ensures { IfOk result (λ on. entered world.now now.old waiting.old (drop count now.old.stack.values) frame ≡ Moves Quiet (state_of on world.now now.new waiting.new)) }
+    ensures step { IfOk result (λ on. entered world.now now.old waiting.old (drop count now.old.stack.values) frame ≡ Moves Quiet (state_of on world.now now.new waiting.new)) }
+    ensures memory { OnErr result (IsTrue (is_some frame)) }
 {
     match frame {
         Some(frame) => {
@@ -40,6 +67,28 @@ fn enter(
     }
 }
 
+// Whether the method has code and room for so many arguments from the top of a stack.
+#[tactic(auto, using(crate::proofs::Framed::frame_rules))]
+fn has_frame(
+    classes: &[ClassModel],
+    class: u64,
+    method: u64,
+    count: usize,
+    stack: &Operands,
+) -> bool
+    requires { count ≤ length stack.now.values }
+    ensures { result ≡ is_some (frame_of classes.now (class, method) (reverse (take count stack.now.values))) }
+{
+    match code_of(classes, class, method) {
+        Some(code) => match stack.top(count) {
+            Some(arguments) => have_room(code.locals as usize, arguments),
+            None => false,
+        },
+        None => false,
+    }
+}
+
+#[tactic(auto, using(crate::proofs::Framed::enters_not))]
 fn call_as(
     alloc: Global,
     classes: &Classes,
@@ -55,11 +104,14 @@ fn call_as(
     requires { count ≤ length now.old.stack.values }
     ensures step { IfOk result (λ did. called_by classes.now world.old next now.old waiting.old (class, method) (reverse (take count now.old.stack.values)) (drop count now.old.stack.values) native ≡ step_done classes.now did world.new now.new waiting.new) }
     ensures kept { IfOk result (λ did. KeptWhenAsks did world.old now.old waiting.old world.new now.new waiting.new) }
-    ensures memory { OnErr result (IsTrue (method_takes native)) }
+    ensures memory { OnErr result (IsTrue (method_makes classes.now world.old (class, method) (reverse (take count now.old.stack.values)) native)) }
 {
     match native {
         Some(native) => call_native(alloc, classes, native, count, next, now, world, waiting),
         None => {
+            if !has_frame(classes.models(), class, method, count, &now.stack) {
+                return Ok(stuck());
+            }
             let frame = frame_on(alloc, classes.models(), class, method, count, &now.stack)?;
             let on = enter(frame, count, now, world, waiting)?;
             Ok(Did::Moves(on))
@@ -81,7 +133,7 @@ fn call(
     requires { count ≤ length now.old.stack.values }
     ensures step { IfOk result (λ did. call_of classes.now world.old next now.old waiting.old (reverse (take count now.old.stack.values)) (drop count now.old.stack.values) target ≡ step_done classes.now did world.new now.new waiting.new) }
     ensures kept { IfOk result (λ did. KeptWhenAsks did world.old now.old waiting.old world.new now.new waiting.new) }
-    ensures memory { OnErr result (IsTrue (call_takes classes.now target)) }
+    ensures memory { OnErr result (IsTrue (call_makes classes.now world.old (reverse (take count now.old.stack.values)) target)) }
 {
     match target {
         Some((class, method)) => {
@@ -154,7 +206,7 @@ pub fn call_virtual(
 ) -> Result<Did, WantOfMemory>
     ensures step { IfOk result (λ did. called_virtually classes.now name.now descriptor.now world.old next now.old waiting.old (arguments_of sorts.now now.old.stack.values) ≡ step_done classes.now did world.new now.new waiting.new) }
     ensures kept { IfOk result (λ did. KeptWhenAsks did world.old now.old waiting.old world.new now.new waiting.new) }
-    ensures memory { OnErr result (IsTrue (virtual_takes classes.now name.now descriptor.now world.old (arguments_of sorts.now now.old.stack.values))) }
+    ensures memory { OnErr result (IsTrue (virtual_makes classes.now name.now descriptor.now world.old (arguments_of sorts.now now.old.stack.values))) }
 {
     if !has_arguments(sorts, &now.stack) {
         return Ok(stuck());
@@ -196,7 +248,7 @@ pub fn call_special(
 ) -> Result<Did, WantOfMemory>
     ensures step { IfOk result (λ did. called_specially classes.now target world.old next now.old waiting.old (arguments_of sorts.now now.old.stack.values) ≡ step_done classes.now did world.new now.new waiting.new) }
     ensures kept { IfOk result (λ did. KeptWhenAsks did world.old now.old waiting.old world.new now.new waiting.new) }
-    ensures memory { OnErr result (IsTrue (special_takes classes.now target (arguments_of sorts.now now.old.stack.values))) }
+    ensures memory { OnErr result (IsTrue (special_makes classes.now target world.old (arguments_of sorts.now now.old.stack.values))) }
 {
     if !has_arguments(sorts, &now.stack) {
         return Ok(stuck());
@@ -234,7 +286,7 @@ pub fn call_static(
 ) -> Result<Did, WantOfMemory>
     ensures step { IfOk result (λ did. called_statically classes.now (class, method) world.old next now.old waiting.old (arguments_of sorts.now now.old.stack.values) ≡ step_done classes.now did world.new now.new waiting.new) }
     ensures kept { IfOk result (λ did. KeptWhenAsks did world.old now.old waiting.old world.new now.new waiting.new) }
-    ensures memory { OnErr result (IsTrue (static_takes classes.now (class, method) (arguments_of sorts.now now.old.stack.values))) }
+    ensures memory { OnErr result (IsTrue (static_makes classes.now (class, method) world.old (arguments_of sorts.now now.old.stack.values))) }
 {
     if !has_arguments(sorts, &now.stack) {
         return Ok(stuck());

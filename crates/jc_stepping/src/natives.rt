@@ -1,12 +1,12 @@
 //! The library's native methods, whose calls are a step each.
-ghost use Rattle.std.specs.Prelude.{◌≡◌, ◌≤◌, ◌∷◌, [], ◌%◌, IfOk, IsTrue, OnErr, drop, length, reverse, slice_get, take};
+ghost use Rattle.std.specs.Prelude.{◌≡◌, ◌≤◌, ◌∷◌, [], ◌%◌, ◌&&◌, IfOk, IsTrue, OnErr, drop, is_some, length, reverse, slice_get, take};
 ghost use Rattle.std.specs.Int.{w32, cast_unsigned};
 ghost use Rattle.std.specs.Option.{option_map};
 ghost use Rattle.jc_jvm.specs.Calls.{Moves, Quiet, identity_hash, named, name_made, native_call};
 ghost use Rattle.jc_jvm.specs.Types.{shape_of_cell, name_of_shape};
 ghost use Rattle.jc_jvm.specs.Worlds.{with_string};
 ghost use Rattle.jc_stepping.specs.Done.{KeptWhenAsks, NeverAsks, step_done};
-ghost use Rattle.jc_stepping.specs.Takes.{native_takes};
+ghost use Rattle.jc_stepping.specs.Makes.{have_strings, native_makes};
 ghost use Rattle.jc_waiting.specs.Onwards.{state_of};
 
 use crate::Did;
@@ -44,7 +44,8 @@ fn shape_of(cell: &Cell) -> Result<Shape, WantOfMemory>
 }
 
 fn shape_at(world: &World, address: u64) -> Result<Option<Shape>, WantOfMemory>
-    ensures { IfOk result (λ shape. shape ≡ option_map shape_of_cell (slice_get world.now.heap address)) }
+    ensures shape { IfOk result (λ shape. shape ≡ option_map shape_of_cell (slice_get world.now.heap address)) }
+    ensures there { OnErr result (IsTrue (is_some (slice_get world.now.heap address))) }
 {
     match world.heap.get(address) {
         Some(cell) => {
@@ -64,7 +65,7 @@ fn push_name(
     world: &mut World,
     waiting: &Stack<Waiting>,
 ) -> Result<Onward, WantOfMemory>
-    ensures { IfOk result (λ on. name_made classes.now world.old next now.old waiting.now now.old.stack.values (with_string classes.now (name_of_shape classes.now shape) world.old) ≡ Moves Quiet (state_of on world.new now.new waiting.now)) }
+    ensures step { IfOk result (λ on. name_made classes.now world.old next now.old waiting.now now.old.stack.values (with_string classes.now (name_of_shape classes.now shape) world.old) ≡ Moves Quiet (state_of on world.new now.new waiting.now)) }
 {
     let name = type_name(alloc, classes.models(), shape)?;
     match make_string(alloc, classes, name.slice(), world)? {
@@ -73,6 +74,7 @@ fn push_name(
     }
 }
 
+#[tactic(auto, using(crate::proofs::NativeCalls::name_rules))]
 fn tell_name(
     alloc: Global,
     classes: &Classes,
@@ -82,8 +84,12 @@ fn tell_name(
     world: &mut World,
     waiting: &Stack<Waiting>,
 ) -> Result<Onward, WantOfMemory>
-    ensures { IfOk result (λ on. named classes.now world.old next now.old waiting.now now.old.stack.values (slice_get world.old.heap address) ≡ Moves Quiet (state_of on world.new now.new waiting.now)) }
+    ensures step { IfOk result (λ on. named classes.now world.old next now.old waiting.now now.old.stack.values (slice_get world.old.heap address) ≡ Moves Quiet (state_of on world.new now.new waiting.now)) }
+    ensures memory { OnErr result (IsTrue (have_strings classes.now && is_some (slice_get world.old.heap address))) }
 {
+    let Some(_place) = classes.string() else {
+        return Ok(Onward::Ends(Ending::Stuck));
+    };
     match shape_at(world, address)? {
         Some(shape) => push_name(alloc, classes, shape, next, now, world, waiting),
         None => Ok(Onward::Ends(Ending::Stuck)),
@@ -108,7 +114,7 @@ fn call_with_one(
 ) -> Result<Did, WantOfMemory>
     ensures step { IfOk result (λ did. native_call classes.now world.old next now.old waiting.now native (argument ∷ []) now.old.stack.values ≡ step_done classes.now did world.new now.new waiting.now) }
     ensures kept { IfOk result (λ did. NeverAsks did) }
-    ensures memory { OnErr result (IsTrue (native_takes native)) }
+    ensures memory { OnErr result (IsTrue (native_makes classes.now world.old native (argument ∷ []))) }
 {
     match (native, argument) {
         (Native::HashCode, Value::Address(at)) => {
@@ -162,7 +168,7 @@ pub fn call_native(
     requires { count ≤ length now.old.stack.values }
     ensures step { IfOk result (λ did. native_call classes.now world.old next now.old waiting.now native (reverse (take count now.old.stack.values)) (drop count now.old.stack.values) ≡ step_done classes.now did world.new now.new waiting.now) }
     ensures kept { IfOk result (λ did. KeptWhenAsks did world.old now.old waiting.now world.new now.new waiting.now) }
-    ensures memory { OnErr result (IsTrue (native_takes native)) }
+    ensures memory { OnErr result (IsTrue (native_makes classes.now world.old native (reverse (take count now.old.stack.values)))) }
 {
     if count == 0 {
         return Ok(call_with_none(classes, native, next, now, world, waiting));

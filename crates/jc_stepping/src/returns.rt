@@ -2,7 +2,7 @@
 ghost use Rattle.std.specs.Prelude.{◌≡◌, ◌∷◌, IfOk, IsTrue, OnErr, Some};
 ghost use Rattle.jc_jvm.specs.Calls.{Moves, Quiet, behind as behind_call, returned as returned_by};
 ghost use Rattle.jc_jvm.specs.Table.{given_back, returns_by};
-ghost use Rattle.jc_stepping.specs.Takes.{return_takes};
+ghost use Rattle.jc_stepping.specs.Makes.{return_makes};
 ghost use Rattle.jc_waiting.specs.Onwards.{state_of};
 
 use jc_calls::give_back;
@@ -47,7 +47,7 @@ fn return_from_initialiser(
     waiting: &mut Stack<Waiting>,
 ) -> Result<Onward, WantOfMemory>
     ensures step { IfOk result (λ on. returned_by program.now world.old (Waiting.Initialising class ∷ waiting.old) value ≡ state_of on world.new now.new waiting.new) }
-    ensures memory { OnErr result (IsTrue (return_takes (Waiting.Initialising class ∷ waiting.old) (Some value))) }
+    ensures memory { OnErr result (IsTrue (return_makes program.now (Waiting.Initialising class ∷ waiting.old) (Some value))) }
 {
     match value {
         Some(_) => Ok(Onward::Ends(Ending::Stuck)),
@@ -67,7 +67,7 @@ fn return_from(
     waiting: &mut Stack<Waiting>,
 ) -> Result<Onward, WantOfMemory>
     ensures step { IfOk result (λ on. returned_by program.now world.old waiting.old value ≡ state_of on world.new now.new waiting.new) }
-    ensures memory { OnErr result (IsTrue (return_takes waiting.old (Some value))) }
+    ensures memory { OnErr result (IsTrue (return_makes program.now waiting.old (Some value))) }
 {
     match waiting.pop() {
         Some(Waiting::Caller(caller)) => Ok(return_to_caller(
@@ -92,7 +92,7 @@ pub fn leave(
     waiting: &mut Stack<Waiting>,
 ) -> Result<Onward, WantOfMemory>
     ensures step { IfOk result (λ on. returns_by program.now world.old waiting.old (given_back wanted given now.old.stack.values) ≡ Moves Quiet (state_of on world.new now.new waiting.new)) }
-    ensures memory { OnErr result (IsTrue (return_takes waiting.old (given_back wanted given now.old.stack.values))) }
+    ensures memory { OnErr result (IsTrue (return_makes program.now waiting.old (given_back wanted given now.old.stack.values))) }
 {
     match give_back(wanted, given, &mut now.stack) {
         Some(value) => return_from(alloc, program, value, now, world, waiting),

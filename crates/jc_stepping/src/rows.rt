@@ -1,13 +1,11 @@
 //! One step, by its row.
-ghost use Rattle.std.specs.Prelude.{◌≡◌, IfOk, OnErr, IsTrue, None, if◌then◌else◌, true};
+ghost use Rattle.std.specs.Prelude.{◌≡◌, IfOk, OnErr, IsTrue, None};
 ghost use Rattle.jc_jvm.specs.Calls.{called_statically, arguments_of};
 ghost use Rattle.jc_jvm.specs.Table.{first_initialised};
-ghost use Rattle.jc_jvm.specs.Worlds.{state_of_class};
 ghost use Rattle.jc_rows.specs.Acts.{row_step};
 ghost use Rattle.jc_stepping.specs.Done.{KeptWhenAsks, step_done};
 ghost use Rattle.jc_stepping.specs.InPlace.{in_place};
-ghost use Rattle.jc_stepping.specs.Takes.{may_take, row_takes, static_takes};
-ghost use Rattle.jc_waiting.specs.Readying.{is_open as open_by};
+ghost use Rattle.jc_stepping.specs.Makes.{class_makes, row_makes, row_step_makes, static_makes};
 
 use crate::Did;
 use crate::act::{stuck, throw_top};
@@ -37,7 +35,7 @@ fn call_of_class(
 ) -> Result<Did, WantOfMemory>
     ensures step { IfOk result (λ did. first_initialised classes.now world.old now.old waiting.old class (called_statically classes.now (class, method) world.old next now.old waiting.old (arguments_of sorts.now now.old.stack.values)) ≡ step_done classes.now did world.new now.new waiting.new) }
     ensures kept { IfOk result (λ did. KeptWhenAsks did world.old now.old waiting.old world.new now.new waiting.new) }
-    ensures memory { OnErr result (IsTrue (if open_by (state_of_class world.old class) then static_takes classes.now (class, method) (arguments_of sorts.now now.old.stack.values) else true)) }
+    ensures memory { OnErr result (IsTrue (class_makes classes.now world.old class (static_makes classes.now (class, method) world.old (arguments_of sorts.now now.old.stack.values)))) }
 {
     if is_open(world, class) {
         call_static(
@@ -50,7 +48,7 @@ fn call_of_class(
 }
 
 // A row that isn't done in place.
-#[tactic(auto, using(crate::proofs::InPlace::closed_class))]
+#[tactic(auto, using(crate::proofs::InPlace::closed_class, crate::proofs::InPlace::unknown_literal))]
 fn step_out(
     alloc: Global,
     program: &Program,
@@ -63,7 +61,7 @@ fn step_out(
     requires { in_place program.now world.old next now.old row.now ≡ None }
     ensures step { IfOk result (λ did. row_step program.now world.old next now.old waiting.old row.now ≡ step_done program.now did world.new now.new waiting.new) }
     ensures kept { IfOk result (λ did. KeptWhenAsks did world.old now.old waiting.old world.new now.new waiting.new) }
-    ensures memory { OnErr result (IsTrue (row_takes program.now world.old now.old waiting.old row.now)) }
+    ensures memory { OnErr result (IsTrue (row_makes program.now world.old now.old waiting.old row.now)) }
 {
     let classes = program.classes();
     match row {
@@ -157,7 +155,7 @@ pub fn step_row(
 ) -> Result<Did, WantOfMemory>
     ensures step { IfOk result (λ did. row_step program.now world.old next now.old waiting.old row.now ≡ step_done program.now did world.new now.new waiting.new) }
     ensures kept { IfOk result (λ did. KeptWhenAsks did world.old now.old waiting.old world.new now.new waiting.new) }
-    ensures memory { OnErr result (IsTrue (may_take program.now world.old next now.old waiting.old row.now)) }
+    ensures memory { OnErr result (IsTrue (row_step_makes program.now world.old next now.old waiting.old row.now)) }
 {
     match act_in_place(program.classes(), row, next, now, world) {
         Some(Act::Goes) => Ok(Did::Moves(Onward::Runs)),

@@ -1,2 +1,3 @@
 pub mod Begun
-pub mod Taking
+pub mod Making
+pub mod Readied

@@ -1,18 +1,21 @@
 //! The initialisation of classes (JVMS 5.5).
-ghost use Rattle.std.specs.Prelude.{◌≡◌, ◌∷◌, [], IfOk, IfNone};
+ghost use Rattle.std.specs.Prelude.{◌≡◌, ◌∷◌, [], IfOk, IfNone, IsTrue, OnErr, is_some, length, false};
 ghost use Rattle.jc_jvm.specs.Classes.{class_has_flag};
 ghost use Rattle.jc_jvm.specs.Frames.{frame_of};
 ghost use Rattle.jc_jvm.specs.Initialising.{initialiser_begins, resumed, first_super as super_first, initialised_on, initialised};
+ghost use Rattle.jc_waiting.specs.Memory.{initialised_makes, resumed_makes};
 ghost use Rattle.jc_waiting.specs.Onwards.{state_of, state_resumed, first_by_state, first_of};
 
+use crate::alone::initialise_alone;
 use crate::{Onward, Stack, set_state, throw_fault_among};
-use jc_calls::{find_initialiser, frame_for};
+use jc_calls::{code_of, find_initialiser, frame_for};
 use jc_class_out::ClassModel;
 use jc_heap::{Classes, has_flag, superclass};
 use jc_jvm::{ClassState, Ending, Fault, Frame, Waiting, World};
 use jc_rules::WantOfMemory;
 use std::alloc::Global;
 
+#[tactic(auto, using(crate::proofs::Readied::begin_rules))]
 fn begin(
     alloc: Global,
     classes: &Classes,
@@ -22,8 +25,12 @@ fn begin(
     world: &World,
     waiting: &mut Stack<Waiting>,
 ) -> Result<Onward, WantOfMemory>
-    ensures { IfOk result (λ on. initialiser_begins classes.now world.now class waiting.old (frame_of classes.now (class, method) []) ≡ state_of on world.now now.new waiting.new) }
+    ensures state { IfOk result (λ on. initialiser_begins classes.now world.now class waiting.old (frame_of classes.now (class, method) []) ≡ state_of on world.now now.new waiting.new) }
+    ensures memory { OnErr result (IsTrue (is_some (frame_of classes.now (class, method) []))) }
 {
+    let Some(_code) = code_of(classes.models(), class, method) else {
+        return Ok(Onward::Ends(Ending::Stuck));
+    };
     match frame_for(alloc, classes.models(), class, method, &[])? {
         Some(frame) => {
             waiting.push(Waiting::Initialising(class))?;
@@ -45,6 +52,8 @@ fn resume_class(
 ) -> Result<Option<Onward>, WantOfMemory>
     ensures kept { IfOk result (λ on. IfNone on (waiting.new ≡ waiting.old)) }
     ensures state { IfOk result (λ on. resumed classes.now world.old (Waiting.Prepared class ∷ waiting.old) ≡ state_resumed classes.now on world.new now.new waiting.new) }
+    ensures behind { IfOk result (λ on. IfNone on (IsTrue (resumed_makes classes.now waiting.old) → IsTrue (resumed_makes classes.now (Waiting.Prepared class ∷ waiting.old)))) }
+    ensures memory { OnErr result (IsTrue (resumed_makes classes.now (Waiting.Prepared class ∷ waiting.old))) }
 {
     match find_initialiser(classes.models(), class) {
         Some(method) => {
@@ -68,6 +77,8 @@ fn resume_nearest(
 ) -> Result<Option<Onward>, WantOfMemory>
     ensures kept { IfOk result (λ on. IfNone on (waiting.new ≡ waiting.old)) }
     ensures state { IfOk result (λ on. resumed classes.now world.old (nearest ∷ waiting.old) ≡ state_resumed classes.now on world.new now.new waiting.new) }
+    ensures behind { IfOk result (λ on. IfNone on (IsTrue (resumed_makes classes.now waiting.old) → IsTrue (resumed_makes classes.now (nearest ∷ waiting.old)))) }
+    ensures memory { OnErr result (IsTrue (resumed_makes classes.now (nearest ∷ waiting.old))) }
 {
     match nearest {
         Waiting::Caller(frame) => {
@@ -90,7 +101,8 @@ pub fn resume(
     world: &mut World,
     waiting: &mut Stack<Waiting>,
 ) -> Result<Onward, WantOfMemory>
-    ensures { IfOk result (λ on. resumed classes.now world.old waiting.old ≡ state_of on world.new now.new waiting.new) }
+    ensures state { IfOk result (λ on. resumed classes.now world.old waiting.old ≡ state_of on world.new now.new waiting.new) }
+    ensures memory { OnErr result (IsTrue (resumed_makes classes.now waiting.old)) }
 {
     while let Some(nearest) = waiting.pop() {
         match resume_nearest(alloc, classes, nearest, now, world, waiting)? {
@@ -122,7 +134,7 @@ fn first_super(classes: &[ClassModel], class: u64) -> Option<u64>
 
 /// What has to be done about the superclass before a class.
 #[derive(Clone, Copy, Debug)]
-enum First {
+pub enum First {
     /// This one has to be initialised.
     Untouched(u64),
     Failed,
@@ -139,7 +151,8 @@ fn first_by(before: u64, state: Option<ClassState>) -> First
     }
 }
 
-fn first_state(classes: &Classes, class: u64, world: &World) -> First
+/// What has to be done about a class's superclass first.
+pub fn first_state(classes: &Classes, class: u64, world: &World) -> First
     ensures { result ≡ first_of world.now (super_first classes.now class) }
 {
     match first_super(classes.models(), class) {
@@ -148,8 +161,29 @@ fn first_state(classes: &Classes, class: u64, world: &World) -> First
     }
 }
 
+// Where there is no memory to keep a class in what waits: its initialisation makes nothing, or memory is wanted.
+#[tactic(auto, using(crate::proofs::Readied::alone_told))]
+fn initialise_unkept(
+    alloc: Global,
+    classes: &Classes,
+    steps: usize,
+    class: u64,
+    now: &mut Frame,
+    world: &mut World,
+    waiting: &mut Stack<Waiting>,
+) -> Result<Onward, WantOfMemory>
+    ensures state { IfOk result (λ on. initialised_on classes.now steps class world.old waiting.old ≡ state_of on world.new now.new waiting.new) }
+    ensures memory { OnErr result (IsTrue (initialised_makes classes.now steps class world.old (resumed_makes classes.now waiting.old))) }
+{
+    if initialise_alone(classes, steps, class, world)? {
+        resume(alloc, classes, now, world, waiting)
+    } else {
+        Ok(Onward::Ends(Ending::Stuck))
+    }
+}
+
 // The initialisation of a class that isn't touched yet begins, over at most so many superclasses.
-#[tactic(auto, using(crate::proofs::Begun::begun, crate::proofs::Begun::not_begun))]
+#[tactic(auto, using(crate::proofs::Begun::begun, crate::proofs::Begun::not_begun, crate::proofs::Readied::makes_first))]
 fn initialise_on(
     alloc: Global,
     classes: &Classes,
@@ -159,13 +193,18 @@ fn initialise_on(
     world: &mut World,
     waiting: &mut Stack<Waiting>,
 ) -> Result<Onward, WantOfMemory>
-    ensures { IfOk result (λ on. initialised_on classes.now steps class world.old waiting.old ≡ state_of on world.new now.new waiting.new) }
+    ensures state { IfOk result (λ on. initialised_on classes.now steps class world.old waiting.old ≡ state_of on world.new now.new waiting.new) }
+    ensures memory { OnErr result (IsTrue (initialised_makes classes.now steps class world.old (resumed_makes classes.now waiting.old))) }
 {
     if steps == 0 {
         return Ok(Onward::Ends(Ending::Stuck));
     }
-    set_state(world, ClassState::InProgress, class);
-    waiting.push(Waiting::Prepared(class))?;
+    match waiting.push(Waiting::Prepared(class)) {
+        Ok(()) => set_state(world, ClassState::InProgress, class),
+        Err(_) => {
+            return initialise_unkept(alloc, classes, steps, class, now, world, waiting);
+        }
+    }
     match first_state(classes, class, world) {
         First::Untouched(before) => {
             initialise_on(alloc, classes, steps - 1, before, now, world, waiting)
@@ -191,7 +230,8 @@ pub fn initialise(
     world: &mut World,
     waiting: &mut Stack<Waiting>,
 ) -> Result<Onward, WantOfMemory>
-    ensures { IfOk result (λ on. initialised classes.now class world.old waiting.old ≡ state_of on world.new now.new waiting.new) }
+    ensures state { IfOk result (λ on. initialised classes.now class world.old waiting.old ≡ state_of on world.new now.new waiting.new) }
+    ensures memory { OnErr result (IsTrue (initialised_makes classes.now (length classes.now) class world.old (resumed_makes classes.now waiting.old))) }
 {
     initialise_on(
         alloc,

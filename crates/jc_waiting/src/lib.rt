@@ -1,6 +1,7 @@
 //! What waits in the Java Virtual Machine: the way of exceptions, and the initialisation of classes (JVMS SE 7, 2.10 and 5.5).
 #![tactic(auto)]
 
+mod alone;
 mod faults;
 mod initialising;
 mod onward;

@@ -3,7 +3,7 @@ ghost use Rattle.std.specs.Prelude.{◌≡◌, IfOk, OnErr, IsTrue};
 ghost use Rattle.jc_jvm.specs.Calls.{settled, returned_to};
 ghost use Rattle.jc_jvm.specs.Frames.{pushes};
 ghost use Rattle.jc_plain.specs.Acted.{acted};
-ghost use Rattle.jc_waiting.specs.Memory.{act_takes};
+ghost use Rattle.jc_waiting.specs.Memory.{act_makes};
 ghost use Rattle.jc_waiting.specs.Onwards.{state_of};
 
 use crate::{Onward, Stack, throw_fault};
@@ -23,7 +23,7 @@ pub fn settle(
     waiting: &mut Stack<Waiting>,
 ) -> Result<Onward, WantOfMemory>
     ensures state { IfOk result (λ on. settled classes.now world.old waiting.old (acted act now.old) ≡ state_of on world.new now.new waiting.new) }
-    ensures memory { OnErr result (IsTrue (act_takes (acted act now.old))) }
+    ensures memory { OnErr result (IsTrue (act_makes classes.now (acted act now.old))) }
 {
     match act {
         Act::Goes => Ok(Onward::Runs),

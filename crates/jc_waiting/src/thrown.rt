@@ -1,9 +1,9 @@
 //! Exceptions that come up (JVMS 2.10).
 ghost use Rattle.std.specs.Prelude.{◌≡◌, ◌∷◌, IfOk, IsTrue, OnErr, slice_get};
 ghost use Rattle.jc_jvm.specs.Thrown.{caught, unwound, class_of_cell, thrown as thrown_object, fault_among, fault_thrown};
-ghost use Rattle.jc_waiting.specs.Memory.{thrown_takes, unwound_takes};
+ghost use Rattle.jc_waiting.specs.Memory.{fault_makes, thrown_makes, unwound_makes};
 ghost use Rattle.jc_waiting.specs.Onwards.{state_of, state_after};
-ghost use Rattle.jc_waiting.specs.Passing.{GoesOnTaking};
+ghost use Rattle.jc_waiting.specs.Passing.{GoesOnMaking};
 
 use crate::onward::Passed;
 use crate::{Onward, Stack, fault_class, is_error, is_throwable, set_state};
@@ -32,7 +32,7 @@ fn catch_in(
     }
 }
 
-#[tactic(auto, using(crate::proofs::Taking::passed_rules))]
+#[tactic(auto, using(crate::proofs::Making::passed_rules))]
 fn pass_frame(
     classes: &Classes,
     frame: Frame,
@@ -43,7 +43,7 @@ fn pass_frame(
     address: u64,
 ) -> Passed
     ensures state { unwound classes.now (Waiting.Caller frame ∷ waiting.now) world.now thrown address ≡ state_after classes.now result world.now now.new waiting.now }
-    ensures takes { GoesOnTaking classes.now (unwound_takes classes.now (Waiting.Caller frame ∷ waiting.now) thrown) waiting.now result }
+    ensures makes { GoesOnMaking classes.now (unwound_makes classes.now (Waiting.Caller frame ∷ waiting.now) thrown) waiting.now result }
 {
     match handler_for(classes, thrown, &frame) {
         Some(to) => {
@@ -54,7 +54,7 @@ fn pass_frame(
     }
 }
 
-#[tactic(auto, using(crate::proofs::Taking::passed_rules))]
+#[tactic(auto, using(crate::proofs::Making::passed_rules))]
 fn pass_initialiser(
     alloc: Global,
     classes: &Classes,
@@ -66,8 +66,8 @@ fn pass_initialiser(
     address: u64,
 ) -> Result<Passed, WantOfMemory>
     ensures state { IfOk result (λ passed. unwound classes.now (Waiting.Initialising class ∷ waiting.now) world.old thrown address ≡ state_after classes.now passed world.new now.now waiting.now) }
-    ensures takes { IfOk result (GoesOnTaking classes.now (unwound_takes classes.now (Waiting.Initialising class ∷ waiting.now) thrown) waiting.now) }
-    ensures memory { OnErr result (IsTrue (unwound_takes classes.now (Waiting.Initialising class ∷ waiting.now) thrown)) }
+    ensures makes { IfOk result (GoesOnMaking classes.now (unwound_makes classes.now (Waiting.Initialising class ∷ waiting.now) thrown) waiting.now) }
+    ensures memory { OnErr result (IsTrue (unwound_makes classes.now (Waiting.Initialising class ∷ waiting.now) thrown)) }
 {
     set_state(world, ClassState::Failed, class);
     if is_error(classes, thrown) {
@@ -85,7 +85,7 @@ fn pass_initialiser(
     }
 }
 
-#[tactic(auto, using(crate::proofs::Taking::passed_rules))]
+#[tactic(auto, using(crate::proofs::Making::passed_rules))]
 fn pass(
     alloc: Global,
     classes: &Classes,
@@ -97,8 +97,8 @@ fn pass(
     address: u64,
 ) -> Result<Passed, WantOfMemory>
     ensures state { IfOk result (λ passed. unwound classes.now (nearest ∷ waiting.now) world.old thrown address ≡ state_after classes.now passed world.new now.new waiting.now) }
-    ensures takes { IfOk result (GoesOnTaking classes.now (unwound_takes classes.now (nearest ∷ waiting.now) thrown) waiting.now) }
-    ensures memory { OnErr result (IsTrue (unwound_takes classes.now (nearest ∷ waiting.now) thrown)) }
+    ensures makes { IfOk result (GoesOnMaking classes.now (unwound_makes classes.now (nearest ∷ waiting.now) thrown) waiting.now) }
+    ensures memory { OnErr result (IsTrue (unwound_makes classes.now (nearest ∷ waiting.now) thrown)) }
 {
     match nearest {
         Waiting::Caller(frame) => Ok(pass_frame(
@@ -125,7 +125,7 @@ pub fn unwind(
     address: u64,
 ) -> Result<Onward, WantOfMemory>
     ensures state { IfOk result (λ on. unwound classes.now waiting.old world.old thrown address ≡ state_of on world.new now.new waiting.new) }
-    ensures memory { OnErr result (IsTrue (unwound_takes classes.now waiting.old thrown)) }
+    ensures memory { OnErr result (IsTrue (unwound_makes classes.now waiting.old thrown)) }
 {
     let mut thrown = thrown;
     let mut address = address;
@@ -157,7 +157,7 @@ fn unwind_from(
     address: u64,
 ) -> Result<Onward, WantOfMemory>
     ensures state { IfOk result (λ on. unwound classes.now (Waiting.Caller now.old ∷ waiting.old) world.old thrown address ≡ state_of on world.new now.new waiting.new) }
-    ensures memory { OnErr result (IsTrue (unwound_takes classes.now (Waiting.Caller now.old ∷ waiting.old) thrown)) }
+    ensures memory { OnErr result (IsTrue (unwound_makes classes.now (Waiting.Caller now.old ∷ waiting.old) thrown)) }
 {
     match handler_for(classes, thrown, now) {
         Some(to) => Ok(catch_in(to, address, now, world, waiting)),
@@ -184,7 +184,7 @@ pub fn throw_object(
     waiting: &mut Stack<Waiting>,
 ) -> Result<Onward, WantOfMemory>
     ensures state { IfOk result (λ on. thrown_object classes.now world.old now.old waiting.old address ≡ state_of on world.new now.new waiting.new) }
-    ensures memory { OnErr result (IsTrue (thrown_takes classes.now world.old now.old waiting.old address)) }
+    ensures memory { OnErr result (IsTrue (thrown_makes classes.now world.old now.old waiting.old address)) }
 {
     match class_at(world, address) {
         Some(class) => {
@@ -207,7 +207,8 @@ pub fn throw_fault_among(
     world: &mut World,
     waiting: &mut Stack<Waiting>,
 ) -> Result<Onward, WantOfMemory>
-    ensures { IfOk result (λ on. fault_among classes.now world.old waiting.old fault ≡ state_of on world.new now.new waiting.new) }
+    ensures state { IfOk result (λ on. fault_among classes.now world.old waiting.old fault ≡ state_of on world.new now.new waiting.new) }
+    ensures memory { OnErr result (IsTrue (fault_makes classes.now fault)) }
 {
     match fault_class(classes, fault) {
         Some(class) => {
@@ -227,7 +228,8 @@ pub fn throw_fault(
     world: &mut World,
     waiting: &mut Stack<Waiting>,
 ) -> Result<Onward, WantOfMemory>
-    ensures { IfOk result (λ on. fault_thrown classes.now world.old now.old waiting.old fault ≡ state_of on world.new now.new waiting.new) }
+    ensures state { IfOk result (λ on. fault_thrown classes.now world.old now.old waiting.old fault ≡ state_of on world.new now.new waiting.new) }
+    ensures memory { OnErr result (IsTrue (fault_makes classes.now fault)) }
 {
     match fault_class(classes, fault) {
         Some(class) => {
