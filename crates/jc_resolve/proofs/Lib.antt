@@ -1,0 +1,4 @@
+pub mod Short
+pub mod Beating
+pub mod Listed
+pub mod Chosen

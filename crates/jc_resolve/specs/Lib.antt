@@ -1,0 +1,4 @@
+pub mod Applying
+pub mod Specific
+pub mod Choosing
+pub mod Laws

@@ -1,0 +1,144 @@
+//! The most specific one of applicable members (JLS 15.12.2.5, 15.12.2.6).
+ghost use Rattle.std.specs.Prelude.{◌≡◌, IfOk, map};
+ghost use Rattle.jc_types.specs.Substitution.{subst};
+ghost use Rattle.std.specs.Option.{option_map};
+ghost use Rattle.jc_resolve.specs.Choosing.{ambiguous, bodies, by_body, by_result, chosen, chosen_among, result_type};
+
+use crate::applied::Candidate;
+use crate::applying::put_all;
+use crate::choice::Choice;
+use crate::sorting::{all_equivalent, bodies, first_with_body, fits_all};
+use jc_judge::Answer;
+use jc_members::erased_in;
+use jc_rules::WantOfMemory;
+use jc_types::{Env, Phase, Table, Ty, VarId, copy_types, substitute};
+use std::alloc::Global;
+
+// A type with type arguments for type parameters, each for each.
+#[tactic(auto, using(jc_members::proofs::Short::subst_short))]
+fn put(alloc: Global, t: &Ty, vars: &[VarId], by: &[Ty]) -> Result<Ty, WantOfMemory>
+    ensures { IfOk result (λ r. r ≡ subst vars.now by.now t.now) }
+{
+    let most = vars.len().min(by.len());
+    substitute(alloc, t, &vars[..most], &by[..most])
+}
+
+// A result with the type arguments for the type parameters, or erased.
+fn result_type(alloc: Global, table: &Table, c: &Candidate, t: &Ty) -> Result<Ty, WantOfMemory>
+    ensures { IfOk result (λ r. r ≡ result_type table.now c.now.member c.now.type_args c.now.unchecked t.now) }
+{
+    if c.unchecked {
+        return erased_in(alloc, table, &c.member, t);
+    }
+    put(alloc, t, c.member.vars.slice(), c.type_args.slice())
+}
+
+fn result_of(alloc: Global, table: &Table, c: &Candidate) -> Result<Option<Ty>, WantOfMemory>
+    ensures { IfOk result (λ r. r ≡ option_map (result_type table.now c.now.member c.now.type_args c.now.unchecked) c.now.member.result) }
+{
+    match &c.member.result {
+        None => Ok(None),
+        Some(t) => {
+            let t = result_type(alloc, table, c, t)?;
+            Ok(Some(t))
+        }
+    }
+}
+
+/// The choice of a candidate.
+pub fn chosen(
+    alloc: Global,
+    table: &Table,
+    phase: Phase,
+    c: &Candidate,
+) -> Result<Choice, WantOfMemory>
+    ensures { IfOk result (λ r. r ≡ chosen table.now phase c.now) }
+{
+    let member = &c.member;
+    let by = c.type_args.slice();
+    let params = put_all(alloc, member.params.slice(), member.vars.slice(), by)?;
+    let result = result_of(alloc, table, c)?;
+    let type_args = copy_types(alloc, by)?;
+    Ok(Choice::Chosen {
+        member: member.id,
+        phase,
+        type_args,
+        params,
+        result,
+        unchecked: c.unchecked,
+    })
+}
+
+// Of several candidates the first two are named.
+fn ambiguous(candidates: &[Candidate]) -> Choice
+    ensures { result ≡ ambiguous candidates.now }
+{
+    match candidates {
+        [a, b, ..] => Choice::Ambiguous {
+            first: a.member.id,
+            second: b.member.id,
+        },
+        [_] => Choice::NoneApplicable,
+        [] => Choice::NoneApplicable,
+    }
+}
+
+// The first candidate whose result fits those of all.
+fn by_result(
+    alloc: Global,
+    table: &Table,
+    env: &Env,
+    phase: Phase,
+    all: &[Candidate],
+) -> Result<Choice, WantOfMemory>
+    ensures { IfOk result (λ r. r ≡ by_result table.now env.now.bounds phase all.now all.now) }
+{
+    let mut rest = all;
+    while let [c, more @ ..] = rest {
+        match fits_all(alloc, table, env, &c.member, all)? {
+            Answer::Yes => return chosen(alloc, table, phase, c),
+            Answer::No => rest = more,
+            Answer::Deep => return Ok(Choice::Deep),
+        }
+    }
+    Ok(ambiguous(all))
+}
+
+// The only one that has a body.
+fn by_body(
+    alloc: Global,
+    table: &Table,
+    env: &Env,
+    phase: Phase,
+    all: &[Candidate],
+) -> Result<Choice, WantOfMemory>
+    ensures { IfOk result (λ r. r ≡ by_body table.now env.now.bounds phase all.now (bodies table.now all.now)) }
+{
+    match bodies(table, all) {
+        0 => by_result(alloc, table, env, phase, all),
+        1 => match first_with_body(table, all) {
+            Some(c) => chosen(alloc, table, phase, c),
+            None => Ok(ambiguous(all)),
+        },
+        _ => Ok(ambiguous(all)),
+    }
+}
+
+/// The only one of most specific candidates, or the one that stands for all of them, where they have one signature.
+pub fn chosen_among(
+    alloc: Global,
+    table: &Table,
+    env: &Env,
+    phase: Phase,
+    candidates: &[Candidate],
+) -> Result<Choice, WantOfMemory>
+    ensures { IfOk result (λ r. r ≡ chosen_among table.now env.now.bounds phase candidates.now) }
+{
+    if let [c] = candidates {
+        return chosen(alloc, table, phase, c);
+    }
+    if all_equivalent(alloc, table, candidates)? {
+        return by_body(alloc, table, env, phase, candidates);
+    }
+    Ok(ambiguous(candidates))
+}
