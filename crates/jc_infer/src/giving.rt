@@ -67,14 +67,6 @@ pub fn given(
     let vars = method.vars.slice();
     let parameters = written(alloc, vars, method.bounds.slice(), args)?;
     let answers = copy_types(alloc, args)?;
-    let found = all_asked(
-        alloc,
-        table,
-        env,
-        &[],
-        vars,
-        answers,
-        parameters.slice(),
-    )?;
+    let found = all_asked(alloc, table, env, &[], vars, answers, parameters.slice())?;
     Ok(found)
 }
