@@ -12,4 +12,4 @@ lists_of (Err refusal) = []
 -- sources have one list of tokens each
 pub one_reading : (texts : List (List ℕ)) (lists others : List (List Token)) → AreRead texts lists → AreRead texts others → lists ≡ others
 one_reading texts lists others a b =
-    sym a.tokens ∙ ap lists_of (sym a.are_sources.trees.tokens ∙ b.are_sources.trees.tokens) ∙ b.tokens
+    sym a.tokens ∙ ap lists_of (sym a.are_sources.declared.trees.tokens ∙ b.are_sources.declared.trees.tokens) ∙ b.tokens

@@ -13,8 +13,10 @@ use Rattle.jc_front.specs.Library.{AreLibrary, BreaksLibrary}
 use Rattle.jc_declares.specs.Sites.{sites_of}
 use Rattle.jc_declares.specs.Breaks.{BreaksNames}
 use Rattle.jc_names.specs.Stage.{IsNamed}
+use Rattle.jc_headers.specs.Stages.{BreaksHeaders, IsUnbroken}
 use Rattle.jc_types.specs.Accessors.{supers_of}
 use Rattle.jc_types.specs.Breaks.{IsLeast}
+use Rattle.jc_types.specs.declared.table.Table.{Table}
 use Rattle.jc_front.specs.declared.reading.Sources.{Sources}
 
 -- the tokens of the sources, which count from 1 (JLS 3)
@@ -35,12 +37,17 @@ pub record HaveTrees (texts : List (List ℕ)) (lists : List (List Token)) (unit
   pub is_library : AreLibrary library
   pub all : units ≡ library ++ numbered_from 1 files
 
+-- the table of what the units of a job declare, whose names break no rule; its first class is Object, which alone has no supertypes (JLS 8.1.4)
+pub record HaveTable (texts : List (List ℕ)) (lists : List (List Token)) (units : List SourceUnit) (table : Table) : Type 0 where
+  pub trees : HaveTrees texts lists units
+  pub names : IsNamed units table
+  pub object : supers_of table (record { 0 = 0 }) ≡ []
+
 -- sources that break no rule of a stage that is built, and what they are: their tokens, the trees of the library and of the sources, and the table of what these
--- declare, the first class of which is Object, which alone has no supertypes (JLS 8.1.4)
+-- declare, the types and headers of which break no rule (JLS 4, 8, 9)
 pub record AreSources (texts : List (List ℕ)) (sources : Sources) : Type 0 where
-  pub trees : HaveTrees texts sources.tokens sources.units
-  pub names : IsNamed sources.units sources.table
-  pub object : supers_of sources.table (record { 0 = 0 }) ≡ []
+  pub declared : HaveTable texts sources.tokens sources.units sources.table
+  pub headers : IsUnbroken sources.table
 
 -- sources that break no rule of a stage that is built have these tokens
 pub record AreRead (texts : List (List ℕ)) (lists : List (List Token)) : Type 0 where
@@ -66,9 +73,15 @@ IsNamesBreak units refused = IsLeast (BreaksNames (sites_of units)) refused
 abbrev pub BreaksOfNames : List (List ℕ) → Refusal → Type 0
 BreaksOfNames texts refused = (lists : List (List Token)) × (units : List SourceUnit) × HaveTrees texts lists units × IsNamesBreak units refused
 
+-- the stages of types and of headers: the least break of the first of them that has one
+abbrev pub BreaksOfHeaders : List (List ℕ) → Refusal → Type 0
+BreaksOfHeaders texts refused =
+    (lists : List (List Token)) × (units : List SourceUnit) × (table : Table) × HaveTable texts lists units table × BreaksHeaders table refused
+
 -- the break of the first stage that has one; a library that were broken would be refused before all sources
 abbrev pub Breaks : List (List ℕ) → Refusal → Type 0
-Breaks texts refused = BreaksLibrary refused ⊎ (BreaksWords texts refused ⊎ (BreaksTrees texts refused ⊎ BreaksOfNames texts refused))
+Breaks texts refused =
+    BreaksLibrary refused ⊎ (BreaksWords texts refused ⊎ (BreaksTrees texts refused ⊎ (BreaksOfNames texts refused ⊎ BreaksOfHeaders texts refused)))
 
 abbrev pub IsBreak : List (List ℕ) → Stop Refusal → Type 0
 IsBreak texts (stop_of.Refused refused) = Breaks texts refused

@@ -5,6 +5,7 @@ ghost use Rattle.jc_front.specs.Stages.{AreRead, AreSources, IsBreak};
 
 use crate::units::all_units;
 use jc_declares::SourceUnit;
+use jc_headers::check_headers;
 use jc_lexer::{Token, lex_all};
 use jc_names::names;
 use jc_rules::{Items, Refusal, Stop};
@@ -40,6 +41,7 @@ pub fn sources_of(alloc: Global, texts: &[Items<u8>]) -> Result<Sources, Stop<Re
     if !begins_with_object(&table) {
         return Err(Stop::WantOfMemory);
     }
+    check_headers(alloc, &table)?;
     Ok(Sources {
         tokens,
         units,

@@ -122,12 +122,12 @@ are_job texts lists units h =
 
 pub have_table : (texts : List (List ℕ)) (sources : Sources) → AreSources texts sources → IsTable sources.table
 have_table texts sources a =
-    subst IsTable (sym a.names.is_table) (record { index = indexed (sites_of sources.units); ids = ids_are sources.units; places = places_are sources.units a.names.unbroken })
+    subst IsTable (sym a.declared.names.is_table) (record { index = indexed (sites_of sources.units); ids = ids_are sources.units; places = places_are sources.units a.declared.names.unbroken })
 
 pub have_no_cycle : (texts : List (List ℕ)) (sources : Sources) → AreSources texts sources → HasNoCycle sources.table
 have_no_cycle texts sources a =
-    subst HasNoCycle (sym a.names.is_table)
-    (acyclic (sites_of sources.units) (subst (λ (t : Table). supers_of t (record { 0 = 0 }) ≡ []) a.names.is_table a.object) a.names.unbroken)
+    subst HasNoCycle (sym a.declared.names.is_table)
+    (acyclic (sites_of sources.units) (subst (λ (t : Table). supers_of t (record { 0 = 0 }) ≡ []) a.declared.names.is_table a.declared.object) a.declared.names.unbroken)
 
 pub have_order : (texts : List (List ℕ)) (sources : Sources) → AreSources texts sources → IdsAscend sources.table
-have_order texts sources a = subst IdsAscend (sym a.names.is_table) (ids_ascend sources.units (are_job texts sources.tokens sources.units a.trees))
+have_order texts sources a = subst IdsAscend (sym a.declared.names.is_table) (ids_ascend sources.units (are_job texts sources.tokens sources.units a.declared.trees))

@@ -1,0 +1,4 @@
+pub mod Lists
+pub mod Clashing
+pub mod Fitting
+pub mod Forming

@@ -1,0 +1,4 @@
+class Box<T> { }
+class A {
+    Box<String, String> boxes;
+}

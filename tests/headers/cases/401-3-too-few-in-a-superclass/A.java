@@ -1,0 +1,2 @@
+class Pair<A, B> { }
+class Twin extends Pair<String> { }

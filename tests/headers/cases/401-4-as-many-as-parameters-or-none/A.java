@@ -1,0 +1,5 @@
+class Pair<A, B> { }
+class A {
+    Pair<String, Integer> both;
+    Pair raw;
+}

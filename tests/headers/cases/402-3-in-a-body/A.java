@@ -1,0 +1,6 @@
+class Box<T extends Number> { }
+class A {
+    void m() {
+        Box<String> box = null;
+    }
+}

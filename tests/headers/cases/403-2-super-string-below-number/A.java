@@ -1,0 +1,4 @@
+class Box<T extends Number> { }
+class A {
+    Box<? super String> box;
+}

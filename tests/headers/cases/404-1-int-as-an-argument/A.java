@@ -1,0 +1,4 @@
+import java.util.List;
+class A {
+    List<int> list;
+}

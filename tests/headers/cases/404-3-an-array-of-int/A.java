@@ -1,0 +1,5 @@
+import java.util.List;
+class A {
+    List<int[]> list;
+    List<? extends long[]> others;
+}

@@ -1,0 +1,8 @@
+class Box<T extends Number> { }
+class A {
+    Box<? extends Task> box;
+    Box<? extends Integer> others;
+}
+interface Task {
+    void run();
+}

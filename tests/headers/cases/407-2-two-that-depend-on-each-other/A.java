@@ -1,0 +1,3 @@
+class A {
+    <T extends U, U extends T> void m() { }
+}

@@ -1,0 +1,2 @@
+import java.util.ArrayList;
+class A extends ArrayList<?> { }

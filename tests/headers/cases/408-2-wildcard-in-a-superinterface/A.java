@@ -1,0 +1,1 @@
+interface A extends Comparable<? extends A> { }

@@ -1,0 +1,3 @@
+import java.util.ArrayList;
+import java.util.List;
+class A extends ArrayList<List<?>> { }

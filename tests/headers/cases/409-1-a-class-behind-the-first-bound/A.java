@@ -1,0 +1,4 @@
+class A<T extends Task & Number> { }
+interface Task {
+    void run();
+}

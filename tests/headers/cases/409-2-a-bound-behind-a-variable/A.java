@@ -1,0 +1,4 @@
+class A<T, U extends T & Task> { }
+interface Task {
+    void run();
+}

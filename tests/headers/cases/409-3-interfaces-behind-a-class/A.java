@@ -1,0 +1,4 @@
+class A<T extends Number & Task & Comparable<T>, U extends T> { }
+interface Task {
+    void run();
+}

@@ -1,0 +1,5 @@
+class A extends Exception {
+    <T> T m(T t) {
+        return t;
+    }
+}

@@ -1,0 +1,3 @@
+interface One<T> { }
+class A implements One { }
+class B extends A implements One<Integer> { }

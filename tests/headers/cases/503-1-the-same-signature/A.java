@@ -1,0 +1,4 @@
+class A {
+    void m(int i) { }
+    int m(int j) { return j; }
+}

@@ -1,0 +1,4 @@
+class A {
+    <T> void m(T t) { }
+    <U> void m(U u) { }
+}

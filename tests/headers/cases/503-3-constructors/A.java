@@ -1,0 +1,4 @@
+class A {
+    A(String s) { }
+    A(String t) { }
+}

@@ -1,0 +1,6 @@
+class A {
+    void m() { }
+    void m(int i) { }
+    void m(long i) { }
+    void m(String s) { }
+}

@@ -1,0 +1,6 @@
+class A {
+    final void m() { }
+}
+class B extends A {
+    void m() { }
+}

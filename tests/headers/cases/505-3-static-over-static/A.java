@@ -1,0 +1,6 @@
+class A {
+    static void m() { }
+}
+class B extends A {
+    static void m() { }
+}

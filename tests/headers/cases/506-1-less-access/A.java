@@ -1,0 +1,6 @@
+class A {
+    public void m() { }
+}
+class B extends A {
+    void m() { }
+}

@@ -1,0 +1,6 @@
+class B implements Task {
+    void run() { }
+}
+interface Task {
+    void run();
+}

@@ -1,0 +1,6 @@
+class A {
+    protected void m() { }
+}
+class B extends A {
+    public void m() { }
+}

@@ -1,0 +1,6 @@
+class A {
+    String m() { return null; }
+}
+class B extends A {
+    Object m() { return null; }
+}

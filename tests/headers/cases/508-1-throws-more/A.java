@@ -1,0 +1,6 @@
+class A {
+    void m() { }
+}
+class B extends A {
+    void m() throws Exception { }
+}

@@ -1,0 +1,4 @@
+class A implements Task { }
+interface Task {
+    void run();
+}

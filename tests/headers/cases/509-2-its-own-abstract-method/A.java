@@ -1,0 +1,3 @@
+class A {
+    abstract void m();
+}

@@ -1,0 +1,3 @@
+class A implements Comparable<A> {
+    public int compareTo(String other) { return 0; }
+}

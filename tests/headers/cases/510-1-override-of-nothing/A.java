@@ -1,0 +1,4 @@
+class A {
+    @Override
+    void m() { }
+}

@@ -1,0 +1,4 @@
+class A {
+    @Override
+    public boolean equals(A other) { return false; }
+}

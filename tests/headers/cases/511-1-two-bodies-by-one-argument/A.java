@@ -1,0 +1,5 @@
+class A<T> {
+    void m(T t) { }
+    void m(String s) { }
+}
+class B extends A<String> { }

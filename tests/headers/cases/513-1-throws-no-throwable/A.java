@@ -1,0 +1,3 @@
+class A {
+    void m() throws String { }
+}

@@ -1,0 +1,3 @@
+class A<T extends Exception> {
+    void m() throws T, Error { }
+}

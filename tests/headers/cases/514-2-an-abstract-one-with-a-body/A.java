@@ -1,0 +1,3 @@
+abstract class A {
+    abstract void m() { }
+}

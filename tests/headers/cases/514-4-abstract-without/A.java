@@ -1,0 +1,7 @@
+abstract class A {
+    abstract void m();
+    void n() { }
+}
+interface B {
+    void m();
+}

@@ -1,0 +1,6 @@
+class A {
+    void m(Object o) { }
+}
+class B extends A {
+    <T> void m(T t) { }
+}
