@@ -1,16 +1,14 @@
 -- Methods without type parameters whose parameters' types are their own erasures: those of one erasure have one signature in each class.
 use Rattle.std.proofs.Common.{◌≡◌, ℕ, zero, suc, ◌+◌, ◌==◌, Bool, true, false, ◌&&◌, ◌||◌, Option, Some, None, List, [], ◌∷◌, map, length, refl, sym, ap, subst, ◌∙◌}
-use Rattle.std.specs.Str.{bytes_eq}
 use Rattle.jc_types.specs.declared.erased.Base.{Base}
 use Rattle.jc_types.specs.declared.erased.Base.TheVariants as base
-use Rattle.jc_types.specs.declared.form.Arg.{Arg}
-use Rattle.jc_types.specs.declared.form.Ty.{Ty, Ty-F, out-Ty}
+use Rattle.jc_types.specs.declared.form.Ty.{Ty}
 use Rattle.jc_types.specs.declared.form.Ty.TheVariants.{Prim, Class, Raw, Array, NullTy, outs-Prim, outs-Class, outs-Raw, outs-Array, outs-NullTy}
 use Rattle.jc_types.specs.declared.ids.ClassId.{ClassId}
 use Rattle.jc_types.specs.declared.ids.MethodId.{MethodId}
 use Rattle.jc_types.specs.declared.ids.VarId.{VarId}
 use Rattle.jc_types.specs.declared.table.Table.{Table}
-use Rattle.jc_types.specs.Accessors.{method_name_of, method_owner_of, method_vars_of, params_of, vars_of}
+use Rattle.jc_types.specs.Accessors.{method_owner_of, method_vars_of, params_of, vars_of}
 use Rattle.jc_types.specs.Arrays.{array_over, array_over_at}
 use Rattle.jc_types.specs.Erasing.{erasure}
 use Rattle.jc_types.specs.Sameness.{same}
@@ -22,7 +20,7 @@ use Rattle.jc_overriding.specs.Signatures.{adapted, erased_in, has_no_variables,
 use Rattle.jc_overriding.specs.Viewing.{Seeing, With, Raised, base_type, bounds_with, class_view, is_static, own_type, plain, plain_class, seeing_of, view_of_owner, viewed_by, viewed_in, with_dims}
 use Rattle.jc_header_rules.specs.Clashes.{erased_params}
 use Rattle.jc_clashes.specs.Shapes.{has_none, is_plain}
-use Rattle.jc_clashes.proofs.Lists.{and_both, and_true, is_self}
+use Rattle.jc_clashes.proofs.Lists.{and_both, and_true}
 
 -- ---- lists of types
 

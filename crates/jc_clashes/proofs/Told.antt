@@ -1,14 +1,13 @@
 -- The clashes of a table are those that are found name by name.
-use Rattle.std.proofs.Common.{◌≡◌, ◌⊎◌, inl, inr, ℕ, zero, suc, ◌+◌, ◌==◌, ◌<◌, ◌≤◌, arith, Bool, true, false, not, ◌&&◌, ◌||◌, cond, Option, Some, None, List, [], ◌∷◌, ◌++◌, length, refl, sym, ap, subst, ◌∙◌}
+use Rattle.std.proofs.Common.{◌≡◌, ◌⊎◌, inl, inr, ℕ, suc, ◌+◌, ◌==◌, ◌<◌, ◌≤◌, arith, Bool, true, false, not, ◌&&◌, ◌||◌, cond, Option, Some, None, List, [], ◌∷◌, ◌++◌, length, refl, sym, ap, subst, ◌∙◌}
 use Rattle.std.proofs.lemmas.Bool.Decides.{nat_tests}
-use Rattle.std.specs.List.{list_any}
 use Rattle.std.specs.Str.{bytes_eq}
 use Rattle.jc_rules.specs.declared.rule.Place.{Place}
 use Rattle.jc_rules.specs.declared.rule.Refusal.{Refusal}
 use Rattle.jc_types.specs.declared.declarations.ClassDecl.{ClassDecl}
 use Rattle.jc_types.specs.declared.declarations.MethodDecl.{MethodDecl}
 use Rattle.jc_types.specs.declared.form.Ty.{Ty}
-use Rattle.jc_types.specs.declared.form.Ty.TheVariants.{Class, outs-Class}
+use Rattle.jc_types.specs.declared.form.Ty.TheVariants.{outs-Class}
 use Rattle.jc_types.specs.declared.ids.ClassId.{ClassId}
 use Rattle.jc_types.specs.declared.ids.MethodId.{MethodId}
 use Rattle.jc_types.specs.declared.table.Table.{Table}
@@ -18,9 +17,9 @@ use Rattle.jc_types.proofs.Least.{least_of, told}
 use Rattle.jc_judge.specs.Kinds.{class_at, class_of}
 use Rattle.jc_judge.specs.Views.{is_class}
 use Rattle.jc_overriding.specs.declared.view.MethodView.{MethodView}
-use Rattle.jc_overriding.specs.Overriding.{candidates, candidates_from, has_name, hides, inherits_in, is_candidate, is_method, is_viewed, overrides, owner, remaining, replaced, same_class, subsignature_of, with_view, without_replaced}
+use Rattle.jc_overriding.specs.Overriding.{candidates_from, inherits_in, is_candidate, is_method, is_viewed, owner, remaining, replaced, same_class, subsignature_of, with_view, without_replaced}
 use Rattle.jc_overriding.specs.Signatures.{subsignature}
-use Rattle.jc_overriding.specs.Viewing.{class_view, is_static, own_type, seeing_of, view_of_method, view_of_owner, viewed_by, viewed_in}
+use Rattle.jc_overriding.specs.Viewing.{class_view, is_static, own_type, seeing_of, view_of_owner, viewed_by, viewed_in}
 use Rattle.jc_header_rules.specs.Clashes.{all_methods, clash_place, clashes, clashes_breaks, clashes_in, erased_params, erasures_meet, is_among, is_settled, is_same_or_below, members_broken, pairs_broken}
 use Rattle.jc_header_rules.specs.Inheriting.{with_body}
 use Rattle.jc_header_rules.specs.Places.{broken_if, of_each}
@@ -29,9 +28,9 @@ use Rattle.jc_members.specs.Listing.{has_method}
 use Rattle.jc_members.specs.Named.{all_named}
 use Rattle.jc_members.proofs.Remaining.{id_of_view}
 use Rattle.jc_clashes.specs.declared.shapes.Shape.{Shape}
-use Rattle.jc_clashes.specs.Clashing.{belongs, beside_broken, clash_at, class_clashes, group_broken, groups_broken, is_listed, is_member, is_replaced, member_broken, replaces_there, settles, share_some, views_clash}
-use Rattle.jc_clashes.specs.Shapes.{below_in, erasures_in, groups, is_plain, shape_of, shapes_of}
-use Rattle.jc_clashes.specs.Stage.{HasNoClash, IsFirstClash}
+use Rattle.jc_clashes.specs.Clashing.{belongs, beside_broken, clash_at, class_clashes, group_broken, groups_broken, is_listed, is_member, is_replaced, member_broken, replaces_there, share_some, views_clash}
+use Rattle.jc_clashes.specs.Shapes.{below_in, erasures_in, groups, is_plain, shape_of}
+use Rattle.jc_clashes.specs.Stage.{IsFirstClash}
 use Rattle.jc_clashes.proofs.Lists.{In, and_both, and_true, any_in, as_true, in_any, in_either, in_left, in_right, is_false, is_self, not_both, not_false, number, or_right, own_bytes, same_bytes}
 use Rattle.jc_clashes.proofs.Plain.{all_same, same_erasure, same_plain}
 use Rattle.jc_clashes.proofs.Alike.{IsNamed, Meeting, group_in, group_named, group_told, in_listed, in_named, listed_in, meet_told, meeting_of, named_in, of_shape, plain_name, plain_of, replaces_named, replaces_signed, same_or_below, shape_in}
