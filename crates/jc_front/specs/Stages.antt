@@ -14,6 +14,7 @@ use Rattle.jc_declares.specs.Sites.{sites_of}
 use Rattle.jc_declares.specs.Breaks.{BreaksNames}
 use Rattle.jc_names.specs.Stage.{IsNamed}
 use Rattle.jc_headers.specs.Stages.{BreaksHeaders, IsUnbroken}
+use Rattle.jc_clashes.specs.Stage.{HasNoClash, IsLeastClash}
 use Rattle.jc_types.specs.Accessors.{supers_of}
 use Rattle.jc_types.specs.Breaks.{IsLeast}
 use Rattle.jc_types.specs.declared.table.Table.{Table}
@@ -44,10 +45,11 @@ pub record HaveTable (texts : List (List ℕ)) (lists : List (List Token)) (unit
   pub object : supers_of table (record { 0 = 0 }) ≡ []
 
 -- sources that break no rule of a stage that is built, and what they are: their tokens, the trees of the library and of the sources, and the table of what these
--- declare, the types and headers of which break no rule (JLS 4, 8, 9)
+-- declare, the types and headers of which break no rule, and which has no clash (JLS 4, 8, 9)
 pub record AreSources (texts : List (List ℕ)) (sources : Sources) : Type 0 where
   pub declared : HaveTable texts sources.tokens sources.units sources.table
   pub headers : IsUnbroken sources.table
+  pub clashes : HasNoClash sources.table
 
 -- sources that break no rule of a stage that is built have these tokens
 pub record AreRead (texts : List (List ℕ)) (lists : List (List Token)) : Type 0 where
@@ -78,10 +80,15 @@ abbrev pub BreaksOfHeaders : List (List ℕ) → Refusal → Type 0
 BreaksOfHeaders texts refused =
     (lists : List (List Token)) × (units : List SourceUnit) × (table : Table) × HaveTable texts lists units table × BreaksHeaders table refused
 
+-- the stage of clashes, which stands behind these until bodies have stages: the least clash
+abbrev pub BreaksOfClashes : List (List ℕ) → Refusal → Type 0
+BreaksOfClashes texts refused =
+    (lists : List (List Token)) × (units : List SourceUnit) × (table : Table) × HaveTable texts lists units table × IsUnbroken table × IsLeastClash table refused
+
 -- the break of the first stage that has one; a library that were broken would be refused before all sources
 abbrev pub Breaks : List (List ℕ) → Refusal → Type 0
 Breaks texts refused =
-    BreaksLibrary refused ⊎ (BreaksWords texts refused ⊎ (BreaksTrees texts refused ⊎ (BreaksOfNames texts refused ⊎ BreaksOfHeaders texts refused)))
+    BreaksLibrary refused ⊎ (BreaksWords texts refused ⊎ (BreaksTrees texts refused ⊎ (BreaksOfNames texts refused ⊎ (BreaksOfHeaders texts refused ⊎ BreaksOfClashes texts refused))))
 
 abbrev pub IsBreak : List (List ℕ) → Stop Refusal → Type 0
 IsBreak texts (stop_of.Refused refused) = Breaks texts refused

@@ -4,6 +4,7 @@ ghost use Rattle.jc_types.specs.Accessors.{supers_of};
 ghost use Rattle.jc_front.specs.Stages.{AreRead, AreSources, IsBreak};
 
 use crate::units::all_units;
+use jc_clashes::check_clashes;
 use jc_declares::SourceUnit;
 use jc_headers::check_headers;
 use jc_lexer::{Token, lex_all};
@@ -30,7 +31,7 @@ fn begins_with_object(table: &Table) -> bool
 
 /// Reads the sources with these texts through all stages that are built. A refusal is the least break of the first stage that has one. Want of memory
 /// would stand for a library that doesn't begin with Object.
-#[tactic(auto, using(crate::proofs::Reached::are_sources))]
+#[tactic(auto, using(crate::proofs::Reached::have_table, crate::proofs::Reached::are_sources, crate::proofs::Reached::headers_stop, crate::proofs::Reached::clashes_stop))]
 pub fn sources_of(alloc: Global, texts: &[Items<u8>]) -> Result<Sources, Stop<Refusal>>
     ensures sources { IfOk result (λ sources. AreSources texts.now sources) }
     ensures refused { IfErr result (λ stop. IsBreak texts.now stop) }
@@ -42,6 +43,7 @@ pub fn sources_of(alloc: Global, texts: &[Items<u8>]) -> Result<Sources, Stop<Re
         return Err(Stop::WantOfMemory);
     }
     check_headers(alloc, &table)?;
+    check_clashes(alloc, &table)?;
     Ok(Sources {
         tokens,
         units,

@@ -1,0 +1,5 @@
+pub mod Alike
+pub mod Grown
+pub mod Lists
+pub mod Plain
+pub mod Told

@@ -1,0 +1,59 @@
+-- The methods of a name, with what erasures tell of them.
+use Rattle.std.specs.Prelude.{ℕ, zero, suc, ◌==◌, Bool, true, false, not, ◌&&◌, cond, List, [], ◌∷◌, ◌++◌, length}
+use Rattle.jc_types.specs.declared.form.Ty.{Ty}
+use Rattle.jc_types.specs.declared.ids.MethodId.{MethodId}
+use Rattle.jc_types.specs.declared.ids.VarId.{VarId}
+use Rattle.jc_types.specs.declared.table.Table.{Table}
+use Rattle.jc_types.specs.Accessors.{method_name_of, method_vars_of, params_of}
+use Rattle.jc_overriding.specs.Signatures.{same_all}
+use Rattle.jc_header_rules.specs.Clashes.{erased_params, is_same_or_below}
+use Rattle.jc_members.specs.Below.{replaces}
+use Rattle.jc_members.specs.Named.{all_named}
+use Rattle.jc_clashes.specs.declared.shapes.Shape.{Shape}
+
+abbrev pub has_none : List VarId → Bool
+has_none [] = true
+has_none (v ∷ vs) = false
+
+-- a method without type parameters, each of whose parameters' types is its own erasure (JLS 4.6)
+unfoldable pub is_plain : Table → MethodId → Bool
+is_plain T m = has_none (method_vars_of T m) && same_all (erased_params T m) (params_of T m)
+
+abbrev pub all_plain : Table → List MethodId → Bool
+all_plain T [] = true
+all_plain T (m ∷ ms) = is_plain T m && all_plain T ms
+
+-- of these methods those that method m overrides or hides
+abbrev pub below_in : Table → MethodId → List MethodId → List MethodId
+below_in T m [] = []
+below_in T m (j ∷ js) = cond (replaces T m j) (j ∷ []) [] ++ below_in T m js
+
+-- the erased parameters of m, and of those that it overrides or hides
+abbrev pub erasures_in : Table → MethodId → List MethodId → List (List Ty)
+erasures_in T m [] = []
+erasures_in T m (j ∷ js) = cond (is_same_or_below T m j) (erased_params T j ∷ []) [] ++ erasures_in T m js
+
+abbrev pub shape_of : Table → List MethodId → MethodId → Shape
+shape_of T all m = record { id = m; below = below_in T m all; erasures = erasures_in T m all }
+
+abbrev pub shapes_of : Table → List MethodId → List MethodId → List Shape
+shapes_of T all [] = []
+shapes_of T all (m ∷ ms) = shape_of T all m ∷ shapes_of T all ms
+
+-- the first of these methods, which aren't all plain
+abbrev pub leads : Table → MethodId → List MethodId → Bool
+leads T m [] = false
+leads T m (n ∷ ns) = (n.0 == m.0) && not (all_plain T (n ∷ ns))
+
+-- the methods of the name of m, where it is the first of them, and they aren't all plain
+abbrev pub group_of : Table → MethodId → List MethodId → List (List Shape)
+group_of T m ids = cond (leads T m ids) (shapes_of T ids ids ∷ []) []
+
+-- .. for each of n methods from number i on
+abbrev pub groups_from : Table → ℕ → ℕ → List (List Shape)
+groups_from T i zero = []
+groups_from T i (suc n) = group_of T (record { 0 = i }) (all_named T (method_name_of T (record { 0 = i }))) ++ groups_from T (suc i) n
+
+-- the methods of each name that has one that isn't plain
+abbrev pub groups : Table → List (List Shape)
+groups T = groups_from T 0 (length T.methods)

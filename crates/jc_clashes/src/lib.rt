@@ -1,0 +1,10 @@
+//! The stage of clashes (JLS 8.4.8.3): whether two methods of a class have one erasure of which neither overrides the other, and which
+//! clash is named.
+#![tactic(auto)]
+
+mod clashing;
+mod places;
+mod shapes;
+mod stage;
+
+pub use stage::check_clashes;
