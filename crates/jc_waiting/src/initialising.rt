@@ -182,45 +182,6 @@ fn initialise_unkept(
     }
 }
 
-// The initialisation of a class that isn't touched yet begins, over at most so many superclasses.
-#[tactic(auto, using(crate::proofs::Begun::begun, crate::proofs::Begun::not_begun, crate::proofs::Readied::makes_first))]
-fn initialise_on(
-    alloc: Global,
-    classes: &Classes,
-    steps: usize,
-    class: u64,
-    now: &mut Frame,
-    world: &mut World,
-    waiting: &mut Stack<Waiting>,
-) -> Result<Onward, WantOfMemory>
-    ensures state { IfOk result (λ on. initialised_on classes.now steps class world.old waiting.old ≡ state_of on world.new now.new waiting.new) }
-    ensures memory { OnErr result (IsTrue (initialised_makes classes.now steps class world.old (resumed_makes classes.now waiting.old))) }
-{
-    if steps == 0 {
-        return Ok(Onward::Ends(Ending::Stuck));
-    }
-    match waiting.push(Waiting::Prepared(class)) {
-        Ok(()) => set_state(world, ClassState::InProgress, class),
-        Err(_) => {
-            return initialise_unkept(alloc, classes, steps, class, now, world, waiting);
-        }
-    }
-    match first_state(classes, class, world) {
-        First::Untouched(before) => {
-            initialise_on(alloc, classes, steps - 1, before, now, world, waiting)
-        }
-        First::Failed => throw_fault_among(
-            alloc,
-            classes,
-            Fault::NoClassDefFound,
-            now,
-            world,
-            waiting,
-        ),
-        First::Nothing => resume(alloc, classes, now, world, waiting),
-    }
-}
-
 /// The initialisation of an untouched class begins; what waits for it waits already.
 pub fn initialise(
     alloc: Global,
@@ -233,13 +194,24 @@ pub fn initialise(
     ensures state { IfOk result (λ on. initialised classes.now class world.old waiting.old ≡ state_of on world.new now.new waiting.new) }
     ensures memory { OnErr result (IsTrue (initialised_makes classes.now (length classes.now) class world.old (resumed_makes classes.now waiting.old))) }
 {
-    initialise_on(
-        alloc,
-        classes,
-        classes.models().len(),
-        class,
-        now,
-        world,
-        waiting,
-    )
+    let steps = classes.models().len();
+    let mut here = class;
+    for begun in 0..steps {
+        match waiting.push(Waiting::Prepared(here)) {
+            Ok(()) => set_state(world, ClassState::InProgress, here),
+            Err(_) => {
+                let left = steps - begun;
+                return initialise_unkept(alloc, classes, left, here, now, world, waiting);
+            }
+        }
+        match first_state(classes, here, world) {
+            First::Untouched(before) => here = before,
+            First::Failed => {
+                let fault = Fault::NoClassDefFound;
+                return throw_fault_among(alloc, classes, fault, now, world, waiting);
+            }
+            First::Nothing => return resume(alloc, classes, now, world, waiting),
+        }
+    }
+    Ok(Onward::Ends(Ending::Stuck))
 }
