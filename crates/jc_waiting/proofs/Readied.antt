@@ -1,5 +1,5 @@
 -- The initialisation of classes that makes nothing.
-use Rattle.std.proofs.Common.{◌≡◌, ◌<◌, ◌-◌, ◌∙◌, [], ◌∷◌, ◌++◌, ℕ, zero, suc, Bool, true, false, List, refl, sym, subst, ap, arith, nat_le, option_and_then, replicate, if◌then◌else◌}
+use Rattle.std.proofs.Common.{◌≡◌, ◌<◌, ◌-◌, ◌∙◌, [], ◌∷◌, ◌++◌, ℕ, zero, suc, Bool, true, false, List, refl, sym, ap, arith, nat_le, option_and_then, replicate, if◌then◌else◌}
 use Rattle.std.proofs.lemmas.Bool.{le-leb}
 use Rattle.std.specs.Prelude.{IfOk, IsTrue, OnErr, is_some}
 use Rattle.std.specs.Option.{option_map}
@@ -12,8 +12,8 @@ use Rattle.jc_class_out.specs.declared.model.CodeModel.{CodeModel}
 use Rattle.jc_jvm.specs.Classes.{code_at, initialiser_of}
 use Rattle.jc_jvm.specs.Frames.{frame_by, frame_of, locals_of}
 use Rattle.jc_jvm.specs.Initialising.{first_super, initialised_on, initialiser_begins, resumed}
-use Rattle.jc_jvm.specs.Thrown.{State, Over, fault_among, fault_class, unwound}
-use Rattle.jc_jvm.specs.Worlds.{next_address, with_object, with_state}
+use Rattle.jc_jvm.specs.Thrown.{State, Over}
+use Rattle.jc_jvm.specs.Worlds.{with_state}
 use Rattle.jc_jvm.specs.declared.frame.Frame.{Frame}
 use Rattle.jc_jvm.specs.declared.frame.Waiting.{Waiting}
 use Rattle.jc_jvm.specs.declared.frame.Waiting.TheVariants.{Prepared}
@@ -21,7 +21,7 @@ use Rattle.jc_jvm.specs.declared.world.ClassState.TheVariants.{InProgress, Ready
 use Rattle.jc_jvm.specs.declared.world.Ending.TheVariants.{Stuck}
 use Rattle.jc_jvm.specs.declared.world.Fault.TheVariants.{NoClassDefFound}
 use Rattle.jc_jvm.specs.declared.world.World.{World}
-use Rattle.jc_waiting.proofs.Begun.{begun, begun_by, not_begun}
+use Rattle.jc_waiting.proofs.Begun.{begun, begun_by}
 use Rattle.jc_waiting.specs.Alone.{InitialisedAlone}
 use Rattle.jc_waiting.specs.Memory.{fault_makes, initialised_makes, ready_makes, resumed_makes}
 use Rattle.jc_waiting.specs.Onwards.{first_of}

@@ -22,7 +22,7 @@ use Rattle.jc_jvm.specs.declared.world.World.{World}
 use Rattle.jc_waiting.proofs.Begun.{not_begun}
 use Rattle.jc_waiting.proofs.Readied.{begins_not, begun_state, frame_there, goes_on, makes_begun, makes_is, makes_on, resumed_is}
 use Rattle.jc_waiting.specs.Alone.{InitialisedAlone, by_code, ended_alone, or_below, or_below_by, refused_alone}
-use Rattle.jc_waiting.specs.Memory.{fault_makes, initialised_makes, ready_makes}
+use Rattle.jc_waiting.specs.Memory.{initialised_makes, ready_makes}
 use Rattle.jc_waiting.specs.Onwards.{first_by_state, first_of}
 use Rattle.jc_waiting.specs.declared.alone.Uppermost.{Uppermost}
 use Rattle.jc_waiting.specs.declared.alone.Uppermost.TheVariants.{Absent, Framed, Codeless}

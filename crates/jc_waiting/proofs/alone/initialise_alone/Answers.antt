@@ -1,7 +1,6 @@
 use Rattle.std.proofs.Common.{◌+◌, ◌-◌, ◌∙◌, ℕ, false, sym, ap, arith}
 use Rattle.jc_waiting.proofs.Walked.{told_ready, told_wanting, walk_on, walked, walked_alone, walked_none}
 use Rattle.jc_waiting.specs.Alone.{ended_alone, refused_alone}
-use Rattle.jc_waiting.specs.declared.alone.Uppermost.TheVariants.{Absent}
 use Rattle.jc_waiting.specs.declared.initialising.First.TheVariants as first
 use Rattle.jc_waiting.proofs.alone.initialise_alone.Goals as goal
 
