@@ -10,7 +10,7 @@ use crate::alone::initialise_alone;
 use crate::{Onward, Stack, set_state, throw_fault_among};
 use jc_calls::{code_of, find_initialiser, frame_for};
 use jc_class_out::ClassModel;
-use jc_heap::{Classes, has_flag, superclass};
+use jc_heap::{Classes, has_flag};
 use jc_jvm::{ClassState, Ending, Fault, Frame, Waiting, World};
 use jc_rules::WantOfMemory;
 use std::alloc::Global;
@@ -122,13 +122,13 @@ fn has_class_flag(classes: &[ClassModel], flag: u16, class: u64) -> bool
     }
 }
 
-fn first_super(classes: &[ClassModel], class: u64) -> Option<u64>
+fn first_super(classes: &Classes, class: u64) -> Option<u64>
     ensures { result ≡ super_first classes.now class }
 {
-    if has_class_flag(classes, 512, class) {
+    if has_class_flag(classes.models(), 512, class) {
         None
     } else {
-        superclass(classes, class)
+        classes.superclass(class)
     }
 }
 
@@ -155,7 +155,7 @@ fn first_by(before: u64, state: Option<ClassState>) -> First
 pub fn first_state(classes: &Classes, class: u64, world: &World) -> First
     ensures { result ≡ first_of world.now (super_first classes.now class) }
 {
-    match first_super(classes.models(), class) {
+    match first_super(classes, class) {
         Some(before) => first_by(before, world.states.get(before as usize)),
         None => First::Nothing,
     }
