@@ -3,7 +3,7 @@ ghost use Rattle.std.specs.Prelude.{◌≡◌, ◌&&◌, position};
 ghost use Rattle.jc_jvm.specs.Classes.{is_method, is_selectable, is_static_method, methods_of, method_of as method_by_name, selected, initialiser_of};
 
 use jc_class_out::{ClassModel, MethodModel};
-use jc_heap::{has_flag, spells, superclass};
+use jc_heap::{Classes, has_flag, spells, superclass};
 
 fn is_named(name: &[u16], descriptor: &[u16], method: &MethodModel) -> bool
     ensures { result ≡ is_method name.now descriptor.now method.now }
@@ -72,19 +72,20 @@ pub fn find_method(
 
 /// The method that a call selects for an object of a class, from that class upward: neither a private nor a static one.
 pub fn select_method(
-    classes: &[ClassModel],
+    classes: &Classes,
     class: u64,
     name: &[u16],
     descriptor: &[u16],
 ) -> Option<(u64, u64)>
     ensures { result ≡ selected classes.now name.now descriptor.now class }
 {
+    let models = classes.models();
     let mut here = Some(class);
-    for done in 0..classes.len() {
+    for done in 0..models.len() {
         match here {
-            Some(number) => match place_selected(methods_in(classes, number), name, descriptor) {
+            Some(number) => match place_selected(methods_in(models, number), name, descriptor) {
                 Some(place) => return Some((number, place as u64)),
-                None => here = superclass(classes, number),
+                None => here = classes.superclass(number),
             },
             None => return None,
         }

@@ -45,42 +45,9 @@ pub below_by-none : (supers : List (List ℕ)) (wanted k : ℕ) → below_by sup
 unfolding below_by
 below_by-none supers wanted k = refl
 
-below_by-suc : (supers : List (List ℕ)) (n wanted k : ℕ) → below_by supers (suc n) wanted k ≡ ((k == wanted) || list_any (below_by supers n wanted) (supers_at supers k))
+pub below_by-suc : (supers : List (List ℕ)) (n wanted k : ℕ) → below_by supers (suc n) wanted k ≡ ((k == wanted) || list_any (below_by supers n wanted) (supers_at supers k))
 unfolding below_by
 below_by-suc supers n wanted k = refl
-
-pub below_by-more : (supers : List (List ℕ)) (n wanted k : ℕ) → 0 < n → below_by supers n wanted k ≡ ((k == wanted) || list_any (below_by supers (n - 1) wanted) (supers_at supers k))
-below_by-more supers zero wanted k h = absurd (omega arith)
-below_by-more supers (suc n) wanted k h = let e : suc n - 1 ≡ n = omega arith in rw e (below_by-suc supers n wanted k)
-
-or_true : (b : Bool) → (b || true) ≡ true
-or_true true = refl
-or_true false = refl
-
-any_at : {A : Type 0} (f : A → Bool) (xs : List A) (i : ℕ) (d : A) → i < length xs → f (get_or xs i d) ≡ true → list_any f xs ≡ true
-any_at f [] i d h e = absurd (omega arith)
-any_at f (x ∷ xs) zero d h e = rw e refl
-any_at f (x ∷ xs) (suc i) d h e = rw (any_at f xs i d (omega arith) e) (or_true (f x))
-
--- one of those directly above is below
-pub is_below_by : (supers : List (List ℕ)) (n wanted k : ℕ) (row : List ℕ) (i : ℕ) → 0 < n → row ≡ supers_at supers k → i < length row → below_by supers (n - 1) wanted (get_or row i 0) ≡ true → true ≡ below_by supers n wanted k
-is_below_by supers n wanted k row i some is inside e =
-    let any : list_any (below_by supers (n - 1) wanted) (supers_at supers k) ≡ true = ap (λ (r : List ℕ). list_any (below_by supers (n - 1) wanted) r) (sym is) ∙ any_at (below_by supers (n - 1) wanted) row i 0 inside e in
-    sym (below_by-more supers n wanted k some ∙ ap (λ (b : Bool). (k == wanted) || b) any ∙ or_true (k == wanted))
-
--- none of those directly above is below, nor the class itself
-pub is_not_below_by : (supers : List (List ℕ)) (n wanted k : ℕ) (row : List ℕ) (i : ℕ) → 0 < n → k ≢ wanted → row ≡ supers_at supers k → length row ≤ i → list_any (below_by supers (n - 1) wanted) (take i row) ≡ false → false ≡ below_by supers n wanted k
-is_not_below_by supers n wanted k row i some other is all e =
-    let whole : take i row ≡ row = take_all i row all in
-    let any : list_any (below_by supers (n - 1) wanted) (supers_at supers k) ≡ false = ap (λ (r : List ℕ). list_any (below_by supers (n - 1) wanted) r) (sym is ∙ sym whole) ∙ e in
-    let apart : (k == wanted) ≡ false = grind (arith, nat_tests) in
-    sym (below_by-more supers n wanted k some ∙ ap (λ (b : Bool). (k == wanted) || b) any ∙ ap (λ (b : Bool). b || false) apart)
-
--- the class itself
-pub is_itself : (supers : List (List ℕ)) (n wanted k : ℕ) → 0 < n → k ≡ wanted → true ≡ below_by supers n wanted k
-is_itself supers n wanted k some same =
-    let t : (k == wanted) ≡ true = grind (arith, nat_tests) in
-    sym (below_by-more supers n wanted k some ∙ ap (λ (b : Bool). b || list_any (below_by supers (n - 1) wanted) (supers_at supers k)) t)
 
 cons_listed : {B : Type 0} (o : Option B) → cons_option o [] ≡ listed o
 cons_listed (Some y) = refl
@@ -100,5 +67,3 @@ named_more {A = A} {B = B} f xs i x before found after h is grown so =
     ∙ ap (λ (bs : List B). bs ++ listed (f x)) so
     ∙ append_assoc before (filter_map f (take i xs)) (listed (f x))
     ∙ ap (λ (bs : List B). before ++ bs) (ap (λ (y : A). filter_map f (take i xs) ++ listed (f y)) is ∙ sym (filter_map_more f xs i x h))
-
-pub ruleset below_by_rules = (below_by-none, is_itself)

@@ -2,3 +2,5 @@ pub mod Below
 pub mod LoadedElements
 pub mod FieldLayouts
 pub mod StringPlaces
+pub mod Walks
+pub mod Closed

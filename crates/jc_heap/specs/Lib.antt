@@ -1,3 +1,4 @@
 pub mod Layouts
 pub mod Strings
 pub mod Supers
+pub mod Above

@@ -1,13 +1,14 @@
 //! Classes with their supertypes and fields, looked up once.
 ghost use Rattle.std.specs.Prelude.{◌≡◌, IfOk, codes};
-ghost use Rattle.jc_jvm.specs.Classes.{class_named as class_by_name, is_class_below as class_below};
+ghost use Rattle.jc_jvm.specs.Classes.{class_named as class_by_name, is_class_below as class_below, super_of};
 ghost use Rattle.jc_jvm.specs.Types.{is_base_below as base_below, is_object as object_of, is_shape_below as shape_below, deeper, new_fields as fields_of_new};
 ghost use Rattle.jc_heap.specs.Strings.{string_place};
 
 use crate::StringPlace;
+use crate::above::above_all;
 use crate::layouts::{find_string, zeros_of_all};
 use crate::names::class_spelled;
-use crate::supers::{is_below, supers_of_all};
+use crate::supers::{parents_of_all, supers_of_all};
 use jc_class_out::ClassModel;
 use jc_jvm::{Base, Shape, Value};
 use jc_rules::{Items, WantOfMemory};
@@ -18,7 +19,8 @@ use std::marker::Model;
 #[derive(Debug, Drop)]
 pub struct Classes {
     models: Items<ClassModel>,
-    supers: Items<Items<u64>>,
+    parents: Items<Option<u64>>,
+    above: Items<Items<u64>>,
     zeros: Items<Items<Value>>,
     object: Option<u64>,
     string: Option<StringPlace>,
@@ -28,29 +30,34 @@ impl Model for Classes {
     ghost use Rattle.std.specs.Prelude.{◌≡◌, List, codes};
     ghost use Rattle.jc_class_out.specs.declared.model.ClassModel.{ClassModel};
     ghost use Rattle.jc_jvm.specs.Classes.{class_named};
+    ghost use Rattle.jc_heap.specs.Above.{AllAbove};
     ghost use Rattle.jc_heap.specs.Layouts.{all_fields};
     ghost use Rattle.jc_heap.specs.Strings.{string_place};
-    ghost use Rattle.jc_heap.specs.Supers.{all_supers};
+    ghost use Rattle.jc_heap.specs.Supers.{all_parents, all_supers};
 
     ghost Value = { List ClassModel };
 
     ghost view = { λ c. c.models };
 
-    ghost invariant = { λ c. (c.supers ≡ all_supers c.models) × (c.zeros ≡ all_fields c.models) × (c.object ≡ class_named c.models (codes "java/lang/Object")) × (c.string ≡ string_place c.models) };
+    ghost invariant = { λ c. (c.parents ≡ all_parents c.models) × AllAbove (all_supers c.models) c.above × (c.zeros ≡ all_fields c.models) × (c.object ≡ class_named c.models (codes "java/lang/Object")) × (c.string ≡ string_place c.models) };
 }
 
 impl Classes {
     /// Looks up what the classes say of each other.
+    #[tactic(auto, using(crate::proofs::Closed::closed_supers))]
     pub fn of(alloc: Global, models: Items<ClassModel>) -> Result<Classes, WantOfMemory>
         ensures { IfOk result (λ c. c ≡ models) }
     {
+        let parents = parents_of_all(alloc, models.slice())?;
         let supers = supers_of_all(alloc, models.slice())?;
+        let above = above_all(alloc, supers.slice())?;
         let zeros = zeros_of_all(alloc, models.slice())?;
         let object = object_in(models.slice());
         let string = find_string(alloc, models.slice())?;
         Ok(Classes {
             models,
-            supers,
+            parents,
+            above,
             zeros,
             object,
             string,
@@ -63,12 +70,26 @@ impl Classes {
         self.models.slice()
     }
 
+    /// The superclass of a class, where the classes have it.
+    #[tactic(auto, using(crate::proofs::Closed::parent_rules))]
+    pub fn superclass(&self, class: u64) -> Option<u64>
+        ensures { result ≡ super_of self.now class }
+    {
+        match self.parents.get(class as usize) {
+            Some(parent) => *parent,
+            None => None,
+        }
+    }
+
     /// Whether a class or interface is another one or below it.
-    #[tactic(auto, using(crate::proofs::Below::below_by_all))]
+    #[tactic(auto, using(crate::proofs::Closed::below_rules))]
     pub fn is_class_below(&self, class: u64, wanted: u64) -> bool
         ensures { result ≡ class_below self.now class wanted }
     {
-        is_below(self.supers.slice(), self.models.len(), wanted, class)
+        match self.above.get(class as usize) {
+            Some(above) => above.slice().contains(&wanted),
+            None => self.models.len() > 0 && class == wanted,
+        }
     }
 
     /// The values with which the fields of a new object begin.

@@ -2,6 +2,7 @@
 //! classes that they ask.
 #![tactic(auto)]
 
+mod above;
 mod arrays;
 mod classes;
 mod elements;

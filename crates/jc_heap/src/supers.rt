@@ -1,8 +1,8 @@
-//! The direct supertypes of classes, and what stands above them.
+//! The direct supertypes of classes.
 ghost use Rattle.std.specs.Prelude.{◌≡◌, ◌++◌, IfOk, OnOk, option_and_then};
 ghost use Rattle.std.specs.List.{filter_map};
 ghost use Rattle.jc_jvm.specs.Classes.{class_named as class_by_name, listed};
-ghost use Rattle.jc_heap.specs.Supers.{supers_in, all_supers, supers_at, below_by};
+ghost use Rattle.jc_heap.specs.Supers.{supers_in, all_supers, all_parents};
 
 use crate::names::class_named;
 use jc_class_out::ClassModel;
@@ -77,30 +77,29 @@ pub fn supers_of_all(
     Ok(found)
 }
 
-fn row_at(supers: &[Items<u64>], class: u64) -> &[u64]
-    ensures { result.now ≡ supers_at supers.now class }
+fn parent_of(classes: &[ClassModel], class: &ClassModel) -> Option<u64>
+    ensures { result ≡ option_and_then (class_by_name classes.now) class.now.superclass }
 {
-    match supers.get(class as usize) {
-        Some(row) => row.slice(),
-        None => &[],
+    let Some(name) = &class.superclass else {
+        return None;
+    };
+    match class_named(classes, name.slice()) {
+        Some(number) => Some(number as u64),
+        None => None,
     }
 }
 
-/// Whether a class is another one or below it, over at most so many steps.
-#[tactic(auto, using(crate::proofs::Below::below_by_rules))]
-pub fn is_below(supers: &[Items<u64>], steps: usize, wanted: u64, class: u64) -> bool
-    ensures { result ≡ below_by supers.now steps wanted class }
+/// The superclass of each class, where the classes have it.
+#[tactic(auto, unfolding(crate::specs::Supers::all_parents))]
+pub fn parents_of_all(
+    alloc: Global,
+    classes: &[ClassModel],
+) -> Result<Items<Option<u64>>, WantOfMemory>
+    ensures { IfOk result (λ found. found ≡ all_parents classes.now) }
 {
-    if steps == 0 {
-        return false;
+    let mut found = Items::new(alloc);
+    for class in classes {
+        found.push(parent_of(classes, class))?;
     }
-    if class == wanted {
-        return true;
-    }
-    for above in row_at(supers, class) {
-        if is_below(supers, steps - 1, wanted, *above) {
-            return true;
-        }
-    }
-    false
+    Ok(found)
 }

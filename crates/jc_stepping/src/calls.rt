@@ -167,7 +167,7 @@ fn class_for(classes: &[ClassModel], world: &World, address: u64) -> Option<u64>
 }
 
 fn select(
-    classes: &[ClassModel],
+    classes: &Classes,
     name: &[u16],
     descriptor: &[u16],
     class: Option<u64>,
@@ -214,7 +214,7 @@ pub fn call_virtual(
     match receiver(sorts.len(), &now.stack) {
         Some(Value::Address(at)) => {
             let class = class_for(classes.models(), world, at);
-            let target = select(classes.models(), name, descriptor, class);
+            let target = select(classes, name, descriptor, class);
             call(
                 alloc,
                 classes,

@@ -1,3 +1,4 @@
 pub mod Begun
 pub mod Making
 pub mod Readied
+pub mod Walked

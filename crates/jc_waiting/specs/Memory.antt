@@ -1,5 +1,5 @@
 -- Whether what follows an instruction makes an object or a frame (JVMS 2.5, 2.10, 5.5): nothing else takes memory.
-use Rattle.std.specs.Prelude.{ℕ, zero, suc, Bool, true, false, ◌&&◌, List, [], ◌∷◌, is_some, length, slice_get, if◌then◌else◌}
+use Rattle.std.specs.Prelude.{ℕ, zero, suc, Bool, false, ◌&&◌, List, [], ◌∷◌, is_some, length, slice_get, if◌then◌else◌}
 use Rattle.std.specs.declared.option.Option.{Option}
 use Rattle.std.specs.declared.option.Option.TheVariants.{Some, None}
 use Rattle.jc_class_out.specs.declared.model.ClassModel.{ClassModel}
@@ -17,7 +17,6 @@ use Rattle.jc_jvm.specs.declared.world.Fault.{Fault}
 use Rattle.jc_jvm.specs.declared.world.Fault.TheVariants.{ExceptionInInitializer, NoClassDefFound}
 use Rattle.jc_jvm.specs.declared.world.World.{World}
 use Rattle.jc_waiting.specs.Onwards.{first_of}
-use Rattle.jc_waiting.specs.declared.initialising.First.{First}
 use Rattle.jc_waiting.specs.declared.initialising.First.TheVariants as first
 
 -- ---- exceptions

@@ -10,7 +10,7 @@ use crate::alone::initialise_alone;
 use crate::{Onward, Stack, set_state, throw_fault_among};
 use jc_calls::{code_of, find_initialiser, frame_for};
 use jc_class_out::ClassModel;
-use jc_heap::{Classes, has_flag, superclass};
+use jc_heap::{Classes, has_flag};
 use jc_jvm::{ClassState, Ending, Fault, Frame, Waiting, World};
 use jc_rules::WantOfMemory;
 use std::alloc::Global;
@@ -122,13 +122,13 @@ fn has_class_flag(classes: &[ClassModel], flag: u16, class: u64) -> bool
     }
 }
 
-fn first_super(classes: &[ClassModel], class: u64) -> Option<u64>
+fn first_super(classes: &Classes, class: u64) -> Option<u64>
     ensures { result ≡ super_first classes.now class }
 {
-    if has_class_flag(classes, 512, class) {
+    if has_class_flag(classes.models(), 512, class) {
         None
     } else {
-        superclass(classes, class)
+        classes.superclass(class)
     }
 }
 
@@ -155,7 +155,7 @@ fn first_by(before: u64, state: Option<ClassState>) -> First
 pub fn first_state(classes: &Classes, class: u64, world: &World) -> First
     ensures { result ≡ first_of world.now (super_first classes.now class) }
 {
-    match first_super(classes.models(), class) {
+    match first_super(classes, class) {
         Some(before) => first_by(before, world.states.get(before as usize)),
         None => First::Nothing,
     }
@@ -182,45 +182,6 @@ fn initialise_unkept(
     }
 }
 
-// The initialisation of a class that isn't touched yet begins, over at most so many superclasses.
-#[tactic(auto, using(crate::proofs::Begun::begun, crate::proofs::Begun::not_begun, crate::proofs::Readied::makes_first))]
-fn initialise_on(
-    alloc: Global,
-    classes: &Classes,
-    steps: usize,
-    class: u64,
-    now: &mut Frame,
-    world: &mut World,
-    waiting: &mut Stack<Waiting>,
-) -> Result<Onward, WantOfMemory>
-    ensures state { IfOk result (λ on. initialised_on classes.now steps class world.old waiting.old ≡ state_of on world.new now.new waiting.new) }
-    ensures memory { OnErr result (IsTrue (initialised_makes classes.now steps class world.old (resumed_makes classes.now waiting.old))) }
-{
-    if steps == 0 {
-        return Ok(Onward::Ends(Ending::Stuck));
-    }
-    match waiting.push(Waiting::Prepared(class)) {
-        Ok(()) => set_state(world, ClassState::InProgress, class),
-        Err(_) => {
-            return initialise_unkept(alloc, classes, steps, class, now, world, waiting);
-        }
-    }
-    match first_state(classes, class, world) {
-        First::Untouched(before) => {
-            initialise_on(alloc, classes, steps - 1, before, now, world, waiting)
-        }
-        First::Failed => throw_fault_among(
-            alloc,
-            classes,
-            Fault::NoClassDefFound,
-            now,
-            world,
-            waiting,
-        ),
-        First::Nothing => resume(alloc, classes, now, world, waiting),
-    }
-}
-
 /// The initialisation of an untouched class begins; what waits for it waits already.
 pub fn initialise(
     alloc: Global,
@@ -233,13 +194,24 @@ pub fn initialise(
     ensures state { IfOk result (λ on. initialised classes.now class world.old waiting.old ≡ state_of on world.new now.new waiting.new) }
     ensures memory { OnErr result (IsTrue (initialised_makes classes.now (length classes.now) class world.old (resumed_makes classes.now waiting.old))) }
 {
-    initialise_on(
-        alloc,
-        classes,
-        classes.models().len(),
-        class,
-        now,
-        world,
-        waiting,
-    )
+    let steps = classes.models().len();
+    let mut here = class;
+    for begun in 0..steps {
+        match waiting.push(Waiting::Prepared(here)) {
+            Ok(()) => set_state(world, ClassState::InProgress, here),
+            Err(_) => {
+                let left = steps - begun;
+                return initialise_unkept(alloc, classes, left, here, now, world, waiting);
+            }
+        }
+        match first_state(classes, here, world) {
+            First::Untouched(before) => here = before,
+            First::Failed => {
+                let fault = Fault::NoClassDefFound;
+                return throw_fault_among(alloc, classes, fault, now, world, waiting);
+            }
+            First::Nothing => return resume(alloc, classes, now, world, waiting),
+        }
+    }
+    Ok(Onward::Ends(Ending::Stuck))
 }
