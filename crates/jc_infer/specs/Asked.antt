@@ -1,6 +1,6 @@
 -- What is asked of the answers: for each parameter in order whether it is below each of its bounds, and then whether it is well formed. The first question that isn't
 -- proved decides.
-use Rattle.std.specs.Prelude.{ℕ, ◌+◌, Bool, true, false, Option, Some, None, List, [], ◌∷◌, ◌++◌, drop, map, cond}
+use Rattle.std.specs.Prelude.{ℕ, ◌+◌, Option, Some, None, List, [], ◌∷◌, ◌++◌, drop, map, cond}
 use Rattle.jc_types.specs.declared.conversion.Phase.{Phase}
 use Rattle.jc_types.specs.declared.environment.Bounds.{Bounds}
 use Rattle.jc_types.specs.declared.form.Ty.{Ty}
