@@ -1,9 +1,15 @@
 //! Questions about the types of a table, and their answers in words.
+use crate::calling::meant;
+use crate::conversions::{constant_of, conversion_words};
 use crate::heads::{class_of_name, scope_of, table_of};
+use crate::inferring::inferred;
 use crate::names::Scope;
 use crate::types::{read_argument, read_type};
 use crate::words::{put_bounds, put_erased, put_type};
 use crate::{Read, Unreadable};
+use jc_convert::{assignment, cast, invocation};
+use jc_lub::{lub, provably_distinct};
+use jc_repair::repair;
 use jc_rules::{Items, Stop};
 use jc_sub::{Answer, CaptureFault, below, capture, contained, glb, view};
 use jc_types::{Arg, Env, Table, Ty, class_types, element, erasure, reifiable, same_type, size};
@@ -61,6 +67,14 @@ impl Asker {
             "reifiable" => self.reifiable(alloc, first),
             "element" => self.element(alloc, first),
             "inside" => self.inside(alloc, first),
+            "lub" => self.lub(alloc, line),
+            "repair" => self.repair(alloc, first),
+            "distinct" => self.distinct(alloc, first, second),
+            "assign" => self.assign(alloc, first, second, words.next()),
+            "invoke" => self.invoke(alloc, first, second),
+            "cast" => self.cast(alloc, first, second),
+            "infer" => self.infer(alloc, line),
+            "call" => self.call(alloc, line),
             _ => Err(Stop::Refused(Unreadable)),
         }
     }
@@ -112,13 +126,80 @@ impl Asker {
         }
     }
 
-    fn glb(&self, alloc: Global, line: &str) -> Read<String> {
+    /// The types that stand behind a line's first word.
+    fn types_of(&self, alloc: Global, line: &str) -> Read<Items<Ty>> {
         let mut types = Items::new(alloc);
         for (i, word) in line.split_whitespace().enumerate() {
             if i > 0 {
                 types.push(self.type_of(alloc, word)?)?;
             }
         }
+        Ok(types)
+    }
+
+    fn lub(&self, alloc: Global, line: &str) -> Read<String> {
+        let types = self.types_of(alloc, line)?;
+        let bound = lub(alloc, &self.table, &self.env, types.slice())?;
+        self.words_of(alloc, &bound)
+    }
+
+    fn repair(&self, alloc: Global, first: &str) -> Read<String> {
+        let ty = self.type_of(alloc, first)?;
+        let repaired = repair(alloc, &self.table, &self.env, &ty)?;
+        self.words_of(alloc, &repaired)
+    }
+
+    fn distinct(&self, alloc: Global, first: &str, second: &str) -> Read<String> {
+        let s = self.type_of(alloc, first)?;
+        let t = self.type_of(alloc, second)?;
+        let holds = provably_distinct(alloc, &self.table, &self.env, &s, &t)?;
+        Ok(String::from_str(alloc, yes_or_no(holds))?)
+    }
+
+    fn assign(
+        &self,
+        alloc: Global,
+        first: &str,
+        second: &str,
+        constant: Option<&str>,
+    ) -> Read<String> {
+        let s = self.type_of(alloc, first)?;
+        let t = self.type_of(alloc, second)?;
+        let constant = constant_of(constant)?;
+        let found = assignment(alloc, &self.table, &self.env, &s, constant.as_ref(), &t)?;
+        conversion_words(alloc, &self.table, found)
+    }
+
+    fn invoke(&self, alloc: Global, first: &str, second: &str) -> Read<String> {
+        let s = self.type_of(alloc, first)?;
+        let t = self.type_of(alloc, second)?;
+        let found = invocation(alloc, &self.table, &self.env, &s, &t)?;
+        conversion_words(alloc, &self.table, found)
+    }
+
+    fn cast(&self, alloc: Global, first: &str, second: &str) -> Read<String> {
+        let s = self.type_of(alloc, first)?;
+        let t = self.type_of(alloc, second)?;
+        let found = cast(alloc, &self.table, &self.env, &s, &t)?;
+        conversion_words(alloc, &self.table, found)
+    }
+
+    fn infer(&self, alloc: Global, line: &str) -> Read<String> {
+        match line.split_once(' ') {
+            Some((_, call)) => inferred(alloc, &self.scope, &self.table, &self.env, call),
+            None => Err(Stop::Refused(Unreadable)),
+        }
+    }
+
+    fn call(&self, alloc: Global, line: &str) -> Read<String> {
+        match line.split_once(' ') {
+            Some((_, call)) => meant(alloc, &self.scope, &self.table, &self.env, call),
+            None => Err(Stop::Refused(Unreadable)),
+        }
+    }
+
+    fn glb(&self, alloc: Global, line: &str) -> Read<String> {
+        let types = self.types_of(alloc, line)?;
         match glb(alloc, &self.table, types.slice()) {
             Ok(bound) => self.words_of(alloc, &bound),
             Err(Stop::Refused(CaptureFault::ClassesMeet { i })) => {

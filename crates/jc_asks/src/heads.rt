@@ -15,7 +15,9 @@ const NOWHERE: Place = Place { file: 0, at: 0 };
 /// Whether a line is a head, and no question.
 pub fn is_head(line: &str) -> bool {
     match line.split_whitespace().next() {
-        Some(word) => word == "class" || word == "interface" || word == "variable",
+        Some(word) => {
+            word == "class" || word == "final" || word == "interface" || word == "variable"
+        }
         None => false,
     }
 }
@@ -67,6 +69,7 @@ pub fn table_of(alloc: Global, scope: &Scope, lines: &[&str]) -> Read<Table> {
     let object = class_decl(
         alloc,
         "Object",
+        MODIFIERS,
         Kind::Class,
         Items::new(alloc),
         Items::new(alloc),
@@ -82,9 +85,10 @@ pub fn table_of(alloc: Global, scope: &Scope, lines: &[&str]) -> Read<Table> {
 
 fn add_head(alloc: Global, scope: &Scope, table: &mut Table, line: &str) -> Read<()> {
     let mut words = line.split_whitespace();
-    let kind = match words.next() {
-        Some("variable") => return add_variables(alloc, scope, table, line),
-        Some("interface") => Kind::Interface,
+    let head = words.next().unwrap_or("");
+    let kind = match head {
+        "variable" => return add_variables(alloc, scope, table, line),
+        "interface" => Kind::Interface,
         _ => Kind::Class,
     };
     let name = words.next().unwrap_or("");
@@ -101,7 +105,8 @@ fn add_head(alloc: Global, scope: &Scope, table: &mut Table, line: &str) -> Read
             vars.push(add_variable(alloc, scope, table, owner, word)?)?;
         }
     }
-    let class = class_decl(alloc, name, kind, vars, supers)?;
+    let modifiers = modifiers_of(head == "final");
+    let class = class_decl(alloc, name, modifiers, kind, vars, supers)?;
     push_class(alloc, table, class)?;
     Ok(())
 }
@@ -158,6 +163,13 @@ const MODIFIERS: Modifiers = Modifiers {
     says_override: false,
 };
 
+/// The modifiers of a class.
+fn modifiers_of(is_final: bool) -> Modifiers {
+    let mut modifiers = MODIFIERS;
+    modifiers.is_final = is_final;
+    modifiers
+}
+
 /// The scope of all classes.
 fn only_scope(alloc: Global) -> jc_types::Scope {
     jc_types::Scope {
@@ -199,6 +211,7 @@ fn nothing(alloc: Global) -> WrittenTypes {
 fn class_decl(
     alloc: Global,
     name: &str,
+    modifiers: Modifiers,
     kind: Kind,
     vars: Items<VarId>,
     supers: Items<Ty>,
@@ -211,7 +224,7 @@ fn class_decl(
         outer: None,
         members: Items::new(alloc),
         scope: ScopeId(0),
-        modifiers: MODIFIERS,
+        modifiers,
         kind,
         vars,
         supers: implied(alloc, supers)?,

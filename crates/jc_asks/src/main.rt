@@ -4,24 +4,36 @@
 //! A line `table` begins a table with the class `Object`, which its head lines add to:
 //!
 //!     class NAME PARAMETER .. : SUPERTYPE ..
+//!     final NAME PARAMETER .. : SUPERTYPE ..
 //!     interface NAME PARAMETER .. : SUPERTYPE ..
 //!     variable PARAMETER
 //!
 //! A parameter is a name that no other line declares, with its bound behind a colon if it has one, as `E:Number`. The
-//! superclass comes first, and is Object for an interface. A variable is one of a method. Each line after them asks:
+//! superclass comes first, and is Object for an interface. A final class is one that none extends. A variable is one of a
+//! method. Each line after them asks:
 //!
 //!     below TYPE TYPE        contained ARGUMENT ARGUMENT      view TYPE CLASS
 //!     capture TYPE           glb TYPE ..                      erasure TYPE
 //!     wellformed TYPE        formed TYPE                      faults TYPE
 //!     size TYPE              same TYPE TYPE                   reifiable TYPE
-//!     element TYPE           inside TYPE
+//!     element TYPE           inside TYPE                      lub TYPE ..
+//!     repair TYPE            distinct TYPE TYPE               assign TYPE TYPE [CONSTANT]
+//!     invoke TYPE TYPE       cast TYPE TYPE
+//!     infer PHASE VARIABLE .. : RESULT PARAMETER .. : ARGUMENT .. : TARGET
+//!     call EXPLICIT .. : ARGUMENT .. : TARGET | MEMBER | ..
 //!
 //! Types have no spaces. `+T` is `? extends T`, `-T` is `? super T`, `{A&B}` an intersection, `#0` the first variable that a
-//! capture of this table made, and `null` the null type.
+//! capture of this table made, and `null` the null type. A phase is `subtyping`, `invocation` or `variable`, a result a type
+//! or `void`; a target may be left out. The type arguments that a call writes stand before its arguments. A member is `fixed`
+//! or `variable`, as it takes as many arguments as parameters or any number, then `VARIABLE .. : RESULT PARAMETER ..`; its
+//! number is counted from 0.
 #![tactic(auto)]
 
 mod asking;
+mod calling;
+mod conversions;
 mod heads;
+mod inferring;
 mod names;
 mod types;
 mod words;

@@ -23,7 +23,7 @@ fn put_variable(out: &mut String, table: &Table, id: VarId) -> Result<(), AllocE
     }
 }
 
-fn primitive_word(word: Primitive) -> &'static str {
+pub fn primitive_word(word: Primitive) -> &'static str {
     match word {
         Primitive::Boolean => "boolean",
         Primitive::Byte => "byte",

@@ -1,6 +1,6 @@
 -- What is asked of the answers: for each parameter in order whether it is below each of its bounds, and then whether it is well formed. The first question that isn't
 -- proved decides.
-use Rattle.std.specs.Prelude.{ℕ, ◌+◌, Bool, true, false, Option, Some, None, List, [], ◌∷◌, drop, map, cond}
+use Rattle.std.specs.Prelude.{ℕ, ◌+◌, Option, Some, None, List, [], ◌∷◌, ◌++◌, drop, map, cond}
 use Rattle.jc_types.specs.declared.conversion.Phase.{Phase}
 use Rattle.jc_types.specs.declared.environment.Bounds.{Bounds}
 use Rattle.jc_types.specs.declared.form.Ty.{Ty}
@@ -64,12 +64,14 @@ all_asked T env later vars answers i (p ∷ ps) = or_more (one_asked T env later
 abbrev pub answered : Table → List Bounds → MethodView → List Parameter → List Implied → Inference
 answered T env m ps later = all_asked T env later m.vars (map (answer T later) ps) 0 ps
 
-abbrev pub inferred_for : Table → List Bounds → MethodView → List Parameter → Option Ty → Inference
-inferred_for T env m ps target = answered T env m ps (late T env m ps target)
+-- what the arguments imply still holds of the parameters that they leave open
+abbrev pub inferred_for : Table → List Bounds → MethodView → List Implied → List Parameter → Option Ty → Inference
+inferred_for T env m is ps target = answered T env m ps (is ++ late T env m ps target)
 
 -- what inference gives for a call of a method in a phase, with the types of its arguments and its target, if it has one
 unfoldable pub inferred : Table → List Bounds → MethodView → Phase → List Ty → Option Ty → Inference
-inferred T env m phase args target = inferred_for T env m (parameters T env (by_call T env m phase args) m.vars m.bounds) target
+inferred T env m phase args target =
+    inferred_for T env m (by_call T env m phase args) (parameters T env (by_call T env m phase args) m.vars m.bounds) target
 
 -- parameters whose answers are written
 abbrev pub written_one : VarId → List Ty → Ty → Parameter

@@ -1,5 +1,5 @@
 -- The types of a method's parameters as a call with some number of arguments has them (JLS 15.12.2.4).
-use Rattle.std.specs.Prelude.{ℕ, zero, suc, Bool, true, false, List, [], ◌∷◌, replicate, Option, Some, None}
+use Rattle.std.specs.Prelude.{ℕ, zero, suc, List, [], ◌∷◌, replicate, Option, Some, None}
 use Rattle.jc_types.specs.declared.conversion.Phase.{Phase}
 use Rattle.jc_types.specs.declared.conversion.Phase.TheVariants.{Subtyping, Invocation, VariableArity}
 use Rattle.jc_types.specs.declared.form.Ty.{Ty}

@@ -1,5 +1,5 @@
 -- Whether a type names one of some type variables.
-use Rattle.std.specs.Prelude.{ℕ, ◌||◌, Bool, true, false, List, [], ◌∷◌}
+use Rattle.std.specs.Prelude.{◌||◌, Bool, false, List, [], ◌∷◌}
 use Rattle.jc_types.specs.declared.form.Ty.{Ty, Ty-F, fold-Ty}
 use Rattle.jc_types.specs.declared.form.Arg.{Arg, Arg-F, fold-Arg}
 use Rattle.jc_types.specs.declared.ids.VarId.{VarId}

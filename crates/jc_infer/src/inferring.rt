@@ -10,7 +10,7 @@ use crate::late::late;
 use crate::outcome::{Inference, Parameter};
 use jc_constraints::Implied;
 use jc_overriding::MethodView;
-use jc_rules::WantOfMemory;
+use jc_rules::{Items, WantOfMemory};
 use jc_types::{Env, Phase, Table, Ty};
 use std::alloc::Global;
 
@@ -33,20 +33,23 @@ fn answered(
     Ok(found)
 }
 
-// The third step, and what follows.
+// The third step, and what follows. What the arguments imply still holds of the parameters that they leave open.
 fn inferred_for(
     alloc: Global,
     table: &Table,
     env: &Env,
     method: &MethodView,
+    implied: Items<Implied>,
     parameters: &[Parameter],
     target: Option<&Ty>,
 ) -> Result<Inference, WantOfMemory>
     requires { length method.now.vars ≡ length parameters.now }
-    ensures { IfOk result (λ r. r ≡ inferred_for table.now env.now.bounds method.now parameters.now (option_copied target.entry)) }
+    ensures { IfOk result (λ r. r ≡ inferred_for table.now env.now.bounds method.now implied parameters.now (option_copied target.entry)) }
 {
+    let mut all = implied;
     let later = late(alloc, table, env.bounds.slice(), method, parameters, target)?;
-    let found = answered(alloc, table, env, method, parameters, later.slice())?;
+    all.append(later)?;
+    let found = answered(alloc, table, env, method, parameters, all.slice())?;
     Ok(found)
 }
 
@@ -77,6 +80,14 @@ pub fn infer(
         vars,
         method.bounds.slice(),
     )?;
-    let found = inferred_for(alloc, table, env, method, parameters.slice(), target)?;
+    let found = inferred_for(
+        alloc,
+        table,
+        env,
+        method,
+        implied,
+        parameters.slice(),
+        target,
+    )?;
     Ok(found)
 }

@@ -1,4 +1,4 @@
-use Rattle.std.proofs.Common.{◌≡◌, ◌++◌, drop, map, take}
+use Rattle.std.proofs.Common.{◌≡◌, map, take}
 use Rattle.jc_infer.specs.Steps.{stand_in}
 use Rattle.jc_infer.proofs.answering.stand_ins.Given as goal
 

@@ -1,4 +1,4 @@
-use Rattle.std.proofs.Common.{◌≡◌, ◌++◌, drop, map, take}
+use Rattle.std.proofs.Common.{◌≡◌, ◌++◌, drop}
 use Rattle.jc_infer.specs.Steps.{unknown}
 use Rattle.jc_infer.proofs.answering.unknown.Given as goal
 

@@ -1,4 +1,4 @@
-use Rattle.std.proofs.Common.{◌≡◌, ◌++◌, drop, map, take}
+use Rattle.std.proofs.Common.{◌≡◌, ◌++◌, drop}
 use Rattle.jc_infer.specs.Steps.{standing_so}
 use Rattle.jc_infer.proofs.collecting.standing_so.Given as goal
 
