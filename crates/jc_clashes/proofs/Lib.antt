@@ -1,5 +1,6 @@
 pub mod Alike
 pub mod Grown
 pub mod Lists
+pub mod Marked
 pub mod Plain
 pub mod Told

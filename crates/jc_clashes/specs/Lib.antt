@@ -1,3 +1,4 @@
 pub mod Shapes
 pub mod Clashing
 pub mod Stage
+pub mod Clear

@@ -3,6 +3,7 @@
 #![tactic(auto)]
 
 mod clashing;
+mod clear;
 mod places;
 mod shapes;
 mod stage;

@@ -1,0 +1,157 @@
+//! Classes that have no method of certain names, nor any class above them: nothing is asked of these.
+ghost use Rattle.std.specs.Prelude.{◌≡◌, ◌||◌, ℕ, true, IfOk, length, not};
+ghost use Rattle.jc_clashes.specs.Clear.{AreClear, all_apart, all_clear, class_clear, is_clear, keeps_clear, none_clear, stays_from};
+ghost use Rattle.jc_judge.specs.Kinds.{class_of};
+
+use crate::shapes::Shape;
+use jc_members::owner;
+use jc_rules::{Items, WantOfMemory};
+use jc_sub::class_of;
+use jc_types::{ClassId, Table, Ty, class_supers};
+use std::alloc::Global;
+
+/// Whether a class is marked.
+pub fn is_clear(marks: &[bool], class: u64) -> bool
+    ensures { result ≡ is_clear marks.now class }
+{
+    match marks.get(class as usize) {
+        Some(mark) => *mark,
+        None => false,
+    }
+}
+
+fn class_clear(marks: &[bool], t: &Ty) -> bool
+    ensures { result ≡ class_clear marks.now (class_of t.now) }
+{
+    match class_of(t) {
+        Some(k) => is_clear(marks, k.0),
+        None => false,
+    }
+}
+
+fn all_clear(marks: &[bool], types: &[Ty]) -> bool
+    ensures { result ≡ all_clear marks.now types.now }
+{
+    let mut rest = types;
+    while let [t, more @ ..] = rest {
+        if !class_clear(marks, t) {
+            return false;
+        }
+        rest = more;
+    }
+    true
+}
+
+#[tactic(auto, unfolding(crate::specs::Clear::keeps_clear))]
+fn keeps_clear(table: &Table, marks: &[bool], class: u64) -> bool
+    ensures { result ≡ keeps_clear table.now marks.now class }
+{
+    !is_clear(marks, class) || all_clear(marks, class_supers(table, ClassId(class)))
+}
+
+// Whether the supertypes of each marked class are of marked classes.
+fn stay_clear(table: &Table, marks: &[bool]) -> bool
+    ensures { result ≡ stays_from table.now marks.now 0 (length marks.now) }
+{
+    for number in 0..marks.len() {
+        let keeps = keeps_clear(table, marks, number as u64);
+        if !keeps {
+            return false;
+        }
+    }
+    true
+}
+
+fn none_clear(table: &Table, marks: &[bool], group: &[Shape]) -> bool
+    ensures { result ≡ none_clear table.now marks.now group.now }
+{
+    let mut rest = group;
+    while let [s, more @ ..] = rest {
+        if is_clear(marks, owner(table, s.id).0) {
+            return false;
+        }
+        rest = more;
+    }
+    true
+}
+
+// Whether no class of these methods is marked.
+fn all_apart(table: &Table, marks: &[bool], groups: &[Items<Shape>]) -> bool
+    ensures { result ≡ all_apart table.now marks.now groups.now }
+{
+    let mut rest = groups;
+    while let [group, more @ ..] = rest {
+        if !none_clear(table, marks, group.slice()) {
+            return false;
+        }
+        rest = more;
+    }
+    true
+}
+
+fn unmark(marks: &mut Vec<bool>, class: u64) {
+    if let Some(mark) = marks.get_mut(class as usize) {
+        *mark = false;
+    }
+}
+
+// Marks for all classes but those of these methods.
+fn first_marks(
+    alloc: Global,
+    table: &Table,
+    groups: &[Items<Shape>],
+) -> Result<Vec<bool>, WantOfMemory> {
+    let mut marks = Vec::new(alloc);
+    for _class in 0..table.classes.len() {
+        marks.push(true)?;
+    }
+    for group in groups {
+        for s in group.slice() {
+            unmark(&mut marks, owner(table, s.id).0);
+        }
+    }
+    Ok(marks)
+}
+
+// Takes the marks from classes that have one above that isn't marked, and tells whether there was such a class.
+fn spread(table: &Table, marks: &mut Vec<bool>) -> bool {
+    let mut was_there = false;
+    for number in 0..marks.len() {
+        if !keeps_clear(table, marks.as_slice(), number as u64) {
+            unmark(marks, number as u64);
+            was_there = true;
+        }
+    }
+    was_there
+}
+
+// Marks that may be right: a class stands mostly behind those above it, and then the second turn finds nothing.
+fn likely_marks(
+    alloc: Global,
+    table: &Table,
+    groups: &[Items<Shape>],
+) -> Result<Items<bool>, WantOfMemory> {
+    let mut marks = first_marks(alloc, table, groups)?;
+    for _turn in 0..table.classes.len() {
+        if !spread(table, &mut marks) {
+            break;
+        }
+    }
+    Ok(Items::of(marks))
+}
+
+/// Marks for classes that have none of these methods, nor any class above them.
+#[tactic(auto, using(crate::proofs::Marked::none_marked))]
+pub fn clear_marks(
+    alloc: Global,
+    table: &Table,
+    groups: &[Items<Shape>],
+) -> Result<Items<bool>, WantOfMemory>
+    ensures { IfOk result (λ marks. AreClear table.now marks groups.now) }
+{
+    let marks = likely_marks(alloc, table, groups)?;
+    if stay_clear(table, marks.slice()) && all_apart(table, marks.slice(), groups) {
+        return Ok(marks);
+    }
+    Ok(Items::new(alloc))
+}
