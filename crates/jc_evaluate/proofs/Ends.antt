@@ -1,6 +1,6 @@
 -- How a run ends: the units of its node, and what holds of the outcome that a result stands for.
 use Rattle.std.proofs.Common.{◌≡◌, ℕ, zero, suc, ◌-◌, ◌<◌, Result, Ok, Err, refl, subst, sym, arith}
-use Rattle.jc_running.specs.Outcomes.{Out, Val, Thrown, Exited, Going, Wrong, spend}
+use Rattle.jc_running.specs.Outcomes.{Out, Going, spend}
 use Rattle.jc_meaning.specs.Kept.{TypedState, TypedRun}
 use Rattle.jc_values.specs.declared.halt.Halt.{Halt}
 use Rattle.jc_values.specs.declared.halt.Halt.TheVariants as halt

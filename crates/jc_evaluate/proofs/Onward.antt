@@ -9,11 +9,10 @@ use Rattle.jc_values.specs.declared.halt.Halt.{Halt}
 use Rattle.jc_values.specs.declared.halt.Halt.TheVariants as halt
 use Rattle.jc_values.specs.declared.halt.Running.{Running}
 use Rattle.jc_pending.specs.Frames.{Rest, all_to_do, at_the_end, begun, entry_to_do, left_to_do}
-use Rattle.jc_pending.specs.Leads.{Coherent, GivenLeads, HaltLeads, Leads, given_on}
+use Rattle.jc_pending.specs.Leads.{Coherent, GivenLeads, HaltLeads, Leads}
 use Rattle.jc_pending.specs.Level.{nodes_of}
 use Rattle.jc_pending.specs.declared.todo.Entry.{Entry}
 use Rattle.jc_pending.specs.declared.todo.Given.{Given}
-use Rattle.jc_pending.specs.declared.todo.Given.TheVariants as g
 use Rattle.jc_pending.specs.declared.todo.Level.{Level}
 use Rattle.jc_pending.specs.declared.todo.Next.{Next}
 use Rattle.jc_pending.specs.declared.todo.Task.{Task}

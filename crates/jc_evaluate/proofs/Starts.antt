@@ -4,7 +4,7 @@ use Rattle.jc_types.specs.declared.ids.ClassId.{ClassId}
 use Rattle.jc_types.specs.declared.ids.MethodId.{MethodId}
 use Rattle.jc_types.specs.declared.form.Ty.{Ty}
 use Rattle.jc_running.specs.declared.value.Value.{Value}
-use Rattle.jc_running.specs.Outcomes.{Out, Going, behind, leave, node}
+use Rattle.jc_running.specs.Outcomes.{Going, behind, leave, node}
 use Rattle.jc_typed.specs.declared.program.TypedProgram.{TypedProgram}
 use Rattle.jc_meaning.specs.Kept.{TypedState, TypedRun}
 use Rattle.jc_meaning.specs.Meaning.{meaning}

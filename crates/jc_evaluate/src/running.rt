@@ -85,8 +85,8 @@ fn seen_from(
     shown(alloc, program, run, outcome)
 }
 
-/// What a run of a static method without parameters shows with that many units on an input (JLS 12.4, 14, 15). None where the
-/// program is none that a check accepted.
+/// What a run of a static method without parameters shows with that many units on an input (JLS 12.4, 14, 15). None where it goes
+/// wrong, which no checked program is to do.
 pub fn evaluate(
     alloc: Global,
     program: &TypedProgram,

@@ -10,8 +10,9 @@ returns-in-Thrown c = λ k coherent w h. leads_on c.args.program.now c.args.node
     (halt_is (left_to_do c.args.program.now c.args.nodes.now c.args.depth c.args.todo k) c.args.halt (halt.Thrown c.in-Thrown.address) c.args.run.now w c.in-Thrown.is h) (c.thrown.ensures k coherent)
 
 pub returns-in-Exited : goal.returns-in-Exited
-returns-in-Exited c = λ k coherent w h. step_is c.args.program.now c.args.nodes.now c.args.depth k (Err c.args.halt) c.passed.result c.args.run.now w (sym c.passed.ensures)
-    (halt_passes c.args.program.now c.args.nodes.now c.args.depth k coherent c.args.todo c.args.halt c.args.run.now w (λ a e. cc (e, c.in-Exited.is)) h)
+returns-in-Exited c = λ k coherent w h. step_is c.args.program.now c.args.nodes.now c.args.depth k (Err (halt.Exited c.in-Exited._code)) c.passed.result c.args.run.now w (sym c.passed.ensures)
+    (halt_passes c.args.program.now c.args.nodes.now c.args.depth k coherent c.args.todo (halt.Exited c.in-Exited._code) c.args.run.now w (λ a e. cc e)
+    (halt_is (left_to_do c.args.program.now c.args.nodes.now c.args.depth c.args.todo k) c.args.halt (halt.Exited c.in-Exited._code) c.args.run.now w c.in-Exited.is h))
 
 pub returns-in-Going : goal.returns-in-Going
 returns-in-Going c = λ k coherent w h. step_is c.args.program.now c.args.nodes.now c.args.depth k (Err c.args.halt) c.passed-in-Going.result c.args.run.now w (sym c.passed-in-Going.ensures)
