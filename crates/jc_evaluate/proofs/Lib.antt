@@ -1,0 +1,3 @@
+pub mod Onward
+pub mod Ends
+pub mod Starts
