@@ -6,7 +6,7 @@ use Rattle.std.specs.Prelude.{IsTrue, is_some, slice_get}
 use Rattle.std.specs.declared.option.Option.{Option}
 use Rattle.std.specs.declared.option.Option.TheVariants.{Some, None}
 use Rattle.jc_class_out.specs.declared.model.ClassModel.{ClassModel}
-use Rattle.jc_jvm.specs.Calls.{Step, named, name_made, native_call, stuck}
+use Rattle.jc_jvm.specs.Calls.{named, name_made, native_call, stuck}
 use Rattle.jc_jvm.specs.Frames.{with_values}
 use Rattle.jc_jvm.specs.Stacked.{Stacked}
 use Rattle.jc_jvm.specs.Types.{name_of_shape, shape_of_cell}
@@ -16,7 +16,7 @@ use Rattle.jc_jvm.specs.declared.frame.Frame.{Frame}
 use Rattle.jc_jvm.specs.declared.frame.Waiting.{Waiting}
 use Rattle.jc_jvm.specs.declared.value.Shape.{Shape}
 use Rattle.jc_jvm.specs.declared.value.Value.{Value}
-use Rattle.jc_jvm.specs.declared.value.Value.TheVariants.{Whole, Long, Address, NullValue}
+use Rattle.jc_jvm.specs.declared.value.Value.TheVariants.{Whole, Address}
 use Rattle.jc_jvm.specs.declared.world.Native.{Native}
 use Rattle.jc_jvm.specs.declared.world.Native.TheVariants as native
 use Rattle.jc_jvm.specs.declared.world.World.{World}

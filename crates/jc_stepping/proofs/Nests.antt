@@ -1,15 +1,13 @@
 -- The lengths of multianewarray, from the top and from the bottom.
-use Rattle.std.proofs.Common.{◌≡◌, ◌≤◌, ◌<◌, ◌+◌, ◌∙◌, [], ◌∷◌, ◌++◌, ℕ, zero, suc, Bool, true, false, ◌&&◌, List, ap, arith, length, nat_le, refl, reverse, sym, take, if◌then◌else◌}
+use Rattle.std.proofs.Common.{◌≡◌, ◌≤◌, ◌<◌, ◌∙◌, [], ◌∷◌, ◌++◌, ℕ, zero, suc, Bool, true, false, ◌&&◌, List, ap, arith, length, refl, reverse, sym, take, if◌then◌else◌}
 use Rattle.std.proofs.lemmas.List.{reverse-append}
 use Rattle.std.specs.List.{list_all}
 use Rattle.std.specs.Option.{option_map}
-use Rattle.std.specs.Prelude.{IsTrue, ℤ, pos, negsuc, is_some}
+use Rattle.std.specs.Prelude.{ℤ, pos, negsuc, is_some}
 use Rattle.std.specs.declared.option.Option.{Option}
 use Rattle.std.specs.declared.option.Option.TheVariants.{Some, None}
-use Rattle.jc_class_out.specs.declared.model.ClassModel.{ClassModel}
 use Rattle.jc_jvm.specs.Frames.{Fails, throws}
-use Rattle.jc_jvm.specs.Objects.{Act_in, arrays_made, lengths_on, naturals, nest_by, nest_made}
-use Rattle.jc_jvm.specs.Types.{shallower}
+use Rattle.jc_jvm.specs.Objects.{lengths_on, naturals, nest_by, nest_made}
 use Rattle.jc_jvm.specs.declared.frame.Frame.{Frame}
 use Rattle.jc_jvm.specs.declared.value.Shape.{Shape}
 use Rattle.jc_jvm.specs.declared.value.Value.{Value}
@@ -17,8 +15,7 @@ use Rattle.jc_jvm.specs.declared.value.Value.TheVariants.{Whole, Long, Address, 
 use Rattle.jc_jvm.specs.declared.world.Fault.TheVariants.{NegativeArraySize}
 use Rattle.jc_jvm.specs.declared.world.World.{World}
 use Rattle.jc_stepping.specs.Lengths.{is_length, is_natural_length}
-use Rattle.jc_stepping.specs.Makes.{array_makes_by, is_natural, naturals_among, nest_makes}
-use Rattle.jc_waiting.specs.Memory.{fault_makes}
+use Rattle.jc_stepping.specs.Makes.{is_natural, naturals_among}
 
 -- ---- from the top
 

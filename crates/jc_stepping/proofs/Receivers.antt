@@ -1,8 +1,8 @@
 -- Calls on an object, by the first of their arguments.
 use Rattle.std.proofs.Common.{◌≡◌, ◌∙◌, [], ◌∷◌, ℕ, List, ap, refl, sym}
-use Rattle.std.specs.Prelude.{Bool, true, false, option_and_then, slice_get}
+use Rattle.std.specs.Prelude.{Bool, false, option_and_then, slice_get}
 use Rattle.std.specs.declared.option.Option.{Option}
-use Rattle.std.specs.declared.option.Option.TheVariants.{Some, None}
+use Rattle.std.specs.declared.option.Option.TheVariants.{Some}
 use Rattle.jc_class_out.specs.declared.model.ClassModel.{ClassModel}
 use Rattle.jc_jvm.specs.Calls.{Step, called, called_virtually, called_specially, null_pointer, selecting_class, stuck}
 use Rattle.jc_jvm.specs.Classes.{selected}

@@ -1,5 +1,5 @@
 -- Room for a reference on a stack.
-use Rattle.std.proofs.Common.{◌≡◌, ◌<◌, ◌∙◌, ◌+◌, [], ◌∷◌, ℕ, Bool, true, false, List, ap, arith, length, nat_le, refl, reverse, sym, take, if◌then◌else◌}
+use Rattle.std.proofs.Common.{◌≡◌, ◌<◌, ◌∙◌, [], ◌∷◌, ℕ, Bool, true, false, List, ap, arith, length, refl, reverse, sym, take, if◌then◌else◌}
 use Rattle.std.specs.Prelude.{IsTrue, pos, negsuc, slice_get}
 use Rattle.std.specs.declared.option.Option.{Option}
 use Rattle.std.specs.declared.option.Option.TheVariants.{Some, None}
@@ -9,7 +9,7 @@ use Rattle.jc_heap.specs.Strings.{string_place}
 use Rattle.jc_jvm.specs.Calls.{acts, stuck}
 use Rattle.jc_jvm.specs.Frames.{Act, Fails, go_on, pushes, throws}
 use Rattle.jc_jvm.specs.Objects.{array_made, literal_by, literal_made, literal_pushed, object_made}
-use Rattle.jc_jvm.specs.Stacked.{Stacked, pushed, units_in}
+use Rattle.jc_jvm.specs.Stacked.{Stacked, pushed}
 use Rattle.jc_jvm.specs.Worlds.{interned_in, next_address, string_address, with_interned, with_object, with_string}
 use Rattle.jc_jvm.specs.declared.frame.Frame.{Frame}
 use Rattle.jc_jvm.specs.declared.frame.Waiting.{Waiting}

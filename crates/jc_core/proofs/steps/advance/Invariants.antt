@@ -1,4 +1,4 @@
-use Rattle.std.proofs.Common.{◌≡◌, ◌≤◌, ◌<◌, ℕ, List}
+use Rattle.std.proofs.Common.{◌≡◌, ◌≤◌, ℕ, List}
 use Rattle.jc_jvm.specs.Runs.{run_of}
 use Rattle.jc_jvm.specs.Thrown.{Going}
 use Rattle.jc_core.specs.Ran.{told}
