@@ -51,8 +51,9 @@ fn seen_of(alloc: Global, text: &str) -> Read<Option<Seen>> {
 }
 
 fn say_seen(rt: &HostRuntime, seen: Seen) -> io::Result<()> {
-    rt.stdout().write_all(seen.output.slice())?;
-    match seen.ending {
+    let Seen { output, ending, .. } = seen;
+    rt.stdout().write_all(output.slice())?;
+    match ending {
         Ending::Going => println!(rt; "|going"),
         Ending::Ended => println!(rt; "|ended"),
         Ending::Threw(name) => println!(rt; "|threw {}", name.str()),
