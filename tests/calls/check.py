@@ -185,8 +185,7 @@ def main():
         print("skipped: a comparison of calls needs javac")
         return 0
     rng = random.Random(int(os.environ.get("CALLS_SEED", SEED)))
-    conversions.TABLES = TABLES
-    samples = conversions.taken_samples(rng)
+    samples = conversions.taken_samples(rng, TABLES)
     source = types_check.Source()
     for number in range(MOST_MEMBERS):
         source.add(f"class R{number} {{}}")

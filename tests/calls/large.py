@@ -10,6 +10,7 @@ import time
 
 ARGUMENTS = 10000
 OVERLOADS = 2000
+CHAIN = 200
 DEPTH = 64
 JOINED = 1000
 SECONDS = 120
@@ -46,19 +47,23 @@ JOIN = "java.lang.Comparable<+java.lang.Comparable<?>>"
 
 
 def many_overloads():
-    """One name with many members: in a chain of classes, of classes beside one another, and of equal signatures."""
-    chain = ["class L0 : Object"] + [f"class L{number} : L{number - 1}" for number in range(1, OVERLOADS)]
+    """One name with many members: for a tree and a chain of classes, for classes beside one another, with one signature, and generic ones."""
+    tree = ["class L0 : Object"] + [f"class L{number} : L{(number - 1) // 2}" for number in range(1, OVERLOADS)]
+    chain = ["class C0 : Object"] + [f"class C{number} : C{number - 1}" for number in range(1, CHAIN)]
     flat = [f"class F{number} : Object" for number in range(OVERLOADS)]
-    wild = " | ".join(f"fixed : void L{number}" for number in range(OVERLOADS))
-    last = OVERLOADS - 1
-    members = " | ".join(f"fixed : void F{number}" for number in range(OVERLOADS))
+    below_tree = " | ".join(f"fixed : void L{number}" for number in range(OVERLOADS))
+    below_chain = " | ".join(f"fixed : void C{number}" for number in range(CHAIN))
+    beside = " | ".join(f"fixed : void F{number}" for number in range(OVERLOADS))
+    same = " | ".join("fixed : void F0" for _ in range(OVERLOADS))
     generic = " | ".join(f"fixed T : void List<+L{number}> T" for number in range(OVERLOADS))
-    return LIBRARY + chain + flat + ["variable T"], [
-        (f"call : L{last} : | {wild}", f"Chosen {last} subtyping : void"),
-        (f"call : L{last // 2} : | {wild}", f"Chosen {last // 2} subtyping : void"),
-        (f"call : null : | {members}", "Ambiguous 0 1"),
-        (f"call : int : | {members}", "NoneApplicable"),
-        (f"call : List<L{last // 20}> L0 : | {generic}", f"Chosen {last // 20} subtyping L0 : void"),
+    last = OVERLOADS - 1
+    return LIBRARY + tree + chain + flat + ["variable T"], [
+        (f"call : L{last} : | {below_tree}", f"Chosen {last} subtyping : void"),
+        (f"call : C{CHAIN - 1} : | {below_chain}", f"Chosen {CHAIN - 1} subtyping : void"),
+        (f"call : null : | {beside}", "Ambiguous 0 1"),
+        (f"call : F0 : | {same}", "Chosen 0 subtyping : void"),
+        (f"call : int : | {beside}", "NoneApplicable"),
+        (f"call : List<L{last}> L0 : | {generic}", f"Chosen {last} subtyping L0 : void"),
     ]
 
 
@@ -147,7 +152,7 @@ def main():
             print(f"FAIL: no answers on many {name} in {SECONDS} seconds")
             wrong += 1
             continue
-        print(f"{name}: {time.time() - begun:.1f}s")
+        print(f"calls: questions on {name} took {time.time() - begun:.1f} s")
         found += ["no answer"] * (len(questions) - len(found))
         for (question, wanted), answer in zip(questions, found):
             count += 1

@@ -201,8 +201,9 @@ def reason(sample, kind, one, other, answer, report):
     return types_check.reason(sample, "below", one, other, answer, report)
 
 
-def taken_samples(rng):
-    samples = [Sample(rng) for _ in range(TABLES)]
+def taken_samples(rng, tables):
+    """The tables that javac takes, of so many that are made at random."""
+    samples = [Sample(rng) for _ in range(tables)]
     source = types_check.Source()
     spans = []
     for number, sample in enumerate(samples):
@@ -249,7 +250,7 @@ def main():
         print("skipped: a comparison of conversions needs javac")
         return 0
     rng = random.Random(int(os.environ.get("CONVERSIONS_SEED", SEED)))
-    samples = taken_samples(rng)
+    samples = taken_samples(rng, TABLES)
     per_sample = QUESTIONS // max(1, len(samples)) + 12
     source = types_check.Source()
     rows, groups = [], []
