@@ -1,4 +1,5 @@
 pub mod Alike
+pub mod Built
 pub mod Grown
 pub mod Lists
 pub mod Marked

@@ -1,5 +1,5 @@
 -- A marked class has none of the methods.
-use Rattle.std.proofs.Common.{◌≡◌, ◌⊎◌, inl, inr, ℕ, zero, suc, ◌+◌, ◌-◌, ◌<◌, arith, Bool, true, false, not, ◌&&◌, ◌||◌, cond, Option, Some, None, List, [], ◌∷◌, ◌++◌, length, slice_get, add-one, refl, sym, ap, subst, ◌∙◌}
+use Rattle.std.proofs.Common.{◌≡◌, inl, inr, ℕ, zero, suc, ◌+◌, ◌-◌, ◌<◌, arith, Bool, true, false, not, ◌&&◌, ◌||◌, cond, Option, Some, None, List, [], ◌∷◌, ◌++◌, length, add-one, refl, sym, ap, subst, ◌∙◌}
 use Rattle.jc_rules.specs.declared.rule.Place.{Place}
 use Rattle.jc_rules.specs.declared.rule.Refusal.{Refusal}
 use Rattle.jc_types.specs.declared.form.Ty.{Ty}
@@ -11,14 +11,13 @@ use Rattle.jc_types.specs.Accessors.{method_owner_of, supers_of}
 use Rattle.jc_types.specs.Breaks.{least}
 use Rattle.jc_judge.specs.Kinds.{class_at, class_of}
 use Rattle.jc_judge.specs.Supers.{numbered}
-use Rattle.jc_judge.specs.Views.{view}
 use Rattle.jc_overriding.specs.Overriding.{is_inheritable, is_method, is_viewed, or_object, owner, same_class}
 use Rattle.jc_overriding.specs.Viewing.{own_type, view_of_owner}
 use Rattle.jc_members.specs.Climbing.{AllIn, ClassIn, IsClosed, IsNumberIn}
 use Rattle.jc_members.specs.Listing.{has_method}
 use Rattle.jc_members.proofs.Climbed.{outside}
 use Rattle.jc_clashes.specs.declared.shapes.Shape.{Shape}
-use Rattle.jc_clashes.specs.Clashing.{belongs, beside_broken, group_broken, groups_broken, is_member, is_replaced, member_broken}
+use Rattle.jc_clashes.specs.Clashing.{belongs, beside_broken, group_broken, groups_broken, is_replaced}
 use Rattle.jc_clashes.specs.Clear.{AreClear, all_apart, all_clear, class_clear, is_clear, keeps_clear, none_clear, stays_from}
 use Rattle.jc_clashes.proofs.Lists.{and_both, and_false, not_both, not_false}
 

@@ -13,7 +13,7 @@ use Rattle.jc_types.specs.declared.ids.MethodId.{MethodId}
 use Rattle.jc_types.specs.declared.table.Table.{Table}
 use Rattle.jc_types.specs.Accessors.{method_name_of, method_owner_of}
 use Rattle.jc_types.specs.Breaks.{IsOf, LeastOf, least}
-use Rattle.jc_types.proofs.Least.{least_of, told}
+use Rattle.jc_types.proofs.Least.{least_append, least_of, told}
 use Rattle.jc_judge.specs.Kinds.{class_at, class_of}
 use Rattle.jc_judge.specs.Views.{is_class}
 use Rattle.jc_overriding.specs.declared.view.MethodView.{MethodView}
@@ -29,8 +29,9 @@ use Rattle.jc_members.specs.Named.{all_named}
 use Rattle.jc_members.proofs.Remaining.{id_of_view}
 use Rattle.jc_clashes.specs.declared.shapes.Shape.{Shape}
 use Rattle.jc_clashes.specs.Clashing.{belongs, beside_broken, clash_at, class_clashes, group_broken, groups_broken, is_listed, is_member, is_replaced, member_broken, replaces_there, share_some, views_clash}
+use Rattle.jc_clashes.specs.Constructors.{constructors_breaks}
 use Rattle.jc_clashes.specs.Shapes.{below_in, erasures_in, groups, is_plain, shape_of}
-use Rattle.jc_clashes.specs.Stage.{IsFirstClash}
+use Rattle.jc_clashes.specs.Stage.{IsFirstClash, all_clashes}
 use Rattle.jc_clashes.proofs.Lists.{In, and_both, and_true, any_in, as_true, in_any, in_either, in_left, in_right, is_false, is_self, not_both, not_false, number, or_right, own_bytes, same_bytes}
 use Rattle.jc_clashes.proofs.Plain.{all_same, same_erasure, same_plain}
 use Rattle.jc_clashes.proofs.Alike.{IsNamed, Meeting, group_in, group_named, group_told, in_listed, in_named, listed_in, meet_told, meeting_of, named_in, of_shape, plain_name, plain_of, replaces_named, replaces_signed, same_or_below, shape_in}
@@ -532,22 +533,40 @@ module _ (T : Table) where
   class_back : (b : Refusal) (i : ℕ) (c : ClassDecl) → IsOf b (clashes_in T i c) → IsOf b (class_clashes T (groups T) i c)
   class_back b i c m = clash_found T (record { 0 = i }) c.place b (clash_of T (record { 0 = i }) c.place b m)
 
-  least_told : (r : Option Refusal) → r ≡ least None (of_each (class_clashes T (groups T)) 0 T.classes) → LeastOf (λ b. IsOf b (clashes_breaks T)) r
-  least_told r e =
-      told (λ b. IsOf b (of_each (class_clashes T (groups T)) 0 T.classes)) (λ b. IsOf b (clashes_breaks T)) r
-      (λ b m. each_of (class_clashes T (groups T)) (clashes_in T) b (class_there b) 0 T.classes m)
-      (λ b m. each_of (clashes_in T) (class_clashes T (groups T)) b (class_back b) 0 T.classes m)
-      (subst (LeastOf (λ b. IsOf b (of_each (class_clashes T (groups T)) 0 T.classes))) (sym e) (least_of (of_each (class_clashes T (groups T)) 0 T.classes)))
+  abbrev found_clashes : List Refusal
+  found_clashes = of_each (class_clashes T (groups T)) 0 T.classes
 
-  first_of : (r : Option Refusal) → LeastOf (λ b. IsOf b (clashes_breaks T)) r → IsFirstClash T r
-  first_of None h = none (clashes_breaks T) h
+  all_there : (b : Refusal) → IsOf b (found_clashes ++ constructors_breaks T) → IsOf b (all_clashes T)
+  all_there b m = by (of_either b found_clashes (constructors_breaks T) m)
+    where
+      by : IsOf b found_clashes ⊎ IsOf b (constructors_breaks T) → IsOf b (all_clashes T)
+      by (inl m) = of_left b (clashes_breaks T) (constructors_breaks T) (each_of (class_clashes T (groups T)) (clashes_in T) b (class_there b) 0 T.classes m)
+      by (inr m) = of_right b (clashes_breaks T) (constructors_breaks T) m
+
+  all_back : (b : Refusal) → IsOf b (all_clashes T) → IsOf b (found_clashes ++ constructors_breaks T)
+  all_back b m = by (of_either b (clashes_breaks T) (constructors_breaks T) m)
+    where
+      by : IsOf b (clashes_breaks T) ⊎ IsOf b (constructors_breaks T) → IsOf b (found_clashes ++ constructors_breaks T)
+      by (inl m) = of_left b found_clashes (constructors_breaks T) (each_of (clashes_in T) (class_clashes T (groups T)) b (class_back b) 0 T.classes m)
+      by (inr m) = of_right b found_clashes (constructors_breaks T) m
+
+  least_told : (r : Option Refusal) → r ≡ least None (found_clashes ++ constructors_breaks T) → LeastOf (λ b. IsOf b (all_clashes T)) r
+  least_told r e =
+      told (λ b. IsOf b (found_clashes ++ constructors_breaks T)) (λ b. IsOf b (all_clashes T)) r all_there all_back
+      (subst (LeastOf (λ b. IsOf b (found_clashes ++ constructors_breaks T))) (sym e) (least_of (found_clashes ++ constructors_breaks T)))
+
+  first_of : (r : Option Refusal) → LeastOf (λ b. IsOf b (all_clashes T)) r → IsFirstClash T r
+  first_of None h = none (all_clashes T) h
     where
       none : (bs : List Refusal) → ((b : Refusal) → IsOf b bs → ⊥) → bs ≡ []
       none [] h = refl
       none (b ∷ bs) h = absurd (h b (inl refl))
   first_of (Some b) h = h
 
-  pub first_told : (r : Option Refusal) (gs : List (List Shape)) → gs ≡ groups T → r ≡ least None (of_each (class_clashes T gs) 0 T.classes) → IsFirstClash T r
-  first_told r gs e f = first_of r (least_told r (f ∙ ap (λ gs. least None (of_each (class_clashes T gs) 0 T.classes)) e))
+  pub first_told : (r one : Option Refusal) (gs : List (List Shape)) → gs ≡ groups T → one ≡ least None (of_each (class_clashes T gs) 0 T.classes) → r ≡ least one (constructors_breaks T) → IsFirstClash T r
+  first_told r one gs e f g =
+      first_of r
+      (least_told r
+      (g ∙ ap (λ o. least o (constructors_breaks T)) (f ∙ ap (λ gs. least None (of_each (class_clashes T gs) 0 T.classes)) e) ∙ sym (least_append None found_clashes (constructors_breaks T))))
 
 pub ruleset clashes_told = (first_told)

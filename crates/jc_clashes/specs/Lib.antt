@@ -2,3 +2,4 @@ pub mod Shapes
 pub mod Clashing
 pub mod Stage
 pub mod Clear
+pub mod Constructors

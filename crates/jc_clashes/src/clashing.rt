@@ -130,7 +130,8 @@ fn is_member(
     Ok(!replaced)
 }
 
-fn is_one(e: &[Ty], fs: &[Items<Ty>]) -> bool
+/// Whether one of these lists of types has the same types.
+pub fn is_one(e: &[Ty], fs: &[Items<Ty>]) -> bool
     ensures { result ≡ list_any (same_all e.now) fs.now }
 {
     let mut rest = fs;

@@ -4,6 +4,7 @@
 
 mod clashing;
 mod clear;
+mod constructors;
 mod places;
 mod shapes;
 mod stage;

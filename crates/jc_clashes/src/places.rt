@@ -8,7 +8,8 @@ use jc_members::{owner, same_class};
 use jc_rules::Place;
 use jc_types::{ClassId, MethodId, Table, method_at};
 
-fn place_or(table: &Table, place: Place, m: MethodId) -> Place
+/// The place of a method.
+pub fn place_or(table: &Table, place: Place, m: MethodId) -> Place
     ensures { result ≡ place_or place (method_place_of table.now m) }
 {
     match method_at(table, m) {

@@ -26,8 +26,8 @@ pub struct Shape {
     pub erasures: Items<Items<Ty>>,
 }
 
-// The erasures of a method's parameters.
-fn erased_params(alloc: Global, table: &Table, m: MethodId) -> Result<Items<Ty>, WantOfMemory>
+/// The erasures of a method's parameters.
+pub fn erased_params(alloc: Global, table: &Table, m: MethodId) -> Result<Items<Ty>, WantOfMemory>
     ensures { IfOk result (λ r. r ≡ erased_params table.now m) }
 {
     let mut out = Items::new(alloc);

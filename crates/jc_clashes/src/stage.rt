@@ -9,6 +9,7 @@ ghost use Rattle.jc_clashes.specs.Stage.{HasNoClash, IsClashesStop, IsFirstClash
 
 use crate::clashing::groups_broken;
 use crate::clear::{clear_marks, is_clear};
+use crate::constructors::constructors_broken;
 use crate::shapes::{Shape, groups};
 use jc_members::{method_index, own_supertypes};
 use jc_rules::{Items, Refusal, Stop, WantOfMemory};
@@ -62,7 +63,8 @@ fn first_clash(alloc: Global, table: &Table) -> Result<Option<Refusal>, WantOfMe
     let index = method_index(alloc, table)?;
     let groups = groups(alloc, table, &index)?;
     let marks = clear_marks(alloc, table, groups.slice())?;
-    classes_broken(alloc, table, groups.slice(), marks.slice())
+    let found = classes_broken(alloc, table, groups.slice(), marks.slice())?;
+    constructors_broken(alloc, table, found)
 }
 
 /// Refuses a table by the first of its clashes.

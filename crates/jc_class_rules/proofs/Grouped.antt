@@ -20,12 +20,13 @@ use Rattle.jc_overriding.specs.Signatures.{is_erasure, override_equivalent, same
 use Rattle.jc_overriding.specs.Viewing.{class_view, is_static, own_type, view_of_method}
 use Rattle.jc_header_rules.specs.Inheriting.{agreement, agreements, all_members, disagrees, meets, meets_body, members_disagree, one_stands, stands_for_all, with_body}
 use Rattle.jc_header_rules.specs.Results.{result_answer}
-use Rattle.jc_members.specs.Listing.{candidate_ids, remaining_ids, replaced_by, views_of}
+use Rattle.jc_members.specs.Below.{replaces}
+use Rattle.jc_members.specs.Listing.{candidate_ids, remaining_ids, remaining_in, replaced_by, views_of}
 use Rattle.jc_members.specs.Named.{all_named, named_from}
 use Rattle.jc_members.proofs.Remaining.{id_of_view, members_told}
 use Rattle.jc_members.proofs.Replacing.{hides_told, overrides_told, own_below}
 use Rattle.jc_members.proofs.Standing.{unnamed}
-use Rattle.jc_class_rules.specs.Grouping.{all_answers, all_from, disagrees_some, first_is, firsts, firsts_from, fitting, is_first, meets_badly, name_agrees, no_if, one_at, stands_at}
+use Rattle.jc_class_rules.specs.Grouping.{all_answers, all_covered, all_from, are_covered, disagrees_some, first_is, firsts, firsts_from, fitting, is_first, meets_badly, is_covered, name_agrees, no_if, one_at, own_ids, own_replaces, stands_at}
 use Rattle.jc_class_rules.proofs.Joined.{all_told, both_assoc, both_comm, both_self}
 
 -- ---- lists
@@ -489,6 +490,130 @@ pub few_agree : (T : Table) (k : ClassId) (m : MethodId) (t : Ty) (ids : List Me
 unfolding name_agrees
 few_agree T k m t ids own e lt =
     sym (ap (λ ms. all_answers (fitting T k ms) ms) (members_by T k m t ids own e) ∙ few_views T k (views_of T t (remaining_ids T (candidate_ids T t ids))) (few_left T t (candidate_ids T t ids) lt))
+
+-- ---- no member that is inherited
+
+module _ (T : Table) (k : ClassId) where
+  meets_nothing : (v w : MethodView) → same_class (owner T v.id) k ≡ true → meets T k v w ≡ false
+  meets_nothing v w e = by (not (v.id.0 == w.id.0)) (not (same_class (owner T w.id) k)) (override_equivalent T v w) (same_class (owner T v.id) k) e
+    where
+      none : (a : Bool) → (a && false) ≡ false
+      none true = refl
+      none false = refl
+
+      by : (a b c d : Bool) → d ≡ true → (a && not d && b && c) ≡ false
+      by a b c true e = ap (λ x. x && b && c) (none a)
+      by a b c false e = cc
+
+  stands_own : (v : MethodView) → same_class (owner T v.id) k ≡ true → (ms : List MethodView) → stands_for_all T k v ms ≡ Yes
+  stands_own v e [] = refl
+  stands_own v e (w ∷ ws) = ap (λ b. both (cond b (result_answer T v w) Yes) (stands_for_all T k v ws)) (meets_nothing v w e) ∙ stands_own v e ws
+
+  any_own : (f : MethodView → Bool) (v : MethodView) → same_class (owner T v.id) k ≡ true → (ms : List MethodView) → list_any (λ w. meets T k v w && f w) ms ≡ false
+  any_own f v e [] = refl
+  any_own f v e (w ∷ ws) = ap (λ b. (b && f w) || list_any (λ w. meets T k v w && f w) ws) (meets_nothing v w e) ∙ any_own f v e ws
+
+  fitting_own : (ms : List MethodView) (v : MethodView) → same_class (owner T v.id) k ≡ true → fitting T k ms v ≡ Yes
+  unfolding fitting meets_badly
+  fitting_own ms v e =
+      ap (λ b. both (no_if b) (agreement T k ms v)) (any_own (disagrees T v) v e ms)
+      ∙ ap (λ a. cond (with_body T v) a (cond (meets_body T k v ms) Yes (either a (one_stands T k v ms ms)))) (stands_own v e ms)
+      ∙ ap (λ b. cond (with_body T v) Yes (cond b Yes Yes)) (any_own (with_body T) v e ms) ∙ yes (with_body T v)
+    where
+      yes : (b : Bool) → cond b Yes Yes ≡ Yes
+      yes true = refl
+      yes false = refl
+
+  all_own : (ms vs : List MethodView) → ((v : MethodView) → In v vs → same_class (owner T v.id) k ≡ true) → all_answers (fitting T k ms) vs ≡ Yes
+  all_own ms [] h = refl
+  all_own ms (v ∷ vs) h = ap (λ a. both a (all_answers (fitting T k ms) vs)) (fitting_own ms v (h v (inl refl))) ∙ all_own ms vs (λ w m. h w (inr m))
+
+  viewed_of : (t : Ty) (ids : List MethodId) (v : MethodView) → In v (views_of T t ids) → In v.id ids
+  viewed_of t [] v m = m
+  viewed_of t (i ∷ ids) v m = by (view_of_method T t i) refl (in_either v (option_to_list (view_of_method T t i)) (views_of T t ids) m) (λ m. viewed_of t ids v m)
+    where
+      by : (o : Option MethodView) → view_of_method T t i ≡ o → In v (option_to_list o) ⊎ In v (views_of T t ids) → (In v (views_of T t ids) → In v.id ids) → In v.id (i ∷ ids)
+      by (Some w) e (inl (inl is)) h = inl (ap (λ (u : MethodView). u.id) is ∙ id_of_view T t i w e)
+      by (Some w) e (inl (inr m)) h = absurd m
+      by None e (inl m) h = absurd m
+      by (Some w) e (inr m) h = inr (h m)
+      by None e (inr m) h = inr (h m)
+
+  kept_of : (all ids : List MethodId) (m : MethodId) → In m (remaining_in T all ids) → In m ids × (replaced_by T m all ≡ false)
+  kept_of all [] m h = absurd h
+  kept_of all (i ∷ ids) m h = by (replaced_by T i all) refl (in_either m (cond (replaced_by T i all) [] (i ∷ [])) (remaining_in T all ids) h) (λ h. kept_of all ids m h)
+    where
+      by : (b : Bool) → replaced_by T i all ≡ b → In m (cond b [] (i ∷ [])) ⊎ In m (remaining_in T all ids) → (In m (remaining_in T all ids) → In m ids × (replaced_by T m all ≡ false)) → In m (i ∷ ids) × (replaced_by T m all ≡ false)
+      by true e (inl h) g = absurd h
+      by false e (inl (inl is)) g = (inl is, ap (λ j. replaced_by T j all) is ∙ e)
+      by false e (inl (inr h)) g = absurd h
+      by true e (inr h) g = let rest = g h in (inr rest.0, rest.1)
+      by false e (inr h) g = let rest = g h in (inr rest.0, rest.1)
+
+  replaced_of : (m w : MethodId) (all : List MethodId) → In w all → replaces T w m ≡ true → replaced_by T m all ≡ true
+  replaced_of m w [] h e = absurd h
+  replaced_of m w (i ∷ all) (inl is) e = ap (λ b. b || replaced_by T m all) (ap (λ j. replaces T j m) (sym is) ∙ e)
+  replaced_of m w (i ∷ all) (inr h) e = ap (λ b. replaces T i m || b) (replaced_of m w all h e) ∙ or_true (replaces T i m)
+    where
+      or_true : (a : Bool) → (a || true) ≡ true
+      or_true true = refl
+      or_true false = refl
+
+  own_of : (ids : List MethodId) (w : MethodId) → In w (own_ids T k ids) → In w ids
+  own_of [] w h = h
+  own_of (i ∷ ids) w h = by (same_class (owner T i) k) (in_either w (cond (same_class (owner T i) k) (i ∷ []) []) (own_ids T k ids) h) (λ h. own_of ids w h)
+    where
+      by : (b : Bool) → In w (cond b (i ∷ []) []) ⊎ In w (own_ids T k ids) → (In w (own_ids T k ids) → In w ids) → In w (i ∷ ids)
+      by true (inl (inl is)) g = inl is
+      by true (inl (inr h)) g = absurd h
+      by false (inl h) g = absurd h
+      by true (inr h) g = inr (g h)
+      by false (inr h) g = inr (g h)
+
+  one_replaces : (m : MethodId) (own all : List MethodId) → ((w : MethodId) → In w own → In w all) → list_any (own_replaces T k m) own ≡ true → replaced_by T m all ≡ true
+  unfolding own_replaces
+  one_replaces m [] all sub e = cc
+  one_replaces m (w ∷ own) all sub e = by (same_class (owner T w) k) (replaces T w m) refl (λ e. one_replaces m own all (λ u h. sub u (inr h)) e) e
+    where
+      by : (a b : Bool) → replaces T w m ≡ b → (list_any (own_replaces T k m) own ≡ true → replaced_by T m all ≡ true) → ((a && b) || list_any (own_replaces T k m) own) ≡ true → replaced_by T m all ≡ true
+      by true true f g e = replaced_of m w all (sub w (inl refl)) f
+      by true false f g e = g e
+      by false b f g e = g e
+
+  covered_at : (own ids : List MethodId) (m : MethodId) → In m ids → all_covered T k own ids ≡ true → is_covered T k own m ≡ true
+  covered_at own [] m h e = absurd h
+  covered_at own (i ∷ ids) m (inl is) e = ap (is_covered T k own) is ∙ first (is_covered T k own i) (all_covered T k own ids) e
+    where
+      first : (a b : Bool) → (a && b) ≡ true → a ≡ true
+      first true b e = refl
+      first false b e = cc
+  covered_at own (i ∷ ids) m (inr h) e = covered_at own ids m h (second (is_covered T k own i) (all_covered T k own ids) e)
+    where
+      second : (a b : Bool) → (a && b) ≡ true → b ≡ true
+      second true b e = e
+      second false b e = cc
+
+  left_own : (all : List MethodId) (m : MethodId) → are_covered T k all ≡ true → In m (remaining_ids T all) → same_class (owner T m) k ≡ true
+  unfolding is_covered
+  left_own all m e h =
+      let kept = kept_of all all m h in
+      by (same_class (owner T m) k) (list_any (own_replaces T k m) (own_ids T k all)) refl (covered_at (own_ids T k all) all m kept.0 e) kept.1
+    where
+      by : (a b : Bool) → list_any (own_replaces T k m) (own_ids T k all) ≡ b → (a || b) ≡ true → replaced_by T m all ≡ false → a ≡ true
+      by true b f e out = refl
+      by false true f e out = let g : replaced_by T m all ≡ true = one_replaces m (own_ids T k all) all (λ w h. own_of all w h) f in cc
+      by false false f e out = e
+
+pub covered_agree : (T : Table) (k : ClassId) (m : MethodId) (t : Ty) (ids all : List MethodId) → t ≡ own_type T k → ids ≡ all_named T (method_name_of T m) → all ≡ candidate_ids T t ids
+    → are_covered T k all ≡ true → Yes ≡ name_agrees T k m
+unfolding name_agrees
+covered_agree T k m t ids all own e is covered =
+    let left = views_of T t (remaining_ids T (candidate_ids T t ids)) in
+    let holds : are_covered T k (candidate_ids T t ids) ≡ true = ap (are_covered T k) (sym is) ∙ covered in
+    sym (ap (λ ms. all_answers (fitting T k ms) ms) (members_by T k m t ids own e)
+    ∙ all_own T k left left (λ v h. left_own T k (candidate_ids T t ids) v.id holds (viewed_of T k t (remaining_ids T (candidate_ids T t ids)) v h)))
+
+pub ruleset agree_early = (few_agree, covered_agree)
 
 pub name_told : (T : Table) (k : ClassId) (m : MethodId) (t : Ty) (ids : List MethodId) (vs : List MethodView) (r : Answer)
     → t ≡ own_type T k → ids ≡ all_named T (method_name_of T m) → vs ≡ views_of T t (remaining_ids T (candidate_ids T t ids)) → r ≡ all_from (fitting T k vs) Yes vs → r ≡ name_agrees T k m

@@ -1,5 +1,5 @@
 -- The members of a class, name by name: whether they agree (JLS 8.4.8.4, 9.4.1).
-use Rattle.std.specs.Prelude.{ℕ, zero, suc, ◌==◌, Bool, false, cond, ◌&&◌, List, [], ◌∷◌, ◌++◌, length}
+use Rattle.std.specs.Prelude.{ℕ, zero, suc, ◌==◌, Bool, true, false, cond, ◌&&◌, ◌||◌, List, [], ◌∷◌, ◌++◌, length}
 use Rattle.std.specs.List.{list_any}
 use Rattle.jc_types.specs.declared.ids.ClassId.{ClassId}
 use Rattle.jc_types.specs.declared.ids.MethodId.{MethodId}
@@ -9,10 +9,11 @@ use Rattle.jc_judge.specs.declared.question.Answer.{Answer}
 use Rattle.jc_judge.specs.declared.question.Answer.TheVariants.{Yes, No}
 use Rattle.jc_judge.specs.Trees.{both, either}
 use Rattle.jc_overriding.specs.declared.view.MethodView.{MethodView}
-use Rattle.jc_overriding.specs.Overriding.{members}
+use Rattle.jc_overriding.specs.Overriding.{members, owner, same_class}
 use Rattle.jc_overriding.specs.Viewing.{own_type}
 use Rattle.jc_header_rules.specs.Inheriting.{agreement, disagrees, meets, stands_for_all, with_body}
 use Rattle.jc_header_rules.specs.Results.{result_answer}
+use Rattle.jc_members.specs.Below.{replaces}
 use Rattle.jc_members.specs.Named.{all_named}
 
 -- the answer where all of these hold
@@ -75,3 +76,26 @@ firsts_from T i (suc n) = cond (is_first T (record { 0 = i })) (record { 0 = i }
 
 abbrev pub firsts : Table → List MethodId
 firsts T = firsts_from T 0 (length T.methods)
+
+-- ---- names whose inherited methods are all overridden or hidden
+
+-- of these methods those that the class declares
+abbrev pub own_ids : Table → ClassId → List MethodId → List MethodId
+own_ids T k [] = []
+own_ids T k (m ∷ ms) = cond (same_class (owner T m) k) (m ∷ []) [] ++ own_ids T k ms
+
+-- method w of the class overrides or hides method m
+unfoldable pub own_replaces : Table → ClassId → MethodId → MethodId → Bool
+own_replaces T k m w = same_class (owner T w) k && replaces T w m
+
+-- the class declares a method, or one of these methods of it overrides or hides that
+unfoldable pub is_covered : Table → ClassId → List MethodId → MethodId → Bool
+is_covered T k own m = same_class (owner T m) k || list_any (own_replaces T k m) own
+
+abbrev pub all_covered : Table → ClassId → List MethodId → List MethodId → Bool
+all_covered T k own [] = true
+all_covered T k own (m ∷ ms) = is_covered T k own m && all_covered T k own ms
+
+-- no method is left that the class inherits
+abbrev pub are_covered : Table → ClassId → List MethodId → Bool
+are_covered T k ids = all_covered T k (own_ids T k ids) ids

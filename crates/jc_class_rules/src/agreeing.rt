@@ -155,6 +155,9 @@ fn abstract_agreement(
     ensures { IfOk result (λ r. r ≡ either (stands_for_all table.now k v.now members.now) (one_stands table.now k v.now members.now members.now)) }
 {
     let own = stands_for_all(alloc, table, k, v, members)?;
+    if let Answer::Yes = own {
+        return Ok(Answer::Yes);
+    }
     let one = one_stands(alloc, table, k, v, members)?;
     Ok(either(own, one))
 }

@@ -6,6 +6,7 @@ ghost use Rattle.jc_members.specs.Supertypes.{IsSupertypes};
 ghost use Rattle.jc_class_rules.specs.Grouping.{all_from, first_is, firsts, is_first, name_agrees};
 
 use crate::agreeing::{both, members_agree};
+use crate::covering::are_covered;
 use jc_judge::Answer;
 use jc_members::{MethodIndex, Supertypes, candidate_ids, remaining_ids, views_of};
 use jc_rules::{Items, WantOfMemory};
@@ -61,7 +62,7 @@ pub fn firsts(
 }
 
 // Whether the members of the name of method m agree in a class, of which these are the supertypes.
-#[tactic(auto, using(crate::proofs::Grouped::few_agree))]
+#[tactic(auto, using(crate::proofs::Grouped::agree_early))]
 fn name_agrees(
     alloc: Global,
     table: &Table,
@@ -78,6 +79,9 @@ fn name_agrees(
     let ids = index.named(method_name(table, m));
     let candidates = candidate_ids(alloc, table, above, ids)?;
     if candidates.len() < 2 {
+        return Ok(Answer::Yes);
+    }
+    if are_covered(alloc, table, above, k, candidates.slice())? {
         return Ok(Answer::Yes);
     }
     let remaining = remaining_ids(alloc, table, candidates.slice())?;

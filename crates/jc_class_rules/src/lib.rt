@@ -4,6 +4,7 @@
 mod agreeing;
 mod classes;
 mod climbing;
+mod covering;
 mod direct;
 mod grouping;
 mod leaving;

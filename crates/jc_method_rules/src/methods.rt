@@ -19,7 +19,7 @@ use jc_members::{
     owner, signature_below,
 };
 use jc_rules::{Place, Refusal, Rule, WantOfMemory};
-use jc_types::{MethodDecl, MethodId, MethodKind, Table, Ty, TypePlaces};
+use jc_types::{ClassId, MethodDecl, MethodId, MethodKind, Table, Ty, TypePlaces};
 use std::alloc::Global;
 
 // What method m breaks beside each of these.
@@ -210,21 +210,43 @@ fn method_broken_in(
     Ok(last)
 }
 
+// The supertypes of class k: the last ones, where they are those of it.
+fn supertypes_or(
+    alloc: Global,
+    table: &Table,
+    last: Supertypes,
+    of: ClassId,
+    k: ClassId,
+) -> Result<Supertypes, WantOfMemory>
+    requires known { IsSupertypes table.now last }
+    requires own { last.of ≡ own_type table.now of }
+    ensures known { IfOk result (λ s. IsSupertypes table.now s) }
+    ensures own { IfOk result (λ s. s.of ≡ own_type table.now k) }
+{
+    if of.0 == k.0 {
+        return Ok(last);
+    }
+    own_supertypes(alloc, table, k)
+}
+
+// What a method breaks, of which these are its class's supertypes.
 fn method_broken(
     alloc: Global,
     table: &Table,
     index: &MethodIndex,
     found: Option<Refusal>,
+    above: &Supertypes,
     m: MethodId,
     method: &MethodDecl,
 ) -> Result<Option<Refusal>, WantOfMemory>
     requires index { IsMethodIndex table.now index.now }
+    requires known { IsSupertypes table.now above.now }
+    requires own { above.now.of ≡ own_type table.now (owner table.now m) }
     requires at { slice_get table.now.methods m.0 ≡ Some method.now }
     ensures { IfOk result (λ r. r ≡ least found (method_breaks table.now m.0 method.now)) }
 {
-    let above = own_supertypes(alloc, table, owner(table, m))?;
-    let a = method_in(alloc, table, &above, m)?;
-    method_broken_in(alloc, table, index, found, &above, a.as_ref(), m, method)
+    let a = method_in(alloc, table, above, m)?;
+    method_broken_in(alloc, table, index, found, above, a.as_ref(), m, method)
 }
 
 /// The first rule that methods break in the stage of headers, or what was found before.
@@ -238,10 +260,15 @@ pub fn first_methods_break(
     ensures { IfOk result (λ r. r ≡ least found (of_each (method_breaks table.now) 0 table.now.methods)) }
 {
     let mut found = found;
+    let mut of = ClassId(0);
+    let mut above = own_supertypes(alloc, table, of)?;
     let methods = table.methods.slice();
     for number in 0..methods.len() {
         let m = MethodId(number as u64);
-        found = method_broken(alloc, table, index, found, m, &methods[number])?;
+        let k = owner(table, m);
+        above = supertypes_or(alloc, table, above, of, k)?;
+        of = k;
+        found = method_broken(alloc, table, index, found, &above, m, &methods[number])?;
     }
     Ok(found)
 }

@@ -13,5 +13,5 @@ returns c =
     let t = c.args.above.now.of in
     name_told T c.args.k c.args.m t c.named-ids.result.now c.in_ok-views.views c.in_ok-answer.answer c.requires.own
     (c.named-ids.ensures ∙ ap (ids_in c.args.index.now.names c.args.index.now.groups) c.method_name.ensures ∙ c.requires.index.ids (method_name_of T c.args.m))
-    (c.in_ok-views.ensures ∙ ap (views_of T t) (c.slice-2.ensures ∙ c.in_ok-remaining.ensures ∙ ap (remaining_ids T) (c.slice.ensures ∙ c.in_ok-candidates.ensures)))
-    (c.in_ok-answer.ensures ∙ ap (λ vs. all_from (fitting T c.args.k vs) Yes vs) c.slice-3.ensures)
+    (c.in_ok-views.ensures ∙ ap (views_of T t) (c.slice-3.ensures ∙ c.in_ok-remaining.ensures ∙ ap (remaining_ids T) (c.slice-2.ensures ∙ c.in_ok-candidates.ensures)))
+    (c.in_ok-answer.ensures ∙ ap (λ vs. all_from (fitting T c.args.k vs) Yes vs) c.slice-4.ensures)

@@ -1,8 +1,7 @@
 use Rattle.std.proofs.Common.{ap, ◌∙◌}
-use Rattle.jc_overriding.specs.Viewing.{own_type, view_of_method}
+use Rattle.jc_overriding.specs.Viewing.{view_of_method}
 use Rattle.jc_method_rules.proofs.methods.method_broken.Goals as goal
 
 pub method_broken_in-requires-clause-is : goal.method_broken_in-requires-clause-is
 method_broken_in-requires-clause-is c =
-    let T = c.args.table.now in
-    c.as_ref.ensures.value ∙ c.in_ok-a.ensures ∙ ap (λ t. view_of_method T t c.args.m) c.in_ok-above.ensures.same ∙ ap (λ k. view_of_method T (own_type T k) c.args.m) c.owner.ensures
+    let T = c.args.table.now in c.as_ref.ensures.value ∙ c.in_ok-a.ensures ∙ ap (λ t. view_of_method T t c.args.m) c.requires.own
