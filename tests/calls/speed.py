@@ -1,8 +1,8 @@
 #!/usr/bin/env python3
 """Times the choice of a member: speed.py [ASKS]
 
-Prints the least processor time of five runs of the program that answers questions on types (crates/jc_asks) on 100,000 calls of a name with five members and three
-arguments, and what is left of it without the time of as many questions with the same words that are settled at once, as no member takes their number of arguments. It is a
+Prints the least processor time of three runs of the program that answers questions on types (crates/jc_asks) on 100,000 calls of a name with five members and three
+arguments, and what is left of it without the time of as many questions with one argument more, which no member takes. It is a
 figure and no check: nothing here fails on a slow machine.
 """
 import os
@@ -11,7 +11,7 @@ import subprocess
 import sys
 
 CALLS = 100000
-RUNS = 5
+RUNS = 3
 HEADS = """table
 class java.lang.Number : Object
 interface java.lang.Comparable CT : Object
@@ -43,12 +43,12 @@ GENERIC = [
 CASES = [
     ("a name whose members have no type parameters", PLAIN, "java.lang.String int int", "Chosen 0 subtyping : void"),
     ("a name with generic members", GENERIC, "ArrayList<java.lang.String> java.lang.String int", "Chosen 1 subtyping java.lang.String : List<java.lang.String>"),
-    ("the same, in the second phase", GENERIC, "ArrayList<java.lang.Integer> int java.lang.Integer", None),
+    ("the same with a boxed argument, in the second phase", GENERIC, "ArrayList<java.lang.Integer> int java.lang.Integer", "Ambiguous 1 2"),
 ]
 
 
 def spent(program, question, wanted):
-    """The least time of some runs, and what the program answers."""
+    """The least time of some runs, in which each question has the answer that is wanted."""
     text = HEADS + (question + "\n") * CALLS
     times = []
     for _ in range(RUNS):
@@ -57,9 +57,9 @@ def spent(program, question, wanted):
         after = resource.getrusage(resource.RUSAGE_CHILDREN)
         times.append((after.ru_utime - before.ru_utime) + (after.ru_stime - before.ru_stime))
     answers = set(run.stdout.splitlines()[1:])
-    if wanted is not None and answers != {wanted} or len(answers) != 1:
+    if answers != {wanted}:
         sys.exit(f"FAIL: {question}: {sorted(answers)[:3]}")
-    return min(times), answers.pop()
+    return min(times)
 
 
 def main():
@@ -67,9 +67,9 @@ def main():
     program = sys.argv[1] if len(sys.argv) > 1 else os.path.join(here, "..", "..", "crates", "jc_asks", "out", "jc_asks")
     for name, members, args, wanted in CASES:
         words = " | ".join(members)
-        whole, answer = spent(program, f"call : {args} : | {words}", wanted)
-        reading, _ = spent(program, f"call : {args} {args} {args} {args} : | {words.replace('variable', 'fixed')}", "NoneApplicable")
-        print(f"{CALLS} calls of {name}: {whole:.2f} s in all, {whole - reading:.2f} s without reading ({answer})")
+        whole = spent(program, f"call : {args} : | {words}", wanted)
+        reading = spent(program, f"call : {args} null : | {words.replace('variable', 'fixed')}", "NoneApplicable")
+        print(f"{CALLS} calls of {name}: {whole:.2f} s in all, {whole - reading:.2f} s without reading ({wanted})")
 
 
 if __name__ == "__main__":

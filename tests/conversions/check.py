@@ -296,8 +296,9 @@ def compared(samples, rows, reports, answers):
     if total < LEAST:
         print(f"FAIL: only {total} conversions")
         wrong += 1
-    if reasons.total() > MOST_BY_RULE:
-        print(f"FAIL: {reasons.total()} differences by rules of the profile")
+    by_rule = sum(reasons.values())
+    if by_rule > MOST_BY_RULE:
+        print(f"FAIL: {by_rule} differences by rules of the profile")
         wrong += 1
     for (kind, takes), count in sorted(counts.items()):
         print(f"conversions: {count} of kind {kind} that javac {'takes' if takes else 'refuses'}")
