@@ -1,8 +1,9 @@
 #!/usr/bin/env python3
 """Writes the typed program of a small Java source in the plain text form that jc_eval reads.
 
-The source has no type parameters and no overloads but by the number of arguments or by plain types. The library in lib.java goes
-before it. Usage: typed.py SOURCE [UNITS]"""
+The source has no overloads but by the number of arguments or by plain types. Its classes and methods may have type parameters, no two of
+one name; a wildcard stands for its bound, and a method's type arguments are those of the first parameters that tell them. Where a result or a
+field of a type parameter's type is used as another class, a guard stands. The library in lib.java goes before it. Usage: typed.py SOURCE [UNITS]"""
 import re, sys, os
 
 PRIMS = {'boolean': 'Z', 'byte': 'B', 'short': 'S', 'char': 'C', 'int': 'I', 'long': 'J'}
@@ -22,9 +23,29 @@ def unescape(s):
     return out
 
 
+class Guarded(str):
+    """A type that what was read has only where its class is tested."""
+
+
+def split(args):
+    """The type arguments between commas that stand in none of them."""
+    out, depth = [''], 0
+    for c in args:
+        depth += (c == '<') - (c == '>')
+        if c == ',' and depth == 0: out.append('')
+        else: out[-1] += c
+    return out
+
+
+def base(t): return t.split('<')[0]
+
+
+def args_of(t): return split(t[t.index('<') + 1:-1]) if '<' in t else []
+
+
 class Cls:
-    def __init__(self, name, kind, sup, ifs, final=False):
-        self.name, self.kind, self.sup, self.ifs = name, kind, sup, ifs
+    def __init__(self, name, kind, sup, ifs, vars=()):
+        self.name, self.kind, self.sup, self.ifs, self.vars = name, kind, sup, ifs, list(vars)
         self.fields, self.methods, self.inits, self.sinits = [], [], [], []
 
 
@@ -35,8 +56,9 @@ class Fld:
 
 
 class Meth:
-    def __init__(self, cls, name, kind, static, params, result, body, native):
+    def __init__(self, cls, name, kind, static, params, result, body, native, vars=()):
         self.cls, self.name, self.kind, self.static, self.params, self.result, self.body, self.native, self.private = cls, name, kind, static, params, result, body, native, False
+        self.vars = list(vars)
 
 
 class Parser:
@@ -63,9 +85,32 @@ class Parser:
         t = self.take()
         while self.peek() == '.' and self.peek(1)[:1].isupper():
             self.take(); t = self.take()
+        if self.peek() == '<': t += self.type_args()
         while self.peek() == '[' and self.peek(1) == ']':
             self.take(); self.take(); t += '[]'
         return t
+
+    def type_args(self):
+        self.take('<'); out = []
+        while not self.got('>'):
+            if self.got('?'):
+                kind = self.take() if self.peek() in ('extends', 'super') else ''
+                out.append(f'?{kind[:1]}{self.type()}' if kind else '?')
+            else: out.append(self.type())
+            self.got(',')
+        return f'<{",".join(out)}>'
+
+    def vars(self):
+        """Type parameters with their bounds, if some stand here."""
+        out = []
+        if self.got('<'):
+            while not self.got('>'):
+                n = self.take(); bounds = ['Object']
+                if self.got('extends'):
+                    bounds = [self.type()]
+                    while self.got('&'): bounds.append(self.type())
+                out.append((n, bounds)); self.got(',')
+        return out
 
     def mods(self):
         m = set()
@@ -81,6 +126,7 @@ class Parser:
         while self.peek():
             self.mods()
             kind = self.take(); name = self.take(); sup, ifs = None, []
+            vars = self.vars()
             if self.got('extends'):
                 sup = self.type()
                 if kind == 'interface':
@@ -89,7 +135,7 @@ class Parser:
             if self.got('implements'):
                 ifs.append(self.type())
                 while self.got(','): ifs.append(self.type())
-            c = Cls(name, kind, sup, ifs); self.take('{')
+            c = Cls(name, kind, sup, ifs, vars); self.take('{')
             while not self.got('}'):
                 self.member(c)
             out.append(c)
@@ -104,12 +150,12 @@ class Parser:
             self.take(); ps = self.params()
             while self.peek() != '{': self.take()
             c.methods.append(Meth(c, '<init>', 'c', False, ps, 'void', self.block(), False)); return
-        ty = self.type(); name = self.take()
+        vars = self.vars(); ty = self.type(); name = self.take()
         if self.peek() == '(':
             ps = self.params()
             while self.peek() not in ('{', ';'): self.take()
             body = None if self.got(';') else self.block()
-            c.methods.append(Meth(c, name, 'm', 'static' in m, ps, ty, body, 'native' in m)); c.methods[-1].private = 'private' in m; return
+            c.methods.append(Meth(c, name, 'm', 'static' in m, ps, ty, body, 'native' in m, vars)); c.methods[-1].private = 'private' in m; return
         while True:
             init = None
             if self.got('='): init = self.array_init(ty) if self.peek() == '{' else self.expr()
@@ -138,6 +184,9 @@ class Parser:
         t = self.peek()
         if not re.match(r'[A-Za-z_]', t) or t in ('return', 'new', 'throw', 'this', 'super', 'instanceof', 'else', 'case'): return False
         k = 1
+        if self.peek(k) == '<':
+            while re.match(r'[A-Za-z_<>,?\[\]&]', self.peek(k)) and not (self.peek(k - 1) == '>' and re.match(r'[A-Za-z_]', self.peek(k))): k += 1
+            if self.peek(k - 1) not in ('>', ']'): return False
         while self.peek(k) == '[' and self.peek(k + 1) == ']': k += 2
         return bool(re.match(r'[A-Za-z_]', self.peek(k))) and self.peek(k) != 'instanceof'
 
@@ -254,6 +303,7 @@ class Parser:
         if t == 'new':
             ty = self.take()
             while self.peek() == '.': self.take(); ty = self.take()
+            if self.peek() == '<': ty += self.type_args()
             if self.peek() == '[':
                 dims, more = [], 0
                 while self.peek() == '[':
@@ -297,16 +347,60 @@ class Program:
                 c.methods.append(Meth(c, '<init>', 'c', False, [], 'void', [], False))
             if c.sinits: c.methods.append(Meth(c, '<clinit>', 'i', True, [], 'void', [], False))
         self.fs = [f for c in classes for f in c.fields]; self.ms = [m for c in classes for m in c.methods]
+        self.vars = {}
+        for i, c in enumerate(classes):
+            for n, bounds in c.vars: self.variable(n, bounds, f'c {i}')
+        for i, m in enumerate(self.ms):
+            for n, bounds in m.vars: self.variable(n, bounds, f'm {i}')
         for i, c in enumerate(classes): c.id = i
         for i, f in enumerate(self.fs): f.id = i
         for i, m in enumerate(self.ms): m.id = i
 
     def ty(self, t):
         if t.endswith('[]'): return self.ty(t[:-2]) + ',['
+        if t[:1] == '?': return {'': '?', 'e': f'{self.ty(t[2:])},+', 's': f'{self.ty(t[2:])},-'}[t[1:2]] if len(t) > 1 else '?'
+        if t in self.vars: return f'v{self.vars[t][0]}'
+        if '<' in t: return ','.join([self.ty(a) for a in args_of(t)] + [f'k{self.by[base(t)].id}/{len(args_of(t))}'])
+        if t in self.by and self.by[t].vars: return f'r{self.by[t].id}'
         return PRIMS.get(t) or (f'k{self.by[t].id}/0' if t in self.by else 'N')
 
+    # ---- type parameters
+    def variable(self, n, bounds, owner):
+        if n in self.vars: raise SyntaxError(f'two type parameters {n}')
+        self.vars[n] = (len(self.vars), bounds, owner)
+
+    def erase(self, t):
+        if t.endswith('[]'): return self.erase(t[:-2]) + '[]'
+        return self.erase(self.vars[t][1][0]) if t in self.vars else base(t)
+
+    def subst(self, t, by):
+        """A type with these for its type parameters; a wildcard that stands alone for its bound."""
+        if t.endswith('[]'): return self.subst(t[:-2], by) + '[]'
+        if t in by: return by[t][2:] if by[t][:2] == '?e' else self.erase(t) if by[t][:1] == '?' else by[t]
+        if '<' in t: return f'{base(t)}<{",".join(by.get(a, a) if a in by else self.subst(a, by) for a in args_of(t))}>'
+        return t
+
+    def by_view(self, t, owner):
+        """What stands for the type parameters of a class above a type, or None where the type is raw there."""
+        if t in self.vars: return self.by_view(self.vars[t][1][0], owner)
+        c = self.by.get(base(t))
+        if c is None: return {}
+        by = dict(zip([n for n, _ in c.vars], args_of(t)))
+        if c.name == owner: return None if c.vars and not by else by
+        for s in ([c.sup] if c.sup else []) + c.ifs:
+            if owner in self.supers(base(s)): return self.by_view(self.erase(s) if c.vars and not by else self.subst(s, by), owner)
+        return {}
+
+    def seen(self, t, declared, owner):
+        """A declared type as a type has it, guarded where its erasure is another one."""
+        by = self.by_view(t, owner)
+        if by is None: return self.erase(declared)
+        return self.guarded(declared, self.subst(declared, by))
+
+    def guarded(self, declared, seen): return seen if self.below(self.erase(declared), self.erase(seen)) else Guarded(seen)
+
     def supers(self, n):
-        c = self.by[n]; out = [n]
+        n = base(n); c = self.by[n]; out = [n]
         for s in ([c.sup] if c.sup else []) + c.ifs:
             for x in self.supers(s):
                 if x not in out: out.append(x)
@@ -314,6 +408,7 @@ class Program:
         return out
 
     def below(self, a, b):
+        a, b = self.erase(a), self.erase(b)
         if a == b or b == 'Object' and a not in PRIMS: return True
         if a == 'null': return b not in PRIMS
         if a in PRIMS or b in PRIMS: return False
@@ -321,12 +416,13 @@ class Program:
         return a in self.by and b in self.by and b in self.supers(a)
 
     def field(self, n, name):
+        n = self.erase(n)
         for k in self.supers(n):
             for f in self.by[k].fields:
                 if f.name == name: return f
 
     def methods(self, n, name, count):
-        out = []
+        out, n = [], self.erase(n)
         for k in (self.supers(n) if n in self.by else ['Object']):
             for m in self.by[k].methods:
                 if m.name == name and len(m.params) == count and (name != '<init>' or k == n): out.append(m)
@@ -361,7 +457,8 @@ class Body:
         self.lines, self.locals, self.scope, self.targets = [], 0, [{}], []
         self.next_target = 1
         self.none = {k: None for k in ('types', 'steps', 'captures', 'ops', 'cases', 'operands', 'links', 'declared', 'stmts', 'arms', 'catches')}
-        if not m.static: self.local('this', m.cls.name)
+        self.own = m.cls.name + (f'<{",".join(n for n, _ in m.cls.vars)}>' if m.cls.vars else '')
+        if not m.static: self.local('this', self.own)
         for t, n in m.params: self.local(n, t)
 
     def local(self, n, t):
@@ -393,6 +490,12 @@ class Body:
 
     def op(self, of, ss=()): return self.node(f'operand {of} {self.steps(ss)}')
 
+    def guard(self, a, t):
+        """the test of a guarded type that is used as type t"""
+        return [f'test read {self.P.ty(self.P.erase(a))}'] if isinstance(a, Guarded) and self.P.erase(t) != 'Object' else []
+
+    def used(self, at, t): return self.op(at, self.guard(t, t))
+
     def operands(self, xs): return self.list('operands', xs)
 
     # ---- conversions
@@ -403,13 +506,13 @@ class Body:
             return ['widen ' + PRIMS[b]] if self.P.fits(a, b, 0) else ['narrow ' + PRIMS[b]]
         if a in PRIMS: return ['box ' + PRIMS[a]]
         if b in PRIMS:
-            p = NAMES[BOX[a]]
+            a = self.P.erase(a); p = NAMES[BOX[a]]
             return ['unbox ' + BOX[a]] + self.conv(p, b)
         return []
 
     def to(self, x, t):
         at, a = self.expr(x)
-        return self.op(at, self.conv(a, t))
+        return self.op(at, self.guard(a, a if t in PRIMS else t) + self.conv(str(a), t))
 
     def unboxed(self, t): return NAMES[BOX[t]] if t in BOX else t
 
@@ -454,7 +557,7 @@ class Body:
 
     def x_null(self): return self.e('null'), 'null'
 
-    def x_this(self): return self.e('this', self.c.name), self.c.name
+    def x_this(self): return self.e('this', self.own), self.own
 
     def x_name(self, n):
         l = self.find(n)
@@ -462,7 +565,8 @@ class Body:
         f = self.P.field(self.c.name, n)
         if not f: raise NameError(n)
         if f.static: return self.e(f'static {self.empty("operands")} {f.id}', f.ty), f.ty
-        return self.e(f'field {self.op(self.e("this", self.c.name))} {f.id}', f.ty), f.ty
+        t = self.P.seen(self.own, f.ty, f.cls.name)
+        return self.e(f'field {self.op(self.e("this", self.own))} {f.id}', t), t
 
     def is_class(self, x): return x is not None and x[0] == 'name' and not self.find(x[1]) and x[1] in self.P.by and not self.P.field(self.c.name, x[1])
 
@@ -474,7 +578,8 @@ class Body:
         if t.endswith('[]'): return self.e(f'length {self.op(at)}', 'int'), 'int'
         f = self.P.field(t, n)
         if f.static: return self.e(f'static {self.operands([self.op(at)])} {f.id}', f.ty), f.ty
-        return self.e(f'field {self.op(at)} {f.id}', f.ty), f.ty
+        seen = self.P.seen(t, f.ty, f.cls.name)
+        return self.e(f'field {self.used(at, t)} {f.id}', seen), seen
 
     def x_elem(self, a, i):
         at, t = self.expr(a)
@@ -485,7 +590,7 @@ class Body:
         at, t = self.expr(x)
         p = self.promoted(t)
         ops = self.node(f'ops {self.empty("ops")} {({"-": "n", "+": "p"}).get(o, o)}')
-        return self.e(f'prefix {ops} {self.op(at, self.conv(t, p))}', p), p
+        return self.e(f'prefix {ops} {self.op(at, self.guard(t, t) + self.conv(t, p))}', p), p
 
     def x_cast(self, t, x):
         at, a = self.expr(x)
@@ -504,14 +609,14 @@ class Body:
     def join(self, o, a, b):
         """joint words, steps of both operands, result"""
         if o == '+' and (a == 'String' or b == 'String'):
-            return f'cat {self.printed(a)} {self.printed(b)}', [], [], 'String'
+            return f'cat {self.printed(a)} {self.printed(b)}', self.guard(a, a) if a == 'String' else [], self.guard(b, b) if b == 'String' else [], 'String'
         if o in ('<<', '>>', '>>>'):
             p, q = self.promoted(a), self.promoted(b)
-            return f'{o} . .', self.conv(a, p), self.conv(b, q), p
+            return f'{o} . .', self.guard(a, a) + self.conv(a, p), self.guard(b, b) + self.conv(b, q), p
         if o in ('==', '!=') and not (a in PRIMS or b in PRIMS): return f'{o} . .', [], [], 'boolean'
-        if self.unboxed(a) == 'boolean': return f'{o} . .', self.conv(a, 'boolean'), self.conv(b, 'boolean'), 'boolean'
+        if self.unboxed(a) == 'boolean': return f'{o} . .', self.guard(a, a) + self.conv(a, 'boolean'), self.guard(b, b) + self.conv(b, 'boolean'), 'boolean'
         p = self.both(a, b)
-        return f'{o} . .', self.conv(a, p), self.conv(b, p), 'boolean' if o in ('<', '>', '<=', '>=', '==', '!=') else p
+        return f'{o} . .', self.guard(a, a) + self.conv(a, p), self.guard(b, b) + self.conv(b, p), 'boolean' if o in ('<', '>', '<=', '>=', '==', '!=') else p
 
     def flat(self, x, level):
         if x[0] == 'bin' and x[1] in level and not self.const(x): return self.flat(x[2], level) + [(x[1], x[3])]
@@ -558,7 +663,7 @@ class Body:
                 f = self.P.field(x[1][1], x[2]); return self.node(f'variable static {self.empty("operands")} {f.id}'), f.ty
             at, t = self.expr(x[1]); f = self.P.field(t, x[2])
             if f.static: return self.node(f'variable static {self.operands([self.op(at)])} {f.id}'), f.ty
-            return self.node(f'variable field {self.op(at)} {f.id}'), f.ty
+            return self.node(f'variable field {self.used(at, t)} {f.id}'), str(self.P.seen(t, f.ty, f.cls.name))
         at, t = self.expr(x[1]); a = self.op(at)
         return self.node(f'variable element {a} {self.to(x[2], "int")}'), t[:-2]
 
@@ -608,12 +713,42 @@ class Body:
             m = self.P.select(of[1], n, ts); r = self.empty('operands'); kind = 'static'
         else:
             at, t = self.expr(of)
-            m = self.P.select(t if not t.endswith('[]') else 'Object', n, ts); r = self.operands([self.op(at)]); kind = 'static' if m.static else 'virtual'
-        return self.e(f'call {kind} {r} {m.id} {self.empty("types")} {self.arguments(m, xs)}', m.result), m.result
+            further = self.further_bound(t, n, len(xs))
+            at = self.op(at, [f'test use {self.P.ty(self.P.erase(further))}']) if further else self.used(at, t)
+            t = further or t
+            m = self.P.select(t if not t.endswith('[]') else 'Object', n, ts); r = self.operands([at]); kind = 'static' if m.static else 'virtual'
+            return self.called(kind, r, m, xs, ts, t)
+        return self.called(kind, r, m, xs, ts, self.own)
+
+    def further_bound(self, t, n, count):
+        """the bound behind the first one that has a method, where the first has none"""
+        if t not in self.P.vars or self.P.methods(t, n, count): return None
+        return next((b for b in self.P.vars[t][1][1:] if self.P.methods(b, n, count)), None)
+
+    def called(self, kind, r, m, xs, ts, t):
+        by = {} if m.static or m.cls.name not in self.P.by or t.endswith('[]') else self.P.by_view(t, m.cls.name)
+        raw = by is None
+        by = dict(by or {})
+        given = [self.inferred(n, m, ts) for n, _ in m.vars]
+        by.update(zip((n for n, _ in m.vars), given))
+        see = self.P.erase if raw else lambda d: self.P.subst(d, by)
+        result = see(m.result) if raw or m.result == 'void' else self.P.guarded(m.result, see(m.result))
+        types = self.list('types', [] if raw else [self.type(g) for g in given])
+        args = self.operands([self.to(x, see(p[0])) for x, p in zip(xs, m.params)])
+        return self.e(f'call {kind} {r} {m.id} {types} {args}', result), result
+
+    def inferred(self, n, m, ts):
+        for t, (declared, _) in zip(ts, m.params):
+            if declared == n: return {v: k for k, v in BOX.items()}[PRIMS[t]] if t in PRIMS else str(t)
+            for d, a in zip(args_of(declared), args_of(t)):
+                if d == n: return a
+        return 'Object'
 
     def x_new(self, t, xs):
         m = self.P.select(t, '<init>', self.types(xs))
-        return self.e(f'new {m.id} {self.arguments(m, xs)}', t), t
+        by = self.P.by_view(t, base(t))
+        see = self.P.erase if by is None else lambda d: self.P.subst(d, by)
+        return self.e(f'new {m.id} {self.operands([self.to(x, see(p[0])) for x, p in zip(xs, m.params)])}', t), t
 
     def x_newarray(self, t, ds): return self.e(f'newarray {self.operands([self.to(d, "int") for d in ds])}', t), t
 
@@ -748,6 +883,17 @@ class Body:
         return f'body {self.locals} 0 {call} {inits} {rest}\n' + '\n'.join(self.lines) + '\nend'
 
 
+def first(P, vars): return f'{P.vars[vars[0][0]][0]} {len(vars)}' if vars else '0 0'
+
+
+def stands_for(P, c, own, m):
+    """Whether two methods have the same parameters in a class, or the first one's are the erasure of the other's."""
+    def seen(method):
+        by = P.by_view(c.name + (f'<{",".join(n for n, _ in c.vars)}>' if c.vars else ''), method.cls.name)
+        return [P.erase(p[0]) if by is None else P.subst(p[0], by) for p in method.params]
+    return [P.erase(t) for t in seen(own)] == [P.erase(t) for t in seen(m)]
+
+
 def write(source, units):
     here = os.path.dirname(os.path.abspath(__file__))
     classes = Parser(open(os.path.join(here, 'lib.java')).read()).unit() + Parser(open(source).read()).unit()
@@ -756,17 +902,18 @@ def write(source, units):
         sups = ([c.sup] if c.sup else (['Object'] if c.kind == 'interface' else [])) + c.ifs
         lib = c.name in ('Lib',)
         binary = 'java.lang.' + c.name if classes.index(c) < LIBS(classes) else c.name
-        out.append(f'class {binary} {"i" if c.kind == "interface" else "c"} {";".join(P.ty(s) for s in sups) or "."} 0 0')
+        out.append(f'class {binary} {"i" if c.kind == "interface" else "c"} {";".join(P.ty(s) for s in sups) or "."} {first(P, c.vars)}')
+    for n, (_, bounds, owner) in P.vars.items(): out.append(f'variable-of {owner} {";".join(P.ty(b) for b in bounds)}')
     for f in P.fs: out.append(f'field-of {f.cls.id} {f.name} {"s" if f.static else "i"} {P.ty(f.ty)}')
     for m in P.ms:
-        out.append(f'method-of {m.cls.id} {m.name} {m.kind} {"s" if m.static else "i"} {";".join(P.ty(p[0]) for p in m.params) or "."} {P.ty(m.result) if m.result != "void" else "."} 0 0')
+        out.append(f'method-of {m.cls.id} {m.name} {m.kind} {"s" if m.static else "i"} {";".join(P.ty(p[0]) for p in m.params) or "."} {P.ty(m.result) if m.result != "void" else "."} {first(P, m.vars)}')
     for c in classes:
         if c.kind != 'class': continue
         for s in P.supers(c.name):
             for m in P.by[s].methods:
                 if m.kind == 'm' and not m.static:
                     for own in P.methods(c.name, m.name, len(m.params)):
-                        if own.cls.kind == 'class' and [P.ty(p[0]) for p in own.params] == [P.ty(p[0]) for p in m.params] and (own.body is not None or own.native):
+                        if own.cls.kind == 'class' and stands_for(P, c, own, m) and (own.body is not None or own.native):
                             out.append(f'select {c.id} {m.id} {own.id}'); break
     C = lambda n: P.by[n].id
     M = lambda n, k, ts: P.select(n, k, ts).id
