@@ -6,9 +6,11 @@ arguments, and what is left of it without the time of as many questions with one
 figure and no check: nothing here fails on a slow machine.
 """
 import os
-import resource
-import subprocess
 import sys
+
+sys.dont_write_bytecode = True
+sys.path.insert(0, os.path.join(os.path.dirname(os.path.abspath(__file__)), "..", "judging"))
+from timing import least_time
 
 CALLS = 100000
 RUNS = 3
@@ -48,18 +50,7 @@ CASES = [
 
 
 def spent(program, question, wanted):
-    """The least time of some runs, in which each question has the answer that is wanted."""
-    text = HEADS + (question + "\n") * CALLS
-    times = []
-    for _ in range(RUNS):
-        before = resource.getrusage(resource.RUSAGE_CHILDREN)
-        run = subprocess.run([program], input=text, capture_output=True, text=True)
-        after = resource.getrusage(resource.RUSAGE_CHILDREN)
-        times.append((after.ru_utime - before.ru_utime) + (after.ru_stime - before.ru_stime))
-    answers = set(run.stdout.splitlines()[1:])
-    if answers != {wanted}:
-        sys.exit(f"FAIL: {question}: {sorted(answers)[:3]}")
-    return min(times)
+    return least_time(program, HEADS + (question + "\n") * CALLS, wanted, RUNS)
 
 
 def main():

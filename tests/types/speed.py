@@ -6,9 +6,11 @@ time of as many questions that are settled at once, `below T T`: so without the 
 no check: nothing here fails on a slow machine.
 """
 import os
-import resource
-import subprocess
 import sys
+
+sys.dont_write_bytecode = True
+sys.path.insert(0, os.path.join(os.path.dirname(os.path.abspath(__file__)), "..", "judging"))
+from timing import least_time
 
 CLASSES = 20000
 CHAIN = 200
@@ -37,17 +39,7 @@ def heads():
 
 
 def spent(program, question):
-    text = "\n".join(["table"] + heads() + [question] * QUESTIONS) + "\n"
-    times = []
-    for _ in range(RUNS):
-        before = resource.getrusage(resource.RUSAGE_CHILDREN)
-        run = subprocess.run([program], input=text, capture_output=True, text=True)
-        after = resource.getrusage(resource.RUSAGE_CHILDREN)
-        times.append((after.ru_utime - before.ru_utime) + (after.ru_stime - before.ru_stime))
-    answers = set(run.stdout.splitlines()[1:])
-    if answers != {"Yes"}:
-        sys.exit(f"FAIL: {question}: {sorted(answers)[:3]}")
-    return min(times)
+    return least_time(program, "\n".join(["table"] + heads() + [question] * QUESTIONS) + "\n", "Yes", RUNS)
 
 
 def main():
