@@ -5,9 +5,10 @@ use Rattle.std.specs.Prelude.{◌&&◌, not}
 use Rattle.jc_lexer.specs.declared.token.Token.{Token}
 use Rattle.jc_reading.specs.Kinds.{kind_code, is_in, front_code, one_of}
 use Rattle.jc_reading.specs.Reading.{Read, Found, Stopped}
-use Rattle.jc_reading.proofs.Steps.{Good, Within, Goes, IsFound, Refuses, reach, Moves, moves_none, moves_stop}
+use Rattle.jc_reading.proofs.Steps.{Good, Goes, IsFound, Refuses, reach, Moves, moves_none, moves_stop}
 use Rattle.jc_reading.proofs.Forms.{Form, Stands, Begins, Lawful}
 use Rattle.jc_reading.proofs.Stepwise.{Steady}
+use Rattle.jc_reading.specs.Reach.{Within}
 use Rattle.jc_expr_laws.specs.CompareReading.{barring}
 
 not_true : (b : Bool) → not b ≡ true → b ≡ false

@@ -6,10 +6,11 @@ use Rattle.jc_lexer.specs.declared.token.Token.{Token}
 use Rattle.jc_grammar.specs.Told.{Told}
 use Rattle.jc_reading.specs.Reading.{Read, Found, Stopped, Run, noting, becoming, Takes}
 use Rattle.jc_reading.specs.Growing.{one_then}
-use Rattle.jc_reading.proofs.Steps.{Good, Within, Goes, IsFound, Refuses, reach, Moved, Moves, Plain, good_becoming, good_noting, within_becoming, within_noting, within_more, goes_becoming, goes_noting, goes_more, found_becoming, found_noting, reach_noting, reach_becoming, moves_becoming, moved_noting, moves_none, takes_front, takes_length}
+use Rattle.jc_reading.proofs.Steps.{Good, Goes, IsFound, Refuses, reach, Moved, Moves, Plain, good_becoming, good_noting, within_becoming, within_noting, within_more, goes_becoming, goes_noting, goes_more, found_becoming, found_noting, reach_noting, reach_becoming, moves_becoming, moved_noting, moves_none, takes_front, takes_length}
 use Rattle.jc_reading.proofs.Forms.{Form, Stands, Begins, Opens, Lawful, begins_pick, begins_behind, begins_full, begins_as}
 use Rattle.jc_reading.proofs.Lists.{tell_all}
 use Rattle.jc_reading.proofs.Stepwise.{Steady}
+use Rattle.jc_reading.specs.Reach.{Within}
 use Rattle.jc_expr_laws.specs.CompareReading.{touched_before, links, linked}
 use Rattle.jc_expr_laws.proofs.CompareMarks.{cut_marked, join_marked, same_mark}
 use Rattle.jc_expr_laws.proofs.LevelChains.{plain_front}

@@ -6,10 +6,11 @@ use Rattle.std.specs.Prelude.{◌&&◌, ◌||◌}
 use Rattle.jc_lexer.specs.declared.token.Token.{Token}
 use Rattle.jc_grammar.specs.Told.{Told}
 use Rattle.jc_reading.specs.Reading.{Read, Found, Stopped, becoming, joined, ◌>>=◌}
-use Rattle.jc_reading.proofs.Steps.{Good, Within, Goes, IsFound, Refuses, reach, Moved, Moves, Plain, good_becoming, within_becoming, goes_becoming, reach_noting, reach_becoming, takes_front}
+use Rattle.jc_reading.proofs.Steps.{Good, Goes, IsFound, Refuses, reach, Moved, Moves, Plain, good_becoming, within_becoming, goes_becoming, reach_noting, reach_becoming, takes_front}
 use Rattle.jc_reading.proofs.Forms.{Form, Lawful, Stands, Begins, Opens, begins_as}
 use Rattle.jc_reading.proofs.Options.{tell_some}
 use Rattle.jc_reading.proofs.Pairs.{pair, pair_laws, cut, join}
+use Rattle.jc_reading.specs.Reach.{Within}
 use Rattle.jc_expr_laws.specs.EffectReading.{longest_passing, with_none, alone, closed_by, closing_on, closing}
 use Rattle.jc_expr_laws.proofs.EffectEnds.{reach_longest, within_longest, Passing, sound_longest, goes_longest, moved_longest}
 

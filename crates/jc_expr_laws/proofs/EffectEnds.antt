@@ -6,8 +6,9 @@ use Rattle.std.proofs.Math.Seq.{take-append_seam}
 use Rattle.std.specs.Prelude.{take, drop}
 use Rattle.jc_lexer.specs.declared.token.Token.{Token}
 use Rattle.jc_reading.specs.Reading.{Read, Found, Stopped, Takes}
-use Rattle.jc_reading.proofs.Steps.{Good, Within, Goes, reach, Moved, takes_front}
+use Rattle.jc_reading.proofs.Steps.{Good, Goes, reach, Moved, takes_front}
 use Rattle.jc_reading.proofs.Forms.{Form, Lawful, Stands}
+use Rattle.jc_reading.specs.Reach.{Within}
 use Rattle.jc_expr_laws.specs.EffectReading.{ended, longest_passing}
 
 module _ (A : Type 0) (passes : A → Bool) where

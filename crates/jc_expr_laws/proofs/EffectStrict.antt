@@ -7,9 +7,10 @@ use Rattle.jc_tree.specs.declared.expression.Expr.{Expr}
 use Rattle.jc_grammar.specs.Shapes.{is_effect}
 use Rattle.jc_reading.specs.Kinds.{one_of}
 use Rattle.jc_reading.specs.Reading.{Read, Found, Stopped, Run, noting, ◌>>=◌, becoming, joined, in_turn, Either, This, That}
-use Rattle.jc_reading.proofs.Steps.{Good, Within, Goes, IsFound, reach}
+use Rattle.jc_reading.proofs.Steps.{Good, Goes, IsFound, reach}
 use Rattle.jc_reading.proofs.Forms.{Form, Lawful}
 use Rattle.jc_reading.proofs.Coded.{formed}
+use Rattle.jc_reading.specs.Reach.{Within}
 use Rattle.jc_expr_laws.specs.LevelReading.{prefix_run, assign_run, none_at}
 use Rattle.jc_expr_laws.specs.EffectReading.{longest_passing, with_none, closed_by, closing_on, closing, strictly_by, strictly_on, strictly_closing, crement_op_run, crement_codes, effect_made, effect_run, strict_effect_run}
 use Rattle.jc_expr_laws.proofs.LevelPrefixes.{post_goes}

@@ -15,7 +15,9 @@ use Rattle.jc_reading.specs.declared.reading.Halt.{Halt}
 use Rattle.jc_reading.specs.Giving.{Halts}
 use Rattle.jc_reading.specs.Kinds.{sign_code, one_of}
 use Rattle.jc_reading.specs.Reading.{Read, Found, Stopped, found, becoming, joined, in_turn, any_number, This, That}
-use Rattle.jc_reading.proofs.Steps.{Within, within_bind, within_becoming, within_noting}
+use Rattle.jc_reading.proofs.Steps.{within_bind, within_becoming, within_noting}
+use Rattle.jc_reading.specs.Reach.{Within, Near}
+use Rattle.jc_reading.proofs.Nears.{near_as, near_either, near_place, near_any, near_picking, ahead_near}
 use Rattle.jc_expr_laws.specs.EffectReading.{crement_op, crement_op_run}
 use Rattle.jc_expr_laws.specs.ExprReading.{readers}
 use Rattle.jc_expr_laws.specs.LevelReading.{assign_run, picks_prefix, plain_op, plain_op_run, prefix_op_run}
@@ -28,10 +30,8 @@ use Rattle.jc_parse_expr.specs.BinaryLevels.{levels_at, level_run, measured_righ
 use Rattle.jc_parse_expr.proofs.CodeFacts.{operator_steps, rest_within, within_bare, within_conditional, within_expr, within_level, within_tighter}
 use Rattle.jc_parse_expr.proofs.LevelNears.{near_array_of}
 use Rattle.jc_parse_expr.proofs.LoopSteps.{measured_rest}
-use Rattle.jc_parse_expr.proofs.Nears.{Near, near_as, near_either, near_place}
 use Rattle.jc_parse_expr.proofs.MeasuredRead.{halts_by, measured_found, measured_stopped}
 use Rattle.jc_parse_expr.proofs.PairSteps.{made_found}
-use Rattle.jc_parse_expr.proofs.Picks.{picking_steps, within_many}
 
 pub expr_rest : (h : ℕ) (ts : List Token) (v : Measured Expr) (r : List Token) (l : ℕ) → becoming measured ((levels_at h).expr ts) ≡ Found v r l → length r ≤ length ts
 expr_rest h ts v r l e = measured_rest (length ts) ((levels_at h).expr ts) v r l (within_expr h ts) e
@@ -47,7 +47,7 @@ tighter_rest level h ts v r l e = measured_rest (length ts) (tighter_run level (
 
 pub prefixed_rest : (h : ℕ) (op : PrefixOp) (ts : List Token) (v : Measured Expr) (r : List Token) (l : ℕ) → becoming measured (prefixed_run op (levels_at h).bare ts) ≡ Found v r l → length r ≤ length ts
 prefixed_rest h op ts v r l e =
-    let w : Within (length ts) (in_turn (any_number prefix_op_run) (levels_at h).bare ts) = within_bind (length ts) (any_number prefix_op_run ts) _ (within_many PrefixOp prefix_op_run (picking_steps PrefixOp picks_prefix) ts) (λ a q. within_becoming (length q) (joined a) ((levels_at h).bare q) (within_bare h q)) in
+    let w : Within (length ts) (in_turn (any_number prefix_op_run) (levels_at h).bare ts) = within_bind (length ts) (any_number prefix_op_run ts) _ (near_any prefix_op_run (near_picking picks_prefix) ts) (λ a q. within_becoming (length q) (joined a) ((levels_at h).bare q) (within_bare h q)) in
     measured_rest (length ts) (prefixed_run op (levels_at h).bare ts) v r l (within_noting (length ts) (length ts) _ (within_becoming (length ts) _ (in_turn (any_number prefix_op_run) (levels_at h).bare ts) w)) e
 
 pub assigned_rest : (h : ℕ) (ts : List Token) (p : AssignOp × Measured Expr) (r : List Token) (l : ℕ) → becoming measured_right (in_turn assign_run (levels_at h).expr ts) ≡ Found p r l → length r ≤ length ts
@@ -57,10 +57,10 @@ assigned_rest h ts p r l e =
     (rest_within (length ts) (in_turn assign_run (levels_at h).expr ts) a.0 r l w a.1).1
 
 pub operator_rest : (level : Level) (ts : List Token) (op : BinaryOp) (r : List Token) (l : ℕ) → operator_run level ts ≡ Found op r l → length r ≤ length ts
-operator_rest level ts op r l e = (rest_within (length ts) (operator_run level ts) op r l ((operator_steps level).within ts) e).1
+operator_rest level ts op r l e = (rest_within (length ts) (operator_run level ts) op r l (ahead_near (operator_run level) (operator_steps level) ts) e).1
 
 pub prefix_rest : (ts : List Token) (op : PrefixOp) (q : List Token) → prefix_op_run ts ≡ found op q → length q ≤ length ts
-prefix_rest ts op q e = (rest_within (length ts) (prefix_op_run ts) op q (length q) ((picking_steps PrefixOp picks_prefix).within ts) e).1
+prefix_rest ts op q e = (rest_within (length ts) (prefix_op_run ts) op q (length q) (near_picking picks_prefix ts) e).1
 
 near_plain_op : Near plain_op_run
 unfolding plain_op_run

@@ -12,8 +12,9 @@ use Rattle.jc_reading.specs.Giving.{Halts}
 use Rattle.jc_reading.specs.Kinds.{sign_code}
 use Rattle.jc_reading.specs.Reading.{Read, Found, Stopped, Run, found, noting, becoming, joined, in_turn, That, of_kind, at_kind, before_it}
 use Rattle.jc_reading.specs.Further.{by_value, or_else}
-use Rattle.jc_reading.proofs.Steps.{Within, within_bind, within_becoming}
+use Rattle.jc_reading.proofs.Steps.{within_bind, within_becoming}
 use Rattle.jc_reading.proofs.Signs.{sign_laws}
+use Rattle.jc_reading.specs.Reach.{Within}
 use Rattle.jc_parse_type.specs.TypeReading.{type_run}
 use Rattle.jc_parse_type.proofs.CodeSteps.{within_type}
 use Rattle.jc_parse_expr.specs.declared.measured.Measured.{Measured}

@@ -12,8 +12,10 @@ use Rattle.jc_grammar.specs.Shapes.{stands, expr_shape}
 use Rattle.jc_reading.specs.Kinds.{sign_code}
 use Rattle.jc_reading.specs.Reading.{Read, Found, Stopped, Run, noting, becoming, joined, ◌>>=◌, in_turn}
 use Rattle.jc_reading.proofs.Forms.{Form, Stands}
-use Rattle.jc_reading.proofs.Steps.{Within, Good, within_becoming, within_bind}
-use Rattle.jc_reading.proofs.Turns.{Advances, lawful_advances, as_advances}
+use Rattle.jc_reading.proofs.Steps.{Good, within_becoming, within_bind}
+use Rattle.jc_reading.proofs.Turns.{lawful_ahead}
+use Rattle.jc_reading.specs.Reach.{Within, GoesAhead}
+use Rattle.jc_reading.proofs.Nears.{ahead_as, ahead_turn}
 use Rattle.jc_expr_laws.specs.LevelReading.{operand_made}
 use Rattle.jc_expr_laws.specs.ExprReading.{readers}
 use Rattle.jc_parse_expr.specs.declared.operators.Level.{Level}
@@ -96,35 +98,21 @@ within_tighter level_of.Times h ts = within_unary h ts
 
 -- operators take a token
 
-pub operator_steps : (level : Level) → Advances BinaryOp (operator_run level)
-operator_steps level_of.OrElse = lawful_advances BinaryOp _ ops.or_else_laws refl
-operator_steps level_of.AndAlso = lawful_advances BinaryOp _ ops.and_also_laws refl
-operator_steps level_of.Or = lawful_advances BinaryOp _ ops.or_laws refl
-operator_steps level_of.Xor = lawful_advances BinaryOp _ ops.xor_laws refl
-operator_steps level_of.And = lawful_advances BinaryOp _ ops.and_laws refl
-operator_steps level_of.Equal = lawful_advances BinaryOp _ ops.equal_laws refl
-operator_steps level_of.Compared = lawful_advances BinaryOp _ ops.less_laws refl
-operator_steps level_of.Shift = lawful_advances BinaryOp _ ops.shift_laws refl
-operator_steps level_of.Plus = lawful_advances BinaryOp _ ops.plus_laws refl
-operator_steps level_of.Times = lawful_advances BinaryOp _ ops.times_laws refl
+pub operator_steps : (level : Level) → GoesAhead (operator_run level)
+operator_steps level_of.OrElse = lawful_ahead BinaryOp _ ops.or_else_laws refl
+operator_steps level_of.AndAlso = lawful_ahead BinaryOp _ ops.and_also_laws refl
+operator_steps level_of.Or = lawful_ahead BinaryOp _ ops.or_laws refl
+operator_steps level_of.Xor = lawful_ahead BinaryOp _ ops.xor_laws refl
+operator_steps level_of.And = lawful_ahead BinaryOp _ ops.and_laws refl
+operator_steps level_of.Equal = lawful_ahead BinaryOp _ ops.equal_laws refl
+operator_steps level_of.Compared = lawful_ahead BinaryOp _ ops.less_laws refl
+operator_steps level_of.Shift = lawful_ahead BinaryOp _ ops.shift_laws refl
+operator_steps level_of.Plus = lawful_ahead BinaryOp _ ops.plus_laws refl
+operator_steps level_of.Times = lawful_ahead BinaryOp _ ops.times_laws refl
 
-shorter_found : {A B : Type 0} (k : ℕ) (a : A) (r : List Token) (l : ℕ) (m : Read B) → length r < k → Within (length r) m → Good (λ p q. length q < k) (noting l (becoming (joined a) m))
-shorter_found k a r l (Found b q i) g w = omega (arith, g, w.1)
-shorter_found k a r l (Stopped i) g w = tt
-
-shorter_turn : {A B : Type 0} (k : ℕ) (m : Read A) (n : Run B) → Good (λ a r. length r < k) m → ((ts : List Token) → Within (length ts) (n ts)) → Good (λ p r. length r < k) (m >>= (λ a q. becoming (joined a) (n q)))
-shorter_turn k (Found a r l) n g w = shorter_found k a r l (n r) g (w r)
-shorter_turn k (Stopped l) n g w = tt
-
-pub turn_advances : (A B : Type 0) (m : Run A) (n : Run B) → Advances A m → ((ts : List Token) → Within (length ts) (n ts)) → Advances (A × B) (in_turn m n)
-turn_advances A B m n v w = record {
-  within = λ ts. within_bind (length ts) (m ts) (λ a q. becoming (joined a) (n q)) (v.within ts) (λ a r. within_becoming (length r) (joined a) (n r) (w r));
-  shorter = λ ts. shorter_turn (length ts) (m ts) n (v.shorter ts) w;
-}
-
-pub operand_steps : (level : Level) (h : ℕ) → Advances Operand (operand_run level (tighter_run level (levels_at h)))
+pub operand_steps : (level : Level) (h : ℕ) → GoesAhead (operand_run level (tighter_run level (levels_at h)))
 operand_steps level h =
-    as_advances (BinaryOp × Expr) Operand operand_made (in_turn (operator_run level) (tighter_run level (levels_at h))) (turn_advances BinaryOp Expr (operator_run level) (tighter_run level (levels_at h)) (operator_steps level) (within_tighter level h))
+    ahead_as operand_made (in_turn (operator_run level) (tighter_run level (levels_at h))) (ahead_turn (operator_run level) (tighter_run level (levels_at h)) (operator_steps level) (within_tighter level h))
 
 pub rest_within : {A : Type 0} (k : ℕ) (m : Read A) (a : A) (r : List Token) (l : ℕ) → Within k m → m ≡ Found a r l → (l ≤ length r) × (length r ≤ k)
 rest_within {A = A} k m a r l w e = subst (λ (x : Read A). Within k x) e w

@@ -5,18 +5,19 @@ use Rattle.jc_reading.specs.Reading.{Read, Found, Stopped, Run, noting, becoming
 use Rattle.jc_reading.specs.Growing.{one_then}
 use Rattle.std.specs.Prelude.{slice_get}
 use Rattle.jc_reading.proofs.Codes.{some_is, none_is}
-use Rattle.jc_reading.proofs.Steps.{Good, Within}
+use Rattle.jc_reading.proofs.Steps.{Good}
 use Rattle.jc_reading.proofs.Forms.{Form, Stands}
-use Rattle.jc_reading.proofs.Turns.{resume, noting_far}
+use Rattle.jc_reading.proofs.Turns.{noting_far}
+use Rattle.jc_reading.specs.Reach.{Within, onto}
 use Rattle.jc_expr_laws.specs.CompareReading.{is_touching, touched_before, links, linked, Comparison}
 use Rattle.jc_expr_laws.proofs.CompareMarks.{touched_here, touched_later}
 
 module _ {V P : Type 0} (make : V → P → V) (part : V → Bool → Run P) where
   -- the loop stands before the tokens that are left, with room for as many turns
   abbrev pub LinksOn : Read (List P) → List P → ℕ → V → Bool → List Token → Type 0
-  LinksOn whole list left v touched rest = (n : ℕ) × (length rest ≤ n) × (whole ≡ resume list left (links n make part v touched rest))
+  LinksOn whole list left v touched rest = (n : ℕ) × (length rest ≤ n) × (whole ≡ onto list left (links n make part v touched rest))
 
-  resume_noting : (list : List P) (left l : ℕ) (p : P) (m : Read (List P)) → resume list left (noting l (becoming (λ more. p ∷ more) m)) ≡ resume (list ++ p ∷ []) (min left l) m
+  resume_noting : (list : List P) (left l : ℕ) (p : P) (m : Read (List P)) → onto list left (noting l (becoming (λ more. p ∷ more) m)) ≡ onto (list ++ p ∷ []) (min left l) m
   resume_noting list left l p (Found more r k) =
       ap (λ (v : List P). Found v r (min left (min l k))) (sym (append_assoc list (p ∷ []) more)) ∙ (let e : min left (min l k) ≡ min (min left l) k = omega arith in ap (λ j. Found ((list ++ p ∷ []) ++ more) r j) e)
   resume_noting list left l p (Stopped k) = let e : min left (min l k) ≡ min (min left l) k = omega arith in ap (λ j. Stopped j) e
@@ -28,7 +29,7 @@ module _ {V P : Type 0} (make : V → P → V) (part : V → Bool → Run P) whe
   links_next whole list left v touched rest q p l (suc n, e, s) r lt = (
     n,
     omega (arith, e, lt),
-    s ∙ ap (λ (m : Read P). resume list left (one_then rest m (λ a k. links n make part (make v a) (touched_before rest (length k)) k))) r ∙ resume_noting list left l p (links n make part (make v p) (touched_before rest (length q)) q),
+    s ∙ ap (λ (m : Read P). onto list left (one_then rest m (λ a k. links n make part (make v a) (touched_before rest (length k)) k))) r ∙ resume_noting list left l p (links n make part (make v p) (touched_before rest (length q)) q),
   )
 
   pub links_stop : (whole : Read (List P)) (list : List P) (left : ℕ) (v : V) (touched : Bool) (rest : List Token) (l : ℕ) → LinksOn whole list left v touched rest → part v touched rest ≡ Stopped l → l ≤ length rest → whole ≡ Found list rest (min left l)
@@ -37,7 +38,7 @@ module _ {V P : Type 0} (make : V → P → V) (part : V → Bool → Run P) whe
       let k : length rest ≡ l = omega (arith, e, w) in
       s ∙ ap (λ (x : List P). Found x rest (min left (length rest))) (append-nil list) ∙ ap (λ j. Found list rest (min left j)) k
   links_stop whole list left v touched rest l (suc n, e, s) r w =
-      s ∙ ap (λ (m : Read P). resume list left (one_then rest m (λ a k. links n make part (make v a) (touched_before rest (length k)) k))) r ∙ ap (λ (x : List P). Found x rest (min left l)) (append-nil list)
+      s ∙ ap (λ (m : Read P). onto list left (one_then rest m (λ a k. links n make part (make v a) (touched_before rest (length k)) k))) r ∙ ap (λ (x : List P). Found x rest (min left l)) (append-nil list)
 
   becoming_same : (m : Read (List P)) → m ≡ becoming (λ more. [] ++ more) m
   becoming_same (Found a r l) = refl

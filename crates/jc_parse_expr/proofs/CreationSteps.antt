@@ -14,10 +14,11 @@ use Rattle.jc_grammar.specs.Shapes.{ends_bare}
 use Rattle.jc_reading.specs.Kinds.{sign_code, one_of}
 use Rattle.jc_reading.specs.Reading.{Read, Found, Stopped, Run, found, noting, ◌>>=◌, becoming, joined, as_new, in_turn, of_kind, before_it, This, That, either}
 use Rattle.jc_reading.specs.Further.{with_room, by_value}
+use Rattle.jc_reading.specs.Reach.{Near}
+use Rattle.jc_reading.proofs.Nears.{near_turn, near_either, near_kind}
 use Rattle.jc_parse_type.specs.TypeReading.{dims_run, word_run, primitive_codes, class_run}
 use Rattle.jc_expr_laws.specs.PrimeReading.{array_creation, array_tail_run, lengths_run, diamond_run, object_run, object_tail_run, no_diamond, class_creation, class_tail_run, creation_made, creation_run}
 use Rattle.jc_parse_expr.specs.PrimeCode.{array_in, expr_in, initial_made, length_of, sized_made, sized_run, object_made}
-use Rattle.jc_parse_expr.proofs.Nears.{Near, near_turn, near_either, near_kind}
 use Rattle.jc_parse_expr.proofs.PrimeNears.{near_dims, near_lengths, near_array_tail}
 use Rattle.jc_parse_expr.proofs.LevelNears.{near_expr, near_array_of}
 use Rattle.jc_parse_expr.proofs.MeasuredSteps.{twice, then_made, value_made, mapped_made, behind_kind, near_noted}

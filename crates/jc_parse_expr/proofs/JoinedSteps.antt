@@ -17,6 +17,7 @@ use Rattle.jc_reading.specs.Giving.{Gives, Halts, Is}
 use Rattle.jc_reading.specs.Kinds.{sign_code}
 use Rattle.jc_reading.specs.Reading.{Read, becoming, found, in_turn, any_number, at_kind}
 use Rattle.jc_reading.specs.Reading as reading
+use Rattle.jc_reading.proofs.Nears.{near_any, near_picking}
 use Rattle.jc_parse_expr.specs.declared.measured.Measured.{Measured}
 use Rattle.jc_parse_expr.specs.Measuring.{measured}
 use Rattle.jc_expr_laws.specs.LevelReading.{assign_run, cast_run, operand_for, picks_prefix, prefix_op_run}
@@ -25,7 +26,6 @@ use Rattle.jc_parse_expr.specs.After.{After, Joined, assign_right, pair_of}
 use Rattle.jc_parse_expr.specs.declared.operators.Level.{Level}
 use Rattle.jc_parse_expr.specs.BinaryLevels.{levels_at, operator_run, operand_run, measured_right, measured_operand, prefixed_run, cast_type_run, cast_made}
 use Rattle.jc_parse_expr.proofs.CodeFacts.{rest_within}
-use Rattle.jc_parse_expr.proofs.Picks.{picking_steps, within_many}
 use Rattle.jc_parse_expr.proofs.RungSteps.{expr_alone, expr_assigns}
 use Rattle.jc_parse_expr.proofs.LevelCode.{assigned_found, assigned_stops}
 use Rattle.jc_parse_expr.proofs.OperandCode.{operand_found, operand_stops}
@@ -84,7 +84,7 @@ operand_gives level next ts op (Err halt_of.WantOfMemory) (Err halt) e m b = wan
 
 ops_far : (ts : List Token) (ops : Found (List PrefixOp)) → Is ops (any_number prefix_op_run ts) → ops.left ≤ length ts
 ops_far ts ops e =
-    let n = rest_within (length ts) (any_number prefix_op_run ts) ops.value ops.rest.now ops.left (within_many PrefixOp prefix_op_run (picking_steps PrefixOp picks_prefix) ts) e in
+    let n = rest_within (length ts) (any_number prefix_op_run ts) ops.value ops.rest.now ops.left (near_any prefix_op_run (near_picking picks_prefix) ts) e in
     omega (arith, n.0, n.1)
 
 pub prefixed_gives : (first : PrefixOp) (bare : List Token → Read Expr) (ts : List Token) (ops : Found (List PrefixOp)) (more : Result (Found M) Halt) (result : Result (Found M) Halt) → Is ops (any_number prefix_op_run ts) → Gives more (becoming measured (bare ops.rest.now)) → Joined (prefix_node first) ops more result → Gives result (becoming measured (prefixed_run first bare ts))

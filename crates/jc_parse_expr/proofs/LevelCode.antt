@@ -9,8 +9,9 @@ use Rattle.jc_reading.specs.declared.reading.Halt.{Halt}
 use Rattle.jc_reading.specs.Giving.{Halts}
 use Rattle.jc_reading.specs.Kinds.{sign_code}
 use Rattle.jc_reading.specs.Reading.{Read, Found, Stopped, Run, found, becoming, joined, in_turn, of_kind, behind_it}
-use Rattle.jc_reading.proofs.Steps.{Within, within_bind, within_becoming}
+use Rattle.jc_reading.proofs.Steps.{within_bind, within_becoming}
 use Rattle.jc_reading.proofs.Signs.{sign_laws}
+use Rattle.jc_reading.specs.Reach.{Within}
 use Rattle.jc_parse_expr.specs.declared.measured.Measured.{Measured}
 use Rattle.jc_parse_expr.specs.Measuring.{measured}
 use Rattle.jc_expr_laws.specs.LevelReading.{assign_run}

@@ -12,13 +12,14 @@ use Rattle.jc_grammar.specs.Shapes.{is_primitive}
 use Rattle.jc_reading.specs.Kinds.{sign_code, key_code, one_of}
 use Rattle.jc_reading.specs.Reading.{Stopped, Run, in_turn, perhaps, any_number, either, of_kind, at_kind}
 use Rattle.jc_reading.specs.Further.{either_one}
+use Rattle.jc_reading.specs.Reach.{Near}
+use Rattle.jc_reading.proofs.Nears.{near_as, near_by_value, near_turn, near_perhaps, near_any, near_either, near_picking, near_kind, near_place, near_prefer, near_followed, within_cond, within_then}
 use Rattle.jc_parse_type.specs.TypeReading.{type_run}
 use Rattle.jc_parse_type.proofs.CodeSteps.{within_type}
 use Rattle.jc_expr_laws.specs.LevelReading.{picks_touching, touching_run, or_else_op, and_also_op, or_op, xor_op, and_op, equal_op, less_op, shift_op, plus_op, times_op, less_run, shift_run, or_else_run, and_also_run, or_run, xor_run, and_run, equal_run, plus_run, times_run, is_tall, chain_made, chain_run, picks_prefix, prefix_op_run, plain_op, plain_op_run, prefix_made, prefix_codes, prefix_run, plain_run, unary_run, operand_for, cast_run, bare_made, bare_run, conditional_made, conditional_run, touched_assign_run, assign_op, assign_run, no_target, assign_made, expr_run, Levels, next_levels, none_at, no_levels}
 use Rattle.jc_expr_laws.specs.CompareReading.{links, barring, comparison_run, barred, behind_part, next_comparison_run, comparisons_run, compared_made, compare_run, touched_before}
 use Rattle.jc_expr_laws.specs.PrimeReading.{init_run}
 use Rattle.jc_expr_laws.specs.ExprReading.{Readers, next_readers, readers}
-use Rattle.jc_parse_expr.proofs.Nears.{Near, near_as, near_by_value, near_turn, near_perhaps, near_any, near_either, near_picking, near_kind, near_place, near_prefer, near_followed, within_cond, within_then}
 use Rattle.jc_parse_expr.proofs.PrimeNears.{near_init, near_array, near_post}
 
 -- operators

@@ -26,11 +26,9 @@ pub mod MeasuredRead
 pub mod MeasuredSteps
 pub mod MemberCode
 pub mod MemberSteps
-pub mod Nears
 pub mod NodeHeights
 pub mod OperandCode
 pub mod PairSteps
-pub mod Picks
 pub mod PrefixCode
 pub mod PrimeCodes
 pub mod PrimeNears

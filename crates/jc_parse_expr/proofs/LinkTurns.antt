@@ -3,8 +3,10 @@ use Rattle.std.proofs.Common.{◌≡◌, ℕ, zero, suc, ◌<◌, ◌≤◌, min
 use Rattle.jc_lexer.specs.declared.token.Token.{Token}
 use Rattle.jc_reading.specs.Reading.{Read, Found, Stopped, Run, noting, becoming, as_new}
 use Rattle.jc_reading.specs.Growing.{one_then}
-use Rattle.jc_reading.proofs.Steps.{Within, within_becoming, within_noting, within_more}
-use Rattle.jc_reading.proofs.Turns.{Advances, noting_far}
+use Rattle.jc_reading.proofs.Steps.{within_becoming, within_noting, within_more}
+use Rattle.jc_reading.proofs.Turns.{noting_far}
+use Rattle.jc_reading.specs.Reach.{Within, GoesAhead}
+use Rattle.jc_reading.proofs.Nears.{ahead_near}
 use Rattle.jc_expr_laws.specs.CompareReading.{touched_before, links, linked}
 
 module _ {V P Q : Type 0} (f : P → Q) (make : V → P → V) (part : V → Bool → Run P) where
@@ -39,7 +41,7 @@ module _ {V P Q : Type 0} (f : P → Q) (make : V → P → V) (part : V → Boo
   mapped_same (Found a r l) = refl
   mapped_same (Stopped l) = refl
 
-  module _ (steps : (v : V) (touched : Bool) → Advances P (part v touched)) where
+  module _ (steps : (v : V) (touched : Bool) → GoesAhead (part v touched)) where
     within_link : (n : ℕ) (v : V) (ts : List Token) (m : Read P) → Within (length ts) m → ((w : V) (b : Bool) (q : List Token) → Within (length q) (links n make part w b q)) → Within (length ts) (one_then ts m (λ p q. links n make part (make v p) (touched_before ts (length q)) q))
     within_link n v ts (Found p q l) w more =
         let k = links n make part (make v p) (touched_before ts (length q)) q in
@@ -49,7 +51,7 @@ module _ {V P Q : Type 0} (f : P → Q) (make : V → P → V) (part : V → Boo
     within_links : (n : ℕ) (v : V) (touched : Bool) (ts : List Token) → Within (length ts) (links n make part v touched ts)
     unfolding links
     within_links zero v touched ts = (omega arith, omega arith)
-    within_links (suc n) v touched ts = within_link n v ts (part v touched ts) ((steps v touched).within ts) (within_links n)
+    within_links (suc n) v touched ts = within_link n v ts (part v touched ts) (ahead_near (part v touched) (steps v touched) ts) (within_links n)
 
     pub link_first : (v : V) (touched : Bool) (ts : List Token) → LinkResumes (as_new (map f) (linked make part v touched) ts) [] (length ts) v touched ts
     link_first v touched ts =

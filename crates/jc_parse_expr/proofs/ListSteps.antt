@@ -10,6 +10,7 @@ use Rattle.jc_tree.specs.declared.expression.Init.{Init}
 use Rattle.jc_reading.specs.Kinds.{sign_code, front_code, one_of}
 use Rattle.jc_reading.specs.Reading.{Read, Found, Stopped, Run, found, noting, ◌>>=◌, becoming, joined, as_new, in_turn, perhaps, any_number, of_kind, at_kind, before_it, behind_it, first_and_more, each_behind, commas_run, This, That}
 use Rattle.jc_reading.proofs.Turns.{times_as}
+use Rattle.jc_reading.specs.Reach.{Near}
 use Rattle.jc_part_laws.specs.PartReading.{closing_run, row_made}
 use Rattle.jc_parse_type.proofs.CodeSteps.{behind_far}
 use Rattle.jc_expr_laws.specs.ExprReading.{readers, next_readers}
@@ -19,7 +20,6 @@ use Rattle.jc_parse_expr.specs.declared.parts.Row.{Row}
 use Rattle.jc_parse_expr.proofs.PrimeNears.{near_bracketed, near_init, near_row}
 use Rattle.jc_parse_expr.proofs.LevelNears.{near_expr, near_array_of}
 use Rattle.jc_parse_expr.proofs.MeasuredSteps.{twice, then_made, mapped_made, behind_kind, behind_place}
-use Rattle.jc_parse_expr.proofs.Nears.{Near}
 
 -- any number in brackets, by the expressions in them
 pub lengths_as : (m : Run Expr) (ts : List Token) → as_new (map length_of) (lengths_run m) ts ≡ any_number (length_run m) ts

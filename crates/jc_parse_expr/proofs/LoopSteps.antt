@@ -13,8 +13,10 @@ use Rattle.jc_tree.specs.declared.expression.Operand.TheVariants as operand_of
 use Rattle.jc_tree.specs.Heights.{capped, most, expr_height, operand_height}
 use Rattle.jc_reading.specs.Kinds.{key_code, sign_code, one_of}
 use Rattle.jc_reading.specs.Reading.{Read, Found, Stopped, Run, becoming, found, in_turn, behind_it, times, any_number, Either, This, That, either, of_kind, at_kind, picks, picks_at}
-use Rattle.jc_reading.proofs.Steps.{Within, Good, within_becoming}
-use Rattle.jc_reading.proofs.Turns.{resume, Resumes, Advances, loop_first, loop_next, loop_stop, loop_shorter}
+use Rattle.jc_reading.proofs.Steps.{Good, within_becoming}
+use Rattle.jc_reading.proofs.Turns.{Resumes, loop_first, loop_next, loop_stop, loop_shorter}
+use Rattle.jc_reading.specs.Reach.{Within, onto, GoesAhead}
+use Rattle.jc_reading.proofs.Nears.{near_any, ahead_picking, near_picking, ahead_turn, near_turn, near_kind, ahead_near, ahead_cond, ahead_either}
 use Rattle.jc_parse_type.specs.TypeReading.{type_run}
 use Rattle.jc_parse_type.proofs.CodeSteps.{within_type}
 use Rattle.jc_parse_expr.specs.declared.measured.Measured.{Measured}
@@ -24,11 +26,10 @@ use Rattle.jc_expr_laws.specs.CompareReading.{Comparison, comparison_run, barrin
 use Rattle.jc_parse_expr.specs.declared.operators.Level.{Level}
 use Rattle.jc_parse_expr.specs.declared.operators.Level.TheVariants as level_of
 use Rattle.jc_parse_expr.specs.BinaryLevels.{levels_at, operand_run, operands_run, tighter_run, measured_operand, next_operand_run, ends_open, open_over, cast_type_run, then_run}
-use Rattle.jc_parse_expr.proofs.CodeFacts.{operand_steps, operator_steps, turn_advances, within_expr, within_level, rest_within}
+use Rattle.jc_parse_expr.proofs.CodeFacts.{operand_steps, operator_steps, within_expr, within_level, rest_within}
 use Rattle.jc_expr_laws.proofs.LevelAssignOps.{assign_op_laws}
 use Rattle.jc_parse_expr.proofs.MeasuredRead.{measured_found, measured_stopped}
 use Rattle.jc_parse_expr.proofs.PairSteps.{made_found, made_stops}
-use Rattle.jc_parse_expr.proofs.Picks.{picking_steps, within_many}
 use Rattle.jc_parse_expr.proofs.CastCode.{within_typed}
 use Rattle.jc_parse_expr.proofs.LinkTurns.{LinkResumes, link_first, link_next, link_stop}
 
@@ -39,20 +40,20 @@ measured_rest k m v r l w e = (rest_within k m v.tree r l w (measured_found expr
 
 pub then_rest : (h : ℕ) (ts : List Token) (v : Measured Expr) (r : List Token) (l : ℕ) → becoming measured (then_run (levels_at h) ts) ≡ Found v r l → length r ≤ length ts
 then_rest h ts v r l e =
-    let w = (turn_advances (Unit {0}) Expr (of_kind (sign_code sign_of.Question)) (levels_at h).expr (picking_steps (Unit {0}) (picks (sign_code sign_of.Question))) (within_expr h)).within ts in
+    let w = near_turn (of_kind (sign_code sign_of.Question)) (levels_at h).expr (near_kind (sign_code sign_of.Question)) (within_expr h) ts in
     measured_rest (length ts) (then_run (levels_at h) ts) v r l (within_becoming (length ts) behind_it (in_turn (of_kind (sign_code sign_of.Question)) (levels_at h).expr ts) w) e
 
 pub assign_rest : (ts : List Token) (op : AssignOp) (r : List Token) (l : ℕ) → assign_run ts ≡ Found op r l → length r ≤ length ts
 assign_rest ts op r l e = (rest_within (length ts) (assign_run ts) op r l (assign_op_laws.within ts) e).1
 
 pub kind_rest : (code : ℕ) (ts q : List Token) → of_kind code ts ≡ found tt q → length q ≤ length ts
-kind_rest code ts q e = (rest_within (length ts) (of_kind code ts) tt q (length q) ((picking_steps (Unit {0}) (picks code)).within ts) e).1
+kind_rest code ts q e = (rest_within (length ts) (of_kind code ts) tt q (length q) (near_picking (picks code) ts) e).1
 
 pub place_rest : (code : ℕ) (ts q : List Token) (at : ℕ) → at_kind code ts ≡ found at q → length q ≤ length ts
-place_rest code ts q at e = (rest_within (length ts) (at_kind code ts) at q (length q) ((picking_steps ℕ (picks_at code)).within ts) e).1
+place_rest code ts q at e = (rest_within (length ts) (at_kind code ts) at q (length q) (near_picking (picks_at code) ts) e).1
 
 pub ops_rest : (ts : List Token) (list : List PrefixOp) (r : List Token) (l : ℕ) → any_number prefix_op_run ts ≡ Found list r l → length r ≤ length ts
-ops_rest ts list r l e = (rest_within (length ts) (any_number prefix_op_run ts) list r l (within_many PrefixOp prefix_op_run (picking_steps PrefixOp picks_prefix) ts) e).1
+ops_rest ts list r l e = (rest_within (length ts) (any_number prefix_op_run ts) list r l (near_any prefix_op_run (near_picking picks_prefix) ts) e).1
 
 pub cast_type_rest : (h : ℕ) (ts : List Token) (ty : TypeTree) (r : List Token) (l : ℕ) → cast_type_run h ts ≡ Found ty r l → length r ≤ length ts
 cast_type_rest h ts ty r l e = (rest_within (length ts) (cast_type_run h ts) ty r l (within_becoming (length ts) _ _ (within_typed h ts)) e).1
@@ -87,7 +88,7 @@ module _ (level : Level) (h : ℕ) where
   pub row_first : (ts : List Token) (list : List Operand) → list ≡ [] → Resumes (any_number One ts) list (length ts) One ts
   row_first ts list e =
       let s = loop_first Operand One (operand_steps level h) ts in
-      (s.0, s.1, s.2 ∙ ap (λ (l : List Operand). resume l (length ts) (times s.0 One ts)) (sym e))
+      (s.0, s.1, s.2 ∙ ap (λ (l : List Operand). onto l (length ts) (times s.0 One ts)) (sym e))
 
   pub row_shorter : (ts q : List Token) (v : Measured Operand) (l : ℕ) → becoming measured_operand (One ts) ≡ Found v q l → length q < length ts
   row_shorter ts q v l e = loop_shorter Operand One (operand_steps level h) ts q v.tree l (measured_found operand_height (One ts) v q l e).0
@@ -104,42 +105,19 @@ module _ (level : Level) (h : ℕ) where
 
 -- comparisons
 
-either_steps : (A B : Type 0) (codes : List ℕ) (m : Run A) (n : Run B) → Advances A m → Advances B n → Advances (Either A B) (either codes m n)
-either_steps A B codes m n v w = record { within = λ ts. within_pick ts (one_of codes ts); shorter = λ ts. shorter_pick ts (one_of codes ts) }
-  where
-    within_pick : (ts : List Token) (b : Bool) → Within (length ts) (cond b (becoming This (m ts)) (becoming {B = Either A B} That (n ts)))
-    within_pick ts true = within_becoming (length ts) This (m ts) (v.within ts)
-    within_pick ts false = within_becoming (length ts) That (n ts) (w.within ts)
-
-    shorter_made : {X : Type 0} (f : X → Either A B) (k : ℕ) (x : Read X) → Good (λ a r. length r < k) x → Good (λ a r. length r < k) (becoming f x)
-    shorter_made f k (Found a r l) g = g
-    shorter_made f k (Stopped l) g = tt
-
-    shorter_pick : (ts : List Token) (b : Bool) → Good (λ a r. length r < length ts) (cond b (becoming This (m ts)) (becoming {B = Either A B} That (n ts)))
-    shorter_pick ts true = shorter_made This (length ts) (m ts) (v.shorter ts)
-    shorter_pick ts false = shorter_made That (length ts) (n ts) (w.shorter ts)
-
-barring_steps : (A : Type 0) (codes : List ℕ) (m : Run A) → Advances A m → Advances A (barring codes m)
-barring_steps A codes m v = record { within = λ ts. within_bar ts (one_of codes ts); shorter = λ ts. shorter_bar ts (one_of codes ts) }
-  where
-    within_bar : (ts : List Token) (b : Bool) → Within (length ts) (cond b (Stopped (length ts)) (m ts))
-    within_bar ts true = omega arith
-    within_bar ts false = v.within ts
-
-    shorter_bar : (ts : List Token) (b : Bool) → Good (λ a r. length r < length ts) (cond b (Stopped (length ts)) (m ts))
-    shorter_bar ts true = tt
-    shorter_bar ts false = v.shorter ts
+barring_ahead : {A : Type 0} (codes : List ℕ) (m : Run A) → GoesAhead m → GoesAhead (barring codes m)
+barring_ahead codes m v ts = ahead_cond ts (one_of codes ts) (Stopped (length ts)) (m ts) (omega arith) (v ts)
 
 module _ (h : ℕ) where
   abbrev Shift : Run Expr
   Shift = (levels_at h).shift
 
-  comparison_steps : (opened touched : Bool) → Advances Comparison (next_comparison_run h Shift opened touched)
+  comparison_steps : (opened touched : Bool) → GoesAhead (next_comparison_run h Shift opened touched)
   comparison_steps opened touched =
-      barring_steps Comparison (barred opened touched) (comparison_run h Shift)
-      (either_steps (Unit {0} × TypeTree) (BinaryOp × Expr) (key_code key_of.Instanceof ∷ []) (in_turn (of_kind (key_code key_of.Instanceof)) (type_run h)) (in_turn less_run Shift)
-      (turn_advances (Unit {0}) TypeTree (of_kind (key_code key_of.Instanceof)) (type_run h) (picking_steps (Unit {0}) (picks (key_code key_of.Instanceof))) (within_type h))
-      (turn_advances BinaryOp Expr less_run Shift (operator_steps level_of.Compared) (within_level level_of.Shift h)))
+      barring_ahead (barred opened touched) (comparison_run h Shift)
+      (ahead_either (key_code key_of.Instanceof ∷ []) (in_turn (of_kind (key_code key_of.Instanceof)) (type_run h)) (in_turn less_run Shift)
+      (ahead_turn (of_kind (key_code key_of.Instanceof)) (type_run h) (ahead_picking (picks (key_code key_of.Instanceof))) (within_type h))
+      (ahead_turn less_run Shift (operator_steps level_of.Compared) (within_level level_of.Shift h)))
 
   abbrev Part : Bool → Bool → Run Comparison
   Part = next_comparison_run h Shift
@@ -177,5 +155,5 @@ module _ (h : ℕ) where
   pub link_end : (whole : Read (List Operand)) (row : Measured (List Operand)) (left near : ℕ) (opened touched : Bool) (ts : List Token) (l : ℕ) → LinkResumes compared_operand behind_part Part whole row.tree left opened touched ts → becoming measured_operand (next_operand_run h Shift opened touched ts) ≡ Stopped l → row.height ≡ (measured_operands row.tree).height → near ≡ min left l → becoming measured_operands whole ≡ Found row ts near
   link_end whole row left near opened touched ts l s e f g =
       let stop = made_stops compared_operand (Part opened touched ts) l (measured_stopped operand_height (next_operand_run h Shift opened touched ts) l e) in
-      let w : l ≤ length ts = subst (λ (x : Read Comparison). Within (length ts) x) stop ((comparison_steps opened touched).within ts) in
+      let w : l ≤ length ts = subst (λ (x : Read Comparison). Within (length ts) x) stop (ahead_near (Part opened touched) (comparison_steps opened touched) ts) in
       row_measured whole row ts near (link_stop compared_operand behind_part Part whole row.tree left opened touched ts l s stop w ∙ ap (λ (j : ℕ). Found row.tree ts j) (sym g)) f

@@ -7,11 +7,10 @@ use Rattle.jc_reading.specs.declared.reading.Halt.TheVariants as halt_of
 use Rattle.jc_reading.specs.Giving.{Gives, Halts}
 use Rattle.jc_reading.specs.Reading.{Read, Found, Stopped, Run, found, noting, ◌>>=◌, becoming, joined, as_new, in_turn, of_kind, at_kind}
 use Rattle.jc_reading.specs.Further.{by_value}
-use Rattle.jc_reading.proofs.Steps.{Within}
+use Rattle.jc_reading.specs.Reach.{Within, Near}
 use Rattle.jc_parse_expr.specs.declared.measured.Measured.{Measured}
 use Rattle.jc_parse_expr.specs.Measuring.{of_height}
 use Rattle.jc_parse_expr.specs.PrimeCode.{IsMeasured, Measures, Reads}
-use Rattle.jc_parse_expr.proofs.Nears.{Near}
 
 module _ {A : Type 0} (height : A → ℕ) where
   abbrev with_height : A → Measured A

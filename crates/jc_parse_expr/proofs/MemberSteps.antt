@@ -15,12 +15,13 @@ use Rattle.jc_tree.specs.Heights.{capped, expr_height}
 use Rattle.jc_grammar.specs.Shapes.{expr_shape}
 use Rattle.jc_reading.specs.Kinds.{sign_code, key_code, word_code, one_of}
 use Rattle.jc_reading.specs.Reading.{Read, Found, Stopped, Run, found, noting, ◌>>=◌, becoming, joined, as_new, in_turn, of_kind, at_kind, an_ident_at, picking, before_it, commas_run, This, That, Either, either}
+use Rattle.jc_reading.specs.Reach.{Near}
+use Rattle.jc_reading.proofs.Nears.{near_turn, near_kind}
 use Rattle.jc_parse_type.specs.TypeReading.{arg_run, type_run}
 use Rattle.jc_expr_laws.specs.PrimeReading.{Member, actuals_run, creation_run, some_args_run, named_run, member_run, indexed_run, dotted_run, selector_run, picks_literal, literal_codes}
 use Rattle.jc_expr_laws.specs.StartReading.{Keyed, dot_class_run, plain_made, parens_run, keyed_run, plain_run}
 use Rattle.jc_parse_expr.specs.PrimeCode.{array_in, expr_in, member_tree, named_tree, called_tree, some_args_list, dotted_tree, dotted_inside, pointed_tree, index_tree, selector_tree, selector_at, of_super, super_made, keyed_made, named_made, void_made, parens_made, literal_made, started}
 use Rattle.jc_parse_expr.specs.declared.parts.SelectorTree.TheVariants as selector_of
-use Rattle.jc_parse_expr.proofs.Nears.{Near, near_turn, near_kind}
 use Rattle.jc_parse_expr.proofs.PrimeNears.{near_args, near_bracketed, near_creation, near_dot_class, near_dotted_inside, near_member}
 use Rattle.jc_parse_expr.proofs.LevelNears.{near_expr, near_array_of}
 use Rattle.jc_parse_expr.proofs.MeasuredSteps.{twice, mapped_made, mapped_stops, behind_kind, behind_place}

@@ -5,8 +5,9 @@ use Rattle.jc_reading.specs.declared.reading.Halt.{Halt}
 use Rattle.jc_reading.specs.Giving.{Halts}
 use Rattle.jc_reading.specs.Reading.{Read, Found, Stopped, Run, found, noting, becoming, joined, ◌>>=◌, in_turn}
 use Rattle.jc_reading.specs.Further.{by_value}
-use Rattle.jc_reading.proofs.Steps.{Within, within_becoming}
+use Rattle.jc_reading.proofs.Steps.{within_becoming}
 use Rattle.jc_reading.proofs.Turns.{noting_far}
+use Rattle.jc_reading.specs.Reach.{Within}
 use Rattle.jc_parse_expr.proofs.MeasuredRead.{halts_by}
 
 module _ {A B : Type 0} (m : Run A) (n : A → Run B) where

@@ -10,6 +10,8 @@ use Rattle.jc_tree.specs.Heights.{expr_height}
 use Rattle.jc_grammar.specs.Shapes.{ends_bare, expr_shape}
 use Rattle.jc_reading.specs.Kinds.{sign_code, key_code, word_code}
 use Rattle.jc_reading.specs.Reading.{Run, in_turn, perhaps, any_number, either, picking, of_kind, at_kind, an_ident_at, behind_it, That, each_behind, commas_run}
+use Rattle.jc_reading.specs.Reach.{Near}
+use Rattle.jc_reading.proofs.Nears.{near_as, near_by_value, near_turn, near_perhaps, near_any, near_either, near_picking, near_kind, near_place, near_ident, near_room, near_prefer, near_growing, near_each, near_commas}
 use Rattle.jc_parse_type.specs.TypeReading.{dims_run, word_run, picks_word, primitive_codes, class_run, arg_run, type_run}
 use Rattle.jc_parse_type.proofs.TypeForms.{dims_laws, arg_laws, class_laws}
 use Rattle.jc_parse_type.proofs.CodeSteps.{within_row}
@@ -18,7 +20,6 @@ use Rattle.jc_expr_laws.specs.PrimeReading.{actuals_made, actuals_run, picks_lit
 use Rattle.jc_expr_laws.specs.StartReading.{dot_class_run, plain_made, parens_run, keyed_run, plain_run, special_made, class_dims_run, dot_key_run, special_run, which_grown, selecting_run, prime_run}
 use Rattle.jc_expr_laws.specs.PostReading.{picks_op, op_run, changed, ops_run, changed_by, post_run}
 use Rattle.jc_parse_expr.specs.PrimeCode.{skip_item_run}
-use Rattle.jc_parse_expr.proofs.Nears.{Near, near_as, near_by_value, near_turn, near_perhaps, near_any, near_either, near_picking, near_kind, near_place, near_ident, near_room, near_prefer, near_growing, near_each, near_commas}
 
 pub near_dims : Near dims_run
 near_dims = dims_laws.within

@@ -8,6 +8,7 @@ use Rattle.jc_tree.specs.declared.expression.Expr.{Expr}
 use Rattle.jc_tree.specs.declared.expression.Init.{Init}
 use Rattle.jc_reading.specs.Kinds.{sign_code}
 use Rattle.jc_reading.specs.Reading.{Found, as_new, in_turn, of_kind, before_it, an_ident_at}
+use Rattle.jc_reading.proofs.Nears.{near_as, near_ident, near_kind, near_turn}
 use Rattle.jc_parse_type.specs.TypeReading.{class_run, dims_run}
 use Rattle.jc_part_laws.specs.PartReading.{more_names_run}
 use Rattle.jc_parse_expr.specs.SpecialCode.{forgetting}
@@ -17,7 +18,6 @@ use Rattle.jc_parse_expr.specs.PrimeCode.{array_in, expr_in, init_in, some_args_
 use Rattle.jc_parse_expr.proofs.LevelNears.{near_expr, near_array_of}
 use Rattle.jc_parse_expr.proofs.ListSteps.{near_init_in}
 use Rattle.jc_parse_expr.proofs.MeasuredSteps.{rest_of_near}
-use Rattle.jc_parse_expr.proofs.Nears.{near_as, near_ident, near_kind, near_turn}
 use Rattle.jc_parse_expr.proofs.PrimeNears.{near_args, near_bracketed, near_class, near_dims, near_names, near_plain, near_special}
 
 pub rest_expr : (h : ℕ) (ts r : List Token) (e : Expr) (l : ℕ) → expr_in h ts ≡ Found e r l → length r ≤ length ts

@@ -10,9 +10,10 @@ use Rattle.jc_tree.specs.declared.types.PrimitiveWord.{PrimitiveWord}
 use Rattle.jc_tree.specs.declared.expression.Expr.{Expr}
 use Rattle.jc_reading.specs.Kinds.{key_code, sign_code, one_of}
 use Rattle.jc_reading.specs.Reading.{Read, Found, Stopped, found, noting, becoming, joined, ◌>>=◌, as_new, in_turn, of_kind, an_ident_at, This, That, Either, either}
-use Rattle.jc_reading.proofs.Turns.{lawful_advances, loop_shorter}
+use Rattle.jc_reading.proofs.Turns.{lawful_ahead, loop_shorter}
 use Rattle.jc_parse_type.proofs.TypeForms.{Bracket, bracket_laws}
 use Rattle.jc_reading.specs.Further.{with_room}
+use Rattle.jc_reading.proofs.Nears.{near_either, near_ident, near_kind, near_room}
 use Rattle.jc_parse_type.specs.TypeReading.{bracket_run, dims_run}
 use Rattle.jc_parse_type.proofs.CodeSteps.{behind_far}
 use Rattle.jc_part_laws.specs.PartReading.{more_names_run}
@@ -23,7 +24,6 @@ use Rattle.jc_parse_expr.specs.declared.parts.NamesTail.TheVariants as tail_is
 use Rattle.jc_parse_expr.specs.SpecialCode.{dims_tail, dot_name_run, forgetting, key_tail, of_tail, tail_of}
 use Rattle.jc_parse_expr.proofs.CreationSteps.{room, no_room}
 use Rattle.jc_parse_expr.proofs.MeasuredSteps.{behind_kind, then_made, twice}
-use Rattle.jc_parse_expr.proofs.Nears.{near_either, near_ident, near_kind, near_room}
 use Rattle.jc_parse_expr.proofs.PairSteps.{made_found}
 use Rattle.jc_parse_expr.proofs.SpecialSteps.{names_tail}
 
@@ -36,7 +36,7 @@ abbrev Pair : Type 0
 Pair = Unit {0} × Unit {0}
 
 pub brackets_shorter : (ts q : List Token) → bracket_run ts ≡ found (tt, tt) q → length q < length ts
-brackets_shorter ts q e = loop_shorter Pair bracket_run (lawful_advances Pair Bracket bracket_laws refl) ts q (tt, tt) (length q) e
+brackets_shorter ts q e = loop_shorter Pair bracket_run (lawful_ahead Pair Bracket bracket_laws refl) ts q (tt, tt) (length q) e
 
 pub dims_low : (h : ℕ) (ts : List Token) → h ≡ 0 → as_new dims_tail (class_dims_run h) ts ≡ Stopped (length ts)
 dims_low h ts e = ap (becoming dims_tail) (no_room h _ ts e)

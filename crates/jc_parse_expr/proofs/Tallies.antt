@@ -5,7 +5,8 @@ use Rattle.jc_lexer.specs.declared.token.Token.{Token}
 use Rattle.jc_tree.specs.Heights.{capped, most}
 use Rattle.jc_reading.specs.Kinds.{sign_code}
 use Rattle.jc_reading.specs.Reading.{Read, Found, Run, as_new, behind_it, commas_run, in_turn, of_kind, times}
-use Rattle.jc_reading.proofs.Turns.{resume, Resumes, turn_second}
+use Rattle.jc_reading.proofs.Turns.{Resumes, turn_second}
+use Rattle.jc_reading.specs.Reach.{onto}
 use Rattle.jc_parse_expr.proofs.HeightSteps.{one_height, pushed}
 use Rattle.jc_parse_expr.proofs.ListSteps.{commas_first}
 
@@ -26,7 +27,7 @@ pub commas_begin : {A : Type 0} (run : Run A) (ts q : List Token) (a : A) (l : �
 commas_begin {A = A} run ts q a l list e f =
     let m = as_new behind_it (in_turn (of_kind (sign_code sign_of.Comma)) run) in
     let s = turn_second m a l q in
-    (s.0, s.1, commas_first run ts q a l e ∙ s.2 ∙ ap (λ (x : List A). resume x l (times s.0 m q)) (sym f))
+    (s.0, s.1, commas_first run ts q a l e ∙ s.2 ∙ ap (λ (x : List A). onto x l (times s.0 m q)) (sym f))
 
 pub found_left : {A : Type 0} (m : Read A) (a : A) (r : List Token) (j k : ℕ) → m ≡ Found a r j → k ≡ j → m ≡ Found a r k
 found_left m a r j k e f = e ∙ ap (λ (i : ℕ). Found a r i) (sym f)

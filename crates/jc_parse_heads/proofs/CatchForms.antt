@@ -15,9 +15,9 @@ use Rattle.jc_part_laws.specs.PartReading.{modifiers_run}
 use Rattle.jc_expr_laws.specs.ExprReading.{exprs}
 use Rattle.jc_parse_heads.specs.UnitCode.{catch_opening, catch_opening_run}
 use Rattle.jc_parse_heads.specs.HeadCode.{opened_run, closed_name_run, caught_made, caught_run, caught_types_made, caught_types_run, catch_head_made, catch_head_run}
-use Rattle.jc_parse_heads.specs.declared.head_parts.Caught.{Caught}
-use Rattle.jc_parse_heads.specs.declared.head_parts.CaughtTypes.{CaughtTypes}
-use Rattle.jc_parse_heads.specs.declared.pieces.Opening.{Opening}
+use Rattle.jc_parse_nodes.specs.declared.head_parts.Caught.{Caught}
+use Rattle.jc_parse_nodes.specs.declared.head_parts.CaughtTypes.{CaughtTypes}
+use Rattle.jc_parse_nodes.specs.declared.pieces.Opening.{Opening}
 use Rattle.jc_parse_heads.proofs.Chains.{behind_opened, both_made}
 use Rattle.jc_parse_heads.proofs.Joinings.{second_made}
 

@@ -21,15 +21,16 @@ use Rattle.jc_part_laws.specs.PartReading.{formal_run, formals_run, keyed_run, p
 use Rattle.jc_expr_laws.specs.ExprReading.{exprs}
 use Rattle.jc_unit_laws.specs.UnitReading.{or_others}
 use Rattle.jc_unit_laws.specs.MemberReading.{Constructor, ConstructorTail, FieldTail, GenericRest, MethodTail, NamedRest, VoidMethod, constructor_made, constructor_run, field_tail_run, fields_made, generic_run, levels, member_made, method_head, method_made, method_tail_run, named_run, paren_codes, void_method_run}
-use Rattle.jc_parse_heads.specs.MemberCode.{ConstructorEnd, MethodEnd, code_head_run, constructor_end, constructor_end_run, constructor_shape_run, fields_run, fields_tail_made, finish, generic_head, generic_shape_run, method_end, method_end_run, method_shape, method_shape_run, named_shape_run, named_signature_run, named_tail_run, plain_head, signature_made, signature_run, tail_made, typed_shape, typed_shape_run, void_shape, void_shape_run, with_head, with_shape}
+use Rattle.jc_parse_heads.specs.MemberCode.{ConstructorEnd, MethodEnd, code_head_run, constructor_end, constructor_end_run, constructor_shape_run, fields_run, fields_tail_made, finish, generic_head, generic_shape_run, method_end, method_end_run, method_shape, method_shape_run, named_shape_run, named_signature_run, named_tail_run, plain_head, signature_made, signature_run, tail_made, typed_shape_run, void_shape, void_shape_run}
+use Rattle.jc_parse_nodes.specs.Nodes.{typed_shape, with_head, with_shape}
 use Rattle.jc_parse_heads.specs.UnitCode.{coded_member_run}
-use Rattle.jc_parse_heads.specs.declared.heads.MemberHead.{MemberHead}
-use Rattle.jc_parse_heads.specs.declared.heads.MemberHead.TheVariants as head_of
-use Rattle.jc_parse_heads.specs.declared.heads.FieldsTail.{FieldsTail}
-use Rattle.jc_parse_heads.specs.declared.heads.Named.{Named}
-use Rattle.jc_parse_heads.specs.declared.heads.Shape.{Shape}
-use Rattle.jc_parse_heads.specs.declared.heads.Shape.TheVariants as shape_is
-use Rattle.jc_parse_heads.specs.declared.heads.Signature.{Signature}
+use Rattle.jc_parse_nodes.specs.declared.heads.MemberHead.{MemberHead}
+use Rattle.jc_parse_nodes.specs.declared.heads.MemberHead.TheVariants as head_of
+use Rattle.jc_parse_nodes.specs.declared.heads.FieldsTail.{FieldsTail}
+use Rattle.jc_parse_nodes.specs.declared.heads.Named.{Named}
+use Rattle.jc_parse_nodes.specs.declared.heads.Shape.{Shape}
+use Rattle.jc_parse_nodes.specs.declared.heads.Shape.TheVariants as shape_is
+use Rattle.jc_parse_nodes.specs.declared.heads.Signature.{Signature}
 use Rattle.jc_parse_heads.proofs.Joinings.{remade}
 
 -- a name and a signature

@@ -25,14 +25,14 @@ use Rattle.jc_parse_parts.specs.Parts.{or_no_initial, more_vars_run, initial_run
 use Rattle.jc_parse_heads.specs.UnitCode.{for_opening, for_opening_run, listed}
 use Rattle.jc_parse_heads.specs.Beginnings.{modifier_codes}
 use Rattle.jc_parse_heads.specs.HeadCode.{opened_run, updating_run, testing_run, parens_end, effects_run, updates_made, updates_run, for_update_made, for_update_run, for_test_made, for_test_run, for_tail_made, for_tail_run, empty_head, Kind, kind_of, resting_run, given_run, each_kind_run, colon_codes, kinds_run, closed_expr_run, for_each_made, for_each_run, each_kind, for_more_made, for_more_run, for_vars_made, for_vars_run, for_kind_made, for_kind_run, for_dims_made, for_dims_run, named_of, for_name_made, for_name_run, for_typed_made, for_typed_run, named_head, typed_head, bare_head, first_modifiers_run, Moded, moded_run, for_moded_made, for_moded_run, effecting_run, for_effects_made, for_effects_run, tried_run, for_other_made, for_other_run, for_typed_or_run, for_ended_run}
-use Rattle.jc_parse_heads.specs.declared.head_parts.ForTail.{ForTail}
-use Rattle.jc_parse_heads.specs.declared.head_parts.ForMore.{ForMore}
-use Rattle.jc_parse_heads.specs.declared.head_parts.ForKind.{ForKind}
-use Rattle.jc_parse_heads.specs.declared.head_parts.ForKind.TheVariants as kind_is
-use Rattle.jc_parse_heads.specs.declared.head_parts.ForDims.{ForDims}
-use Rattle.jc_parse_heads.specs.declared.head_parts.ForNamed.{ForNamed}
-use Rattle.jc_parse_heads.specs.declared.head_parts.ForTyped.{ForTyped}
-use Rattle.jc_parse_heads.specs.declared.pieces.ForOpening.{ForOpening}
+use Rattle.jc_parse_nodes.specs.declared.head_parts.ForTail.{ForTail}
+use Rattle.jc_parse_nodes.specs.declared.head_parts.ForMore.{ForMore}
+use Rattle.jc_parse_nodes.specs.declared.head_parts.ForKind.{ForKind}
+use Rattle.jc_parse_nodes.specs.declared.head_parts.ForKind.TheVariants as kind_is
+use Rattle.jc_parse_nodes.specs.declared.head_parts.ForDims.{ForDims}
+use Rattle.jc_parse_nodes.specs.declared.head_parts.ForNamed.{ForNamed}
+use Rattle.jc_parse_nodes.specs.declared.head_parts.ForTyped.{ForTyped}
+use Rattle.jc_parse_nodes.specs.declared.pieces.ForOpening.{ForOpening}
 use Rattle.jc_parse_heads.proofs.Chains.{behind_opened, ended_step, flat, same_self}
 use Rattle.jc_parse_heads.proofs.Joinings.{Splits, cut, first_made, first_read, grouped, remade, room_gone, room_there, second_made, second_same, split_behind, split_here}
 

@@ -12,9 +12,8 @@ use Rattle.jc_part_laws.specs.PartReading.{modifier_run, modifiers_run, var_made
 use Rattle.jc_expr_laws.specs.ExprReading.{exprs}
 use Rattle.jc_expr_laws.proofs.ExprWhole.{expr_laws}
 use Rattle.jc_unit_laws.specs.UnitReading.{effect_in_run, expr_in_run, for_head_made, for_head_run, for_named_run, for_rest_run, semicolon_run}
-use Rattle.jc_parse_parts.specs.Lists.{Near, Inside}
-use Rattle.jc_parse_parts.proofs.Growths.{within_near}
-use Rattle.jc_parse_parts.proofs.Insides.{ahead_inside, inside_as, inside_commas, inside_each, inside_either, inside_perhaps, inside_picking, inside_room, inside_turn}
+use Rattle.jc_reading.specs.Reach.{Within, Near}
+use Rattle.jc_reading.proofs.Nears.{ahead_near, near_as, near_commas, near_each, near_either, near_perhaps, near_picking, near_room, near_turn}
 use Rattle.jc_parse_heads.specs.UnitCode.{for_opening, for_opening_run}
 use Rattle.jc_parse_heads.specs.Beginnings.{modifier_codes}
 use Rattle.jc_parse_heads.specs.HeadCode.{effecting_run, given_run, kinds_run, moded_run, resting_run, colon_codes, each_kind_run, tried_run}
@@ -22,64 +21,64 @@ use Rattle.jc_parse_heads.proofs.Aheads.{modifier_ahead}
 use Rattle.jc_parse_heads.proofs.ForUpdates.{effect_inside}
 use Rattle.jc_parse_heads.proofs.HeadInsides.{modifiers_inside, type_inside, value_inside}
 
-dims_inside : Inside dims_run
-dims_inside ts = within_near ts (dims_run ts) (dims_laws.within ts)
+dims_inside : Near dims_run
+dims_inside ts = dims_laws.within ts
 
-semicolon : Inside semicolon_run
-semicolon = inside_picking _
+semicolon : Near semicolon_run
+semicolon = near_picking _
 
-init_inside : (k : ℕ) → Inside (exprs.init (suc k))
-init_inside k ts = within_near ts (exprs.init (suc k) ts) ((expr_laws.init k).within ts)
+init_inside : (k : ℕ) → Near (exprs.init (suc k))
+init_inside k ts = (expr_laws.init k).within ts
 
-given_inside : (h : ℕ) → Inside (given_run h)
+given_inside : (h : ℕ) → Near (given_run h)
 unfolding with_room
-given_inside zero = inside_perhaps (with_room zero (in_turn (of_kind (sign_code sign_of.Assign)) (exprs.init zero))) (λ ts. omega arith)
-given_inside (suc k) = inside_perhaps (with_room (suc k) (in_turn (of_kind (sign_code sign_of.Assign)) (exprs.init (suc k)))) (λ ts. inside_turn (of_kind (sign_code sign_of.Assign)) (exprs.init (suc k)) (inside_picking _) (init_inside k) ts)
+given_inside zero = near_perhaps (with_room zero (in_turn (of_kind (sign_code sign_of.Assign)) (exprs.init zero))) (λ ts. omega arith)
+given_inside (suc k) = near_perhaps (with_room (suc k) (in_turn (of_kind (sign_code sign_of.Assign)) (exprs.init (suc k)))) (λ ts. near_turn (of_kind (sign_code sign_of.Assign)) (exprs.init (suc k)) (near_picking _) (init_inside k) ts)
 
-var_inside : (h : ℕ) → Inside (var_run exprs h)
+var_inside : (h : ℕ) → Near (var_run exprs h)
 unfolding var_run
-var_inside h = inside_as var_made _ (inside_turn an_ident_at (in_turn dims_run (given_run h)) (inside_picking _) (inside_turn dims_run (given_run h) dims_inside (given_inside h)))
+var_inside h = near_as var_made _ (near_turn an_ident_at (in_turn dims_run (given_run h)) (near_picking _) (near_turn dims_run (given_run h) dims_inside (given_inside h)))
 
-updating_inside : (h : ℕ) → Inside (effect_in_run exprs h)
+updating_inside : (h : ℕ) → Near (effect_in_run exprs h)
 unfolding with_room
 updating_inside zero ts = omega arith
 updating_inside (suc k) ts = effect_inside k ts
 
-rest_inside : (h : ℕ) → Inside (for_rest_run exprs h)
+rest_inside : (h : ℕ) → Near (for_rest_run exprs h)
 unfolding for_rest_run
 rest_inside h =
-    inside_turn semicolon_run _ semicolon (inside_turn (perhaps (expr_in_run exprs h)) _ (inside_perhaps (expr_in_run exprs h) (inside_room h (exprs.expr h) (value_inside h)))
-    (inside_turn semicolon_run (perhaps (commas_run (effect_in_run exprs h))) semicolon (inside_perhaps (commas_run (effect_in_run exprs h)) (inside_commas (effect_in_run exprs h) (updating_inside h)))))
+    near_turn semicolon_run _ semicolon (near_turn (perhaps (expr_in_run exprs h)) _ (near_perhaps (expr_in_run exprs h) (near_room h (exprs.expr h) (value_inside h)))
+    (near_turn semicolon_run (perhaps (commas_run (effect_in_run exprs h))) semicolon (near_perhaps (commas_run (effect_in_run exprs h)) (near_commas (effect_in_run exprs h) (updating_inside h)))))
 
-kinds_inside : (h : ℕ) → Inside (kinds_run h)
+kinds_inside : (h : ℕ) → Near (kinds_run h)
 kinds_inside h =
-    inside_either colon_codes (each_kind_run h) (in_turn (given_run h) (resting_run h))
-    (inside_turn (of_kind (sign_code sign_of.Colon)) (exprs.expr h) (inside_picking _) (value_inside h))
-    (inside_turn (given_run h) (resting_run h) (given_inside h) (inside_turn (each_behind sign_of.Comma (var_run exprs h)) (for_rest_run exprs h) (inside_each sign_of.Comma (var_run exprs h) (var_inside h)) (rest_inside h)))
+    near_either colon_codes (each_kind_run h) (in_turn (given_run h) (resting_run h))
+    (near_turn (of_kind (sign_code sign_of.Colon)) (exprs.expr h) (near_picking _) (value_inside h))
+    (near_turn (given_run h) (resting_run h) (given_inside h) (near_turn (each_behind sign_of.Comma (var_run exprs h)) (for_rest_run exprs h) (near_each sign_of.Comma (var_run exprs h) (var_inside h)) (rest_inside h)))
 
-named_inside : (h : ℕ) → Inside (for_named_run exprs h)
+named_inside : (h : ℕ) → Near (for_named_run exprs h)
 unfolding for_named_run
-named_inside h = inside_turn an_ident_at (in_turn dims_run (kinds_run h)) (inside_picking _) (inside_turn dims_run (kinds_run h) dims_inside (kinds_inside h))
+named_inside h = near_turn an_ident_at (in_turn dims_run (kinds_run h)) (near_picking _) (near_turn dims_run (kinds_run h) dims_inside (kinds_inside h))
 
-moded_inside : (h : ℕ) → Inside (moded_run h)
+moded_inside : (h : ℕ) → Near (moded_run h)
 moded_inside h =
-    inside_turn (modifier_run exprs h) _ (ahead_inside (modifier_run exprs h) (modifier_ahead h)) (inside_turn (modifiers_run exprs h) _ (modifiers_inside h)
-    (inside_turn (type_run h) (for_named_run exprs h) (type_inside h) (named_inside h)))
+    near_turn (modifier_run exprs h) _ (ahead_near (modifier_run exprs h) (modifier_ahead h)) (near_turn (modifiers_run exprs h) _ (modifiers_inside h)
+    (near_turn (type_run h) (for_named_run exprs h) (type_inside h) (named_inside h)))
 
-effecting_inside : (k : ℕ) → Inside (effecting_run (suc k))
-effecting_inside k = inside_turn (commas_run (exprs.effect (suc k))) (for_rest_run exprs (suc k)) (inside_commas (exprs.effect (suc k)) (effect_inside k)) (rest_inside (suc k))
+effecting_inside : (k : ℕ) → Near (effecting_run (suc k))
+effecting_inside k = near_turn (commas_run (exprs.effect (suc k))) (for_rest_run exprs (suc k)) (near_commas (exprs.effect (suc k)) (effect_inside k)) (rest_inside (suc k))
 
 -- one and more behind it, or the other
 
-near_note : {A B : Type 0} (ts q : List Token) (l : ℕ) (f : A → B) (m : Read A) → l ≤ length ts → length q ≤ length ts → Near q m → Near ts (noting l (becoming f m))
+near_note : {A B : Type 0} (ts q : List Token) (l : ℕ) (f : A → B) (m : Read A) → l ≤ length ts → length q ≤ length ts → Within (length q) m → Within (length ts) (noting l (becoming f m))
 near_note ts q l f (Found a r k) e g w = (omega (arith, w.0), omega (arith, w.1, g))
 near_note ts q l f (Stopped k) e g w = omega (arith, w, e, g)
 
-near_choice : {A : Type 0} (ts : List Token) (b : Bool) (m n : Read A) → Near ts m → Near ts n → Near ts (cond b m n)
+near_choice : {A : Type 0} (ts : List Token) (b : Bool) (m n : Read A) → Within (length ts) m → Within (length ts) n → Within (length ts) (cond b m n)
 near_choice ts true m n v w = v
 near_choice ts false m n v w = w
 
-near_tried : {A B C : Type 0} (codes : List ℕ) (ts : List Token) (m : Read A) (k : Run C) (n : Run B) → Near ts m → Inside k → Inside n → Near ts (tried codes ts m k n)
+near_tried : {A B C : Type 0} (codes : List ℕ) (ts : List Token) (m : Read A) (k : Run C) (n : Run B) → Within (length ts) m → Near k → Near n → Within (length ts) (tried codes ts m k n)
 near_tried {A = A} {B = B} {C = C} codes ts (Found a r l) k n w v u =
     let near : l ≤ length ts = omega (arith, w.0, w.1) in
     let same : length ts ≤ length ts = omega arith in
@@ -91,19 +90,19 @@ near_tried {A = A} {B = B} {C = C} codes ts (Stopped l) k n w v u =
     let other : B → Either (A × C) B = λ b. That b in
     near_note ts ts l other (n ts) w same (u ts)
 
-tried_inside : (k : ℕ) → Inside (tried_run (suc k))
+tried_inside : (k : ℕ) → Near (tried_run (suc k))
 tried_inside k ts = near_tried (word_code ∷ []) ts (type_run (suc k) ts) (for_named_run exprs (suc k)) (effecting_run (suc k)) (type_inside (suc k) ts) (named_inside (suc k)) (effecting_inside k)
 
-head_inside : (k : ℕ) → Inside (for_head_run exprs (suc k))
+head_inside : (k : ℕ) → Near (for_head_run exprs (suc k))
 unfolding for_head_run
 head_inside k =
-    inside_as for_head_made _
-    (inside_either (sign_code sign_of.Semicolon ∷ []) (for_rest_run exprs (suc k)) (either modifier_codes (moded_run (suc k)) (tried_run (suc k))) (rest_inside (suc k))
-    (inside_either modifier_codes (moded_run (suc k)) (tried_run (suc k)) (moded_inside (suc k)) (tried_inside k)))
+    near_as for_head_made _
+    (near_either (sign_code sign_of.Semicolon ∷ []) (for_rest_run exprs (suc k)) (either modifier_codes (moded_run (suc k)) (tried_run (suc k))) (rest_inside (suc k))
+    (near_either modifier_codes (moded_run (suc k)) (tried_run (suc k)) (moded_inside (suc k)) (tried_inside k)))
 
-pub for_inside : (h : ℕ) → Inside (for_opening_run h)
+pub for_inside : (h : ℕ) → Near (for_opening_run h)
 unfolding for_opening_run with_room
 for_inside zero ts = omega arith
 for_inside (suc k) ts =
-    inside_as for_opening _ (inside_turn (at_kind (key_code key_of.For)) _ (inside_picking _) (inside_turn (of_kind (sign_code sign_of.LeftParen)) _ (inside_picking _)
-    (inside_turn (for_head_run exprs (suc k)) (of_kind (sign_code sign_of.RightParen)) (head_inside k) (inside_picking _)))) ts
+    near_as for_opening _ (near_turn (at_kind (key_code key_of.For)) _ (near_picking _) (near_turn (of_kind (sign_code sign_of.LeftParen)) _ (near_picking _)
+    (near_turn (for_head_run exprs (suc k)) (of_kind (sign_code sign_of.RightParen)) (head_inside k) (near_picking _)))) ts

@@ -18,16 +18,15 @@ use Rattle.jc_expr_laws.proofs.ExprWhole.{expr_laws}
 use Rattle.jc_expr_laws.proofs.LevelPrefixes.{post_goes}
 use Rattle.jc_expr_laws.proofs.LevelKnot.{all_laws}
 use Rattle.jc_unit_laws.specs.UnitReading.{effect_in_run}
-use Rattle.jc_parse_parts.specs.Lists.{Near, Inside}
-use Rattle.jc_parse_parts.proofs.Growths.{within_near}
-use Rattle.jc_parse_parts.proofs.Insides.{inside_commas}
+use Rattle.jc_reading.specs.Reach.{Within, Near}
+use Rattle.jc_reading.proofs.Nears.{near_commas}
 use Rattle.jc_parse_heads.proofs.Joinings.{room_gone, room_there}
 use Rattle.jc_parse_heads.specs.HeadCode.{effects_run, effects_in_run, no_updates, parens_end, updates_made, updates_run}
 
 -- an effect
 
-pub effect_inside : (k : ℕ) → Inside (exprs.effect (suc k))
-effect_inside k ts = within_near ts (exprs.effect (suc k) ts) ((expr_laws.effect k).within ts)
+pub effect_inside : (k : ℕ) → Near (exprs.effect (suc k))
+effect_inside k ts = (expr_laws.effect k).within ts
 
 nearly_at : (h : ℕ) (ts : List Token) → Nearly Expr (one_of post_goes) (exprs.effect h ts) (strict_effect h ts)
 unfolding readers
@@ -37,18 +36,18 @@ nearly_at (suc h) ts = effect_nearly (suc h) (readers (suc h)).levels.bare (read
 abbrev stopped_at : ℕ → Read Expr
 stopped_at l = Stopped l
 
-near_strict : (ts : List Token) (m n : Read Expr) → Near ts m → Nearly Expr (one_of post_goes) m n → Near ts n
+near_strict : (ts : List Token) (m n : Read Expr) → Within (length ts) m → Nearly Expr (one_of post_goes) m n → Within (length ts) n
 near_strict ts m n w h =
-    ⊎_elim (λ (e : m ≡ n). subst (λ (v : Read Expr). Near ts v) e w)
+    ⊎_elim (λ (e : m ≡ n). subst (λ (v : Read Expr). Within (length ts) v) e w)
     (λ (b : Back Expr (one_of post_goes) m n).
-    let found : Near ts (Found b.value b.rest b.left) = subst (λ (v : Read Expr). Near ts v) b.finds w in
-    let stopped : Near ts (stopped_at b.left) = omega (arith, found.0, found.1) in
-    subst (λ (v : Read Expr). Near ts v) (sym b.stops) stopped) h
+    let found : Within (length ts) (Found b.value b.rest b.left) = subst (λ (v : Read Expr). Within (length ts) v) b.finds w in
+    let stopped : Within (length ts) (stopped_at b.left) = omega (arith, found.0, found.1) in
+    subst (λ (v : Read Expr). Within (length ts) v) (sym b.stops) stopped) h
 
-strict_within : (k : ℕ) → Inside (strict_effect (suc k))
+strict_within : (k : ℕ) → Near (strict_effect (suc k))
 strict_within k ts = near_strict ts (exprs.effect (suc k) ts) (strict_effect (suc k) ts) (effect_inside k ts) (nearly_at (suc k) ts)
 
-pub strict_inside : (h : ℕ) → 0 < h → Inside (strict_effect h)
+pub strict_inside : (h : ℕ) → 0 < h → Near (strict_effect h)
 strict_inside zero n = let no : ⊥ = omega (arith, n) in absurd no
 strict_inside (suc k) n = strict_within k
 
@@ -117,7 +116,7 @@ some_part a l (Stopped k) = refl
 gone : (ts : List Token) (k : ℕ) → k ≤ length ts → parens_end ts ≡ Stopped (length ts) → Update ts (Stopped k) ≡ Stopped k
 gone ts k w e = ap (λ (v : Read (Unit {0})). becoming updates_made (noting k (becoming (joined None) v))) e ∙ (let m : min k (length ts) ≡ k = omega (arith, w) in ap (λ (i : ℕ). Stopped i) m)
 
-alike : (ts : List Token) (m n : Read (List Expr)) → Then m ≡ Then n → Quiet ts m → Quiet ts n → Near ts m → Near ts n → Update ts m ≡ Update ts n
+alike : (ts : List Token) (m n : Read (List Expr)) → Then m ≡ Then n → Quiet ts m → Quiet ts n → Within (length ts) m → Within (length ts) n → Update ts m ≡ Update ts n
 alike ts (Found a r l) (Found b q k) p u v w x = some_part a l (parens_end r) ∙ ap (becoming before_it) p ∙ sym (some_part b k (parens_end q))
 alike ts (Found a r l) (Stopped k) p u v w x = some_part a l (parens_end r) ∙ ap (becoming before_it) p ∙ sym (gone ts k x (no_end ts a r l u))
 alike ts (Stopped l) (Found b q k) p u v w x = gone ts l w (no_end ts b q k v) ∙ ap (becoming before_it) p ∙ sym (some_part b k (parens_end q))
@@ -129,7 +128,7 @@ updates_alike zero ts = refl
 updates_alike (suc k) ts =
     alike ts (commas_run (exprs.effect (suc k)) ts) (commas_run (strict_effect (suc k)) ts) (effects_and_sign sign_of.RightParen (suc k) ts refl)
     (λ e. commas_refused (exprs.effect (suc k)) ts (effect_refused k ts e)) (λ e. commas_refused (strict_effect (suc k)) ts (strict_refused k ts e))
-    (inside_commas (exprs.effect (suc k)) (effect_inside k) ts) (inside_commas (strict_effect (suc k)) (strict_within k) ts)
+    (near_commas (exprs.effect (suc k)) (effect_inside k) ts) (near_commas (strict_effect (suc k)) (strict_within k) ts)
 
 pub updates_is : (h : ℕ) (ts : List Token) → updates_run h ts ≡ Update ts (effects_in_run h ts)
 unfolding updates_run

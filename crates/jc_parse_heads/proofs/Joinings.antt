@@ -11,7 +11,8 @@ use Rattle.jc_reading.specs.Kinds.{sign_code, one_of}
 use Rattle.jc_reading.specs.Reading.{Read, Found, Stopped, Run, noting, becoming, joined, ◌>>=◌, as_new, in_turn, of_kind, before_it, Either, This, That, either}
 use Rattle.jc_reading.specs.Further.{with_room, either_one}
 use Rattle.jc_unit_laws.specs.UnitReading.{or_others}
-use Rattle.jc_parse_heads.specs.Joins.{behind, closing, Joined}
+use Rattle.jc_parse_nodes.specs.Joins.{behind, Joined}
+use Rattle.jc_parse_heads.specs.Closing.{closing}
 
 -- a reach that is noted
 

@@ -12,7 +12,6 @@ pub mod Kinded
 pub mod LevelAdvances
 pub mod Lowness
 pub mod MemberEnds
-pub mod Opens
 pub mod ResourceForms
 pub mod Shaping
 pub mod Starts

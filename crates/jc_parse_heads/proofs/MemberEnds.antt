@@ -20,10 +20,11 @@ use Rattle.jc_reading.specs.Further.{by_second, either_one, past, second_is}
 use Rattle.jc_expr_laws.specs.ExprReading.{exprs}
 use Rattle.jc_unit_laws.specs.UnitReading.{Braces, braced_run, expr_in_run, semicolon_run}
 use Rattle.jc_unit_laws.specs.MemberReading.{Actuals, actuals_run, constructor_items, constructor_items_run, first_run, item_run, levels, or_no_actuals, paren_codes, super_made, super_run, this_made, this_run}
-use Rattle.jc_parse_heads.specs.MemberCode.{MethodEnd, actual_list, actual_list_run, between, code_head_run, constructor_end, constructor_end_run, constructor_list, constructor_list_run, ended_actuals_run, finish, first_ended_run, first_items_run, first_row_run, method_end, method_end_run, method_items, method_items_run, method_member, no_items_run, no_statements_run, some_exprs_run, super_or_item_run, with_head}
+use Rattle.jc_parse_heads.specs.MemberCode.{MethodEnd, actual_list, actual_list_run, between, code_head_run, constructor_end, constructor_end_run, constructor_list, constructor_list_run, ended_actuals_run, finish, first_ended_run, first_items_run, first_row_run, method_end, method_end_run, method_items, method_items_run, no_items_run, no_statements_run, some_exprs_run, super_or_item_run}
+use Rattle.jc_parse_nodes.specs.Nodes.{method_member, with_head}
 use Rattle.jc_parse_heads.specs.UnitCode.{braced_items_run, braces_list, coded_member_run, listed}
-use Rattle.jc_parse_heads.specs.declared.heads.MemberHead.{MemberHead}
-use Rattle.jc_parse_heads.specs.declared.heads.MemberHead.TheVariants as head_of
+use Rattle.jc_parse_nodes.specs.declared.heads.MemberHead.{MemberHead}
+use Rattle.jc_parse_nodes.specs.declared.heads.MemberHead.TheVariants as head_of
 use Rattle.jc_parse_heads.proofs.Codings.{coded_is, finish_noting}
 use Rattle.jc_parse_heads.proofs.Joinings.{either_this, either_that, first_made, grouped, remade, second_made, second_same, split_behind, split_here}
 

@@ -19,9 +19,9 @@ use Rattle.jc_unit_laws.specs.UnitReading.{resource_made, resource_run, resource
 use Rattle.jc_unit_laws.specs.MemberReading.{levels}
 use Rattle.jc_parse_heads.specs.UnitCode.{roomy_resources_run}
 use Rattle.jc_parse_heads.specs.HeadCode.{assigned_name_run, valued_made, valued_run, typed_value_made, typed_value_run, one_resource_run, more_resources_made, more_resources_run, some_resources_made, some_resources_run}
-use Rattle.jc_parse_heads.specs.declared.head_parts.MoreResources.{MoreResources}
-use Rattle.jc_parse_heads.specs.declared.head_parts.TypedValue.{TypedValue}
-use Rattle.jc_parse_heads.specs.declared.head_parts.Valued.{Valued}
+use Rattle.jc_parse_nodes.specs.declared.head_parts.MoreResources.{MoreResources}
+use Rattle.jc_parse_nodes.specs.declared.head_parts.TypedValue.{TypedValue}
+use Rattle.jc_parse_nodes.specs.declared.head_parts.Valued.{Valued}
 use Rattle.jc_parse_heads.proofs.Joinings.{cut, first_made, grouped, room_gone, room_there, second_made, split_behind, split_here, two_halts}
 
 abbrev pub valued_node : (Ident × Expr) → Valued

@@ -16,10 +16,10 @@ use Rattle.jc_parse_parts.specs.Parts.{initial_run, or_no_initial}
 use Rattle.jc_tree.specs.declared.expression.Init.{Init}
 use Rattle.jc_tree.specs.declared.name.Ident.{Ident}
 use Rattle.jc_tree.specs.declared.statement.Var.{Var}
-use Rattle.jc_parse_heads.specs.declared.heads.FieldsTail.{FieldsTail}
-use Rattle.jc_parse_heads.specs.declared.heads.NamedTail.{NamedTail}
-use Rattle.jc_parse_heads.specs.declared.heads.NamedTail.TheVariants as tail_of
-use Rattle.jc_parse_heads.specs.declared.heads.Signature.{Signature}
+use Rattle.jc_parse_nodes.specs.declared.heads.FieldsTail.{FieldsTail}
+use Rattle.jc_parse_nodes.specs.declared.heads.NamedTail.{NamedTail}
+use Rattle.jc_parse_nodes.specs.declared.heads.NamedTail.TheVariants as tail_of
+use Rattle.jc_parse_nodes.specs.declared.heads.Signature.{Signature}
 use Rattle.jc_parse_heads.specs.MemberCode.{code_head_run, ended_more_run, fields_run, fields_tail_made, generic_head, generic_head_run, named_tail_run, plain_head, plain_head_run, signature_run, tail_made, constructor_shape_run, generic_shape_run, method_shape_run, named_shape_run, typed_shape_run, void_shape_run}
 use Rattle.jc_parse_heads.proofs.Joinings.{cut, either_this, either_that, first_made, first_read, noted_bind, noted_made, or_this, or_that, second_read, second_same}
 

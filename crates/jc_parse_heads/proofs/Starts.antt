@@ -16,11 +16,12 @@ use Rattle.jc_reading.specs.Further.{with_room}
 use Rattle.jc_expr_laws.specs.ExprReading.{exprs}
 use Rattle.jc_unit_laws.specs.UnitReading.{Braces, CaseLabel, Level, arm_made, arm_run, block_made, block_run, braced_run, break_made, break_run, case_made, case_run, continue_made, continue_run, expr_in_run, for_head_run, for_made, for_run, label_run, labeled_made, parens_run, return_made, return_run, semicolon_run, switch_made, switch_run, throw_made, throw_run, while_made, while_run}
 use Rattle.jc_unit_laws.specs.MemberReading.{levels}
-use Rattle.jc_parse_heads.specs.Joins.{alone}
+use Rattle.jc_parse_nodes.specs.Joins.{alone}
 use Rattle.jc_parse_heads.specs.UnitCode as code
-use Rattle.jc_parse_heads.specs.UnitCode.{tested_made, tested_run, roomy_tested_run, ended_value_run, ended_label_run, ended_expr_run, braces_list, items_until_run, braced_groups_run, clause_made, opening_of_label, case_label_run, default_label_run, for_opening, for_opening_run, named_label_run}
-use Rattle.jc_parse_heads.specs.declared.pieces.ForOpening.{ForOpening}
-use Rattle.jc_parse_heads.specs.declared.pieces.Tested.{Tested}
+use Rattle.jc_parse_heads.specs.UnitCode.{tested_made, tested_run, roomy_tested_run, ended_value_run, ended_label_run, ended_expr_run, braces_list, items_until_run, braced_groups_run, opening_of_label, case_label_run, default_label_run, for_opening, for_opening_run, named_label_run}
+use Rattle.jc_parse_nodes.specs.Nodes.{clause_made}
+use Rattle.jc_parse_nodes.specs.declared.pieces.ForOpening.{ForOpening}
+use Rattle.jc_parse_nodes.specs.declared.pieces.Tested.{Tested}
 use Rattle.jc_parse_heads.proofs.Joinings.{split_here, split_behind, split_room, grouped, first_made, second_made, either_this, either_that, noted_bind, room_gone, room_there}
 
 abbrev Case : List ℕ

@@ -15,13 +15,13 @@ use Rattle.jc_expr_laws.specs.ExprReading.{strict_effect}
 use Rattle.jc_unit_laws.specs.UnitReading.{ForRest, effect_in_run, expr_in_run, for_head_made, for_head_run, for_named_run, for_rest_run, or_no_effects, semicolon_run}
 use Rattle.jc_parse_parts.specs.Parts.{or_no_initial}
 use Rattle.jc_parse_heads.specs.UnitCode.{listed}
-use Rattle.jc_parse_heads.specs.declared.head_parts.ForTail.{ForTail}
-use Rattle.jc_parse_heads.specs.declared.head_parts.ForMore.{ForMore}
-use Rattle.jc_parse_heads.specs.declared.head_parts.ForKind.{ForKind}
-use Rattle.jc_parse_heads.specs.declared.head_parts.ForDims.{ForDims}
-use Rattle.jc_parse_heads.specs.declared.head_parts.ForNamed.{ForNamed}
-use Rattle.jc_parse_heads.specs.declared.head_parts.ForTyped.{ForTyped}
-use Rattle.jc_parse_heads.specs.declared.head_parts.ForKind.TheVariants as kind_is
+use Rattle.jc_parse_nodes.specs.declared.head_parts.ForTail.{ForTail}
+use Rattle.jc_parse_nodes.specs.declared.head_parts.ForMore.{ForMore}
+use Rattle.jc_parse_nodes.specs.declared.head_parts.ForKind.{ForKind}
+use Rattle.jc_parse_nodes.specs.declared.head_parts.ForDims.{ForDims}
+use Rattle.jc_parse_nodes.specs.declared.head_parts.ForNamed.{ForNamed}
+use Rattle.jc_parse_nodes.specs.declared.head_parts.ForTyped.{ForTyped}
+use Rattle.jc_parse_nodes.specs.declared.head_parts.ForKind.TheVariants as kind_is
 use Rattle.jc_lexer.specs.declared.token.Key.{Key}
 use Rattle.jc_lexer.specs.declared.token.Sign.TheVariants as sign_of
 use Rattle.jc_tree.specs.declared.name.Ident.{Ident}
@@ -40,11 +40,11 @@ use Rattle.jc_part_laws.specs.PartReading.{modifiers_run, rows_tail_run}
 use Rattle.jc_expr_laws.specs.ExprReading.{exprs}
 use Rattle.jc_unit_laws.specs.UnitReading.{resource_run}
 use Rattle.jc_unit_laws.specs.MemberReading.{levels}
-use Rattle.jc_parse_heads.specs.declared.head_parts.Caught.{Caught}
-use Rattle.jc_parse_heads.specs.declared.head_parts.CaughtTypes.{CaughtTypes}
-use Rattle.jc_parse_heads.specs.declared.head_parts.MoreResources.{MoreResources}
-use Rattle.jc_parse_heads.specs.declared.head_parts.TypedValue.{TypedValue}
-use Rattle.jc_parse_heads.specs.declared.head_parts.Valued.{Valued}
+use Rattle.jc_parse_nodes.specs.declared.head_parts.Caught.{Caught}
+use Rattle.jc_parse_nodes.specs.declared.head_parts.CaughtTypes.{CaughtTypes}
+use Rattle.jc_parse_nodes.specs.declared.head_parts.MoreResources.{MoreResources}
+use Rattle.jc_parse_nodes.specs.declared.head_parts.TypedValue.{TypedValue}
+use Rattle.jc_parse_nodes.specs.declared.head_parts.Valued.{Valued}
 
 -- a keyword and a left parenthesis
 unfoldable pub opened_run : Key → Run ℕ

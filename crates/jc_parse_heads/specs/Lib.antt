@@ -1,5 +1,5 @@
 pub mod Beginnings
+pub mod Closing
 pub mod HeadCode
-pub mod Joins
 pub mod MemberCode
 pub mod UnitCode

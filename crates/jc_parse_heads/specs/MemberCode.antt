@@ -1,4 +1,5 @@
 -- Members, as the code reads them: what stands before a body or a semicolon, and then that.
+use Rattle.jc_parse_nodes.specs.Nodes.{typed_shape}
 use Rattle.std.specs.Prelude.{ℕ, List, [], ◌∷◌, Option, Some, None}
 use Rattle.jc_lexer.specs.declared.token.Key.TheVariants as key_of
 use Rattle.jc_lexer.specs.declared.token.Sign.TheVariants as sign_of
@@ -28,18 +29,18 @@ use Rattle.std.specs.Prelude.{map}
 use Rattle.jc_tree.specs.declared.expression.Expr.{Expr}
 use Rattle.jc_tree.specs.declared.statement.Var.{Var}
 use Rattle.jc_parse_parts.specs.Parts.{more_vars_run}
-use Rattle.jc_parse_heads.specs.UnitCode.{listed, locals_of}
-use Rattle.jc_parse_heads.specs.declared.heads.CodeHead.{CodeHead}
-use Rattle.jc_parse_heads.specs.declared.heads.MemberHead.{MemberHead}
-use Rattle.jc_parse_heads.specs.declared.heads.MemberHead.TheVariants as head_of
-use Rattle.jc_parse_heads.specs.declared.heads.Shape.{Shape}
-use Rattle.jc_parse_heads.specs.declared.heads.Shape.TheVariants as shape_of
-use Rattle.jc_parse_heads.specs.declared.heads.FieldsTail.{FieldsTail}
-use Rattle.jc_parse_heads.specs.declared.heads.Named.{Named}
-use Rattle.jc_parse_heads.specs.declared.heads.NamedTail.{NamedTail}
-use Rattle.jc_parse_heads.specs.declared.heads.NamedTail.TheVariants as tail_of
-use Rattle.jc_parse_heads.specs.declared.heads.Signature.{Signature}
-use Rattle.jc_parse_heads.specs.declared.pieces.Typed.{Typed}
+use Rattle.jc_parse_heads.specs.UnitCode.{listed}
+use Rattle.jc_parse_nodes.specs.declared.heads.CodeHead.{CodeHead}
+use Rattle.jc_parse_nodes.specs.declared.heads.MemberHead.{MemberHead}
+use Rattle.jc_parse_nodes.specs.declared.heads.MemberHead.TheVariants as head_of
+use Rattle.jc_parse_nodes.specs.declared.heads.Shape.{Shape}
+use Rattle.jc_parse_nodes.specs.declared.heads.Shape.TheVariants as shape_of
+use Rattle.jc_parse_nodes.specs.declared.heads.FieldsTail.{FieldsTail}
+use Rattle.jc_parse_nodes.specs.declared.heads.Named.{Named}
+use Rattle.jc_parse_nodes.specs.declared.heads.NamedTail.{NamedTail}
+use Rattle.jc_parse_nodes.specs.declared.heads.NamedTail.TheVariants as tail_of
+use Rattle.jc_parse_nodes.specs.declared.heads.Signature.{Signature}
+use Rattle.jc_parse_nodes.specs.declared.pieces.Typed.{Typed}
 
 -- what ends a method
 
@@ -105,10 +106,6 @@ tail_made (name, That tail) = tail_of.Fields name tail
 unfoldable pub named_tail_run : ℕ → Run NamedTail
 named_tail_run h = as_new tail_made (in_turn an_ident_at (either paren_codes (signature_run h) (fields_run h)))
 
-abbrev pub typed_shape : (TypeTree × NamedTail) → Shape
-typed_shape (ty, tail_of.Method named) = shape_of.Method (result_of.Type ty) named
-typed_shape (ty, tail_of.Fields name tail) = shape_of.Fields (record { ty = ty; first = record { name = name; dims = tail.dims; init = tail.init }; more = tail.more })
-
 unfoldable pub void_shape_run : ℕ → Run Shape
 void_shape_run h = as_new void_shape (in_turn (at_kind (key_code key_of.Void)) (named_signature_run h))
 
@@ -136,14 +133,6 @@ plain_head shape = record { params = None; shape = shape }
 unfoldable pub code_head_run : ℕ → Run CodeHead
 code_head_run h = or_others (sign_code sign_of.Less ∷ []) (as_new generic_head (in_turn (params_of_run (class_run h)) (generic_shape_run h))) (as_new plain_head (named_shape_run h))
 
-abbrev pub with_shape : List Modifier → Option TypeParams → Shape → MemberHead
-with_shape modifiers params (shape_of.Method result n) = head_of.Method (method_head modifiers params (Some result) n.name n.signature.formals n.signature.throws)
-with_shape modifiers params (shape_of.Constructor n) = head_of.Constructor (method_head modifiers params None n.name n.signature.formals n.signature.throws)
-with_shape modifiers params (shape_of.Fields typed) = head_of.Fields (locals_of modifiers typed)
-
-abbrev pub with_head : List Modifier → CodeHead → MemberHead
-with_head modifiers head = with_shape modifiers head.params head.shape
-
 -- variables behind a first one, and a semicolon
 unfoldable pub ended_more_run : ℕ → Run (List Var)
 ended_more_run h = as_new before_it (in_turn (more_vars_run h) semicolon_run)
@@ -153,11 +142,6 @@ generic_head_run h = as_new generic_head (in_turn (params_of_run (class_run h)) 
 
 unfoldable pub plain_head_run : ℕ → Run CodeHead
 plain_head_run h = as_new plain_head (named_shape_run h)
-
--- a method of its head and its statements, or without any
-abbrev pub method_member : MethodHead → Option (List Stmt) → Member
-method_member head None = member_of.Bare head
-method_member head (Some items) = member_of.Method head items
 
 abbrev pub method_items : MethodEnd → Option (List Stmt)
 method_items (This braces) = Some braces.1.0

@@ -1,4 +1,5 @@
 -- Parts of statements and declarations, as the code reads them.
+use Rattle.jc_parse_nodes.specs.Nodes.{bare_local}
 use Rattle.jc_grammar.specs.Units.{stmt_shape}
 use Rattle.std.specs.Prelude.{ℕ, Bool, true, false, List, [], ◌∷◌, ◌++◌, map, length, Option, Some, None, cond}
 use Rattle.jc_lexer.specs.declared.token.Key.{Key}
@@ -12,9 +13,9 @@ use Rattle.jc_tree.specs.declared.statement.ForHead.{ForHead}
 use Rattle.jc_tree.specs.declared.statement.Member.{Member}
 use Rattle.jc_tree.specs.declared.statement.Stmt.{Stmt}
 use Rattle.jc_tree.specs.declared.statement.Stmt.TheVariants as stmt_of
-use Rattle.jc_parse_parts.specs.declared.trees.HeadTree.{HeadTree}
+use Rattle.jc_parse_nodes.specs.declared.trees.HeadTree.{HeadTree}
 use Rattle.jc_parse_parts.specs.Parts.{head_tree, vars_tree_run}
-use Rattle.jc_parse_parts.specs.declared.trees.Vars.{Vars}
+use Rattle.jc_parse_nodes.specs.declared.trees.Vars.{Vars}
 use Rattle.jc_lexer.specs.declared.token.Token.{Token}
 use Rattle.jc_reading.specs.Kinds.{sign_code, key_code, word_code, one_of}
 use Rattle.jc_reading.specs.Reading.{Read, Run, noting, Either, This, That, becoming, either, found, as_new, in_turn, any_number, perhaps, of_kind, at_kind, an_ident_at, before_it, behind_it, each_behind}
@@ -32,19 +33,19 @@ use Rattle.jc_tree.specs.declared.statement.Declaration.{Declaration, roll-Decla
 use Rattle.jc_tree.specs.declared.statement.DeclarationHead.{DeclarationHead}
 use Rattle.jc_tree.specs.declared.statement.DeclarationHead.TheVariants as head_of
 use Rattle.jc_tree.specs.declared.statement.LocalVars.{LocalVars}
-use Rattle.jc_parse_parts.specs.declared.trees.HeadTree.TheVariants as head_tree_of
-use Rattle.jc_parse_heads.specs.declared.pieces.Typed.{Typed}
+use Rattle.jc_parse_nodes.specs.declared.trees.HeadTree.TheVariants as head_tree_of
+use Rattle.jc_parse_nodes.specs.declared.pieces.Typed.{Typed}
 use Rattle.jc_unit_laws.specs.UnitReading.{arm_open, arm_run, branch_run, no_more, simple_run}
 use Rattle.jc_unit_laws.specs.UnitReading.{Branch as UnitBranch}
 use Rattle.jc_unit_laws.specs.MemberReading.{declared_made, static_made}
 use Rattle.jc_tree.specs.declared.statement.TopLevel.{TopLevel}
-use Rattle.jc_parse_heads.specs.declared.pieces.Branch.{Branch}
-use Rattle.jc_parse_heads.specs.declared.pieces.Branch.TheVariants as branch_is
-use Rattle.jc_parse_heads.specs.declared.pieces.Body.{Body}
-use Rattle.jc_parse_heads.specs.declared.pieces.ForOpening.{ForOpening}
-use Rattle.jc_parse_heads.specs.declared.pieces.Guarded.{Guarded}
-use Rattle.jc_parse_heads.specs.declared.pieces.Opening.{Opening}
-use Rattle.jc_parse_heads.specs.declared.pieces.Tested.{Tested}
+use Rattle.jc_parse_nodes.specs.declared.pieces.Branch.{Branch}
+use Rattle.jc_parse_nodes.specs.declared.pieces.Branch.TheVariants as branch_is
+use Rattle.jc_parse_nodes.specs.declared.pieces.Body.{Body}
+use Rattle.jc_parse_nodes.specs.declared.pieces.ForOpening.{ForOpening}
+use Rattle.jc_parse_nodes.specs.declared.pieces.Guarded.{Guarded}
+use Rattle.jc_parse_nodes.specs.declared.pieces.Opening.{Opening}
+use Rattle.jc_parse_nodes.specs.declared.pieces.Tested.{Tested}
 
 -- "(" Expr ")"
 abbrev pub inner : (Unit {0} × (Expr × Unit {0})) → Expr
@@ -105,9 +106,6 @@ unfoldable pub braced_members_run : ℕ → Run (List Member)
 braced_members_run h = as_new braces_list (braced_run (member_run exprs h (levels exprs h)))
 
 -- parts of statements
-
-abbrev pub clause_made : (Opening × List Stmt) → Clause
-clause_made p = roll-Clause (record { at = p.0.at; head = p.0.head; items = p.1 })
 
 abbrev pub opening_of_label : CaseLabel → Opening
 opening_of_label (This p) = record { at = p.0; head = clause_of.Case p.1.0 }
@@ -219,14 +217,6 @@ body_made p = record { head = head_tree p.0; members = p.1.1.0 }
 unfoldable pub declaration_rest_run : ℕ → Run Body
 declaration_rest_run h = as_new body_made (rest_run exprs h (levels exprs h))
 
-abbrev pub tree_head : List Modifier → HeadTree → DeclarationHead
-tree_head modifiers (head_tree_of.Class at name params extends implements) = head_of.Class modifiers at name params extends implements
-tree_head modifiers (head_tree_of.Interface at name params extends) = head_of.Interface modifiers at name params extends
-tree_head modifiers (head_tree_of.Annotation at name) = head_of.Annotation modifiers at name
-
-abbrev pub declaration_of : List Modifier → Body → Declaration
-declaration_of modifiers body = roll-Declaration (record { head = tree_head modifiers body.head; members = body.members })
-
 -- variables behind their modifiers
 
 abbrev pub typed_made : (TypeTree × Variables) → Typed
@@ -234,9 +224,6 @@ typed_made p = record { ty = p.0; first = p.1.0.0; more = map behind_it p.1.0.1 
 
 unfoldable pub typed_run : ℕ → Run Typed
 typed_run h = as_new typed_made (in_turn (type_run h) (variables_run exprs h))
-
-abbrev pub locals_of : List Modifier → Typed → LocalVars
-locals_of modifiers typed = record { modifiers = modifiers; ty = typed.ty; first = typed.first; more = typed.more }
 
 -- members that are methods, constructors or fields
 unfoldable pub coded_member_run : ℕ → List Modifier → Run Member
@@ -282,9 +269,6 @@ ended_vars_run h = as_new before_it (in_turn (vars_tree_run h) semicolon_run)
 unfoldable pub roomy_modifiers_run : ℕ → Run (List Modifier)
 roomy_modifiers_run h = as_new listed (with_room h (in_turn (modifier_run exprs h) (modifiers_run exprs h)))
 
-abbrev pub bare_local : TypeTree → Vars → Stmt
-bare_local ty vars = stmt_of.Local (record { modifiers = []; ty = ty; first = vars.first; more = vars.more })
-
 -- behind a type: variables where a name stands there, and else an effect in its place
 abbrev pub typed_or_run : ℕ → TypeTree → List Token → ℕ → List Token → Read Stmt
 typed_or_run h ty rest left ts = cond (one_of (word_code ∷ []) rest) (noting left (becoming (bare_local ty) (ended_vars_run h rest))) (noting left (ended_effect_run h ts))
@@ -292,13 +276,3 @@ typed_or_run h ty rest left ts = cond (one_of (word_code ∷ []) rest) (noting l
 -- a declaration of a file, with its modifiers
 unfoldable pub declared_top_run : Run TopLevel
 declared_top_run = as_new declared_made (in_turn (modifiers_run exprs 198) (rest_run exprs 198 (levels exprs 198)))
-
--- an `else` behind an `if` with these statements behind its last `else` would be its own, or that of the one
-abbrev pub alone_open : List Stmt → Bool
-alone_open [] = true
-alone_open (s ∷ []) = (stmt_shape s).open_end
-alone_open (s ∷ t ∷ more) = false
-
-abbrev pub first_open : List Stmt → Bool
-first_open [] = false
-first_open (s ∷ items) = (stmt_shape s).open_end

@@ -4,10 +4,9 @@ ghost use Rattle.jc_reading.specs.Giving.{Gives};
 ghost use Rattle.jc_parse_type.specs.TypeReading.{class_run};
 ghost use Rattle.jc_parse_heads.specs.HeadCode.{catch_head_run, caught_run, caught_types_run, closed_name_run, opened_run};
 
-use crate::head_nodes::{catch_head_of, caught_of, caught_types_of};
-use crate::head_parts::{Caught, CaughtTypes};
-use crate::joins::closed;
+use crate::closing::closed;
 use jc_lexer::{Key, Sign, Token};
+use jc_parse_nodes::{Caught, CaughtTypes, catch_head_of, caught_of, caught_types_of};
 use jc_parse_parts::{class_within, each, modifiers_within, name, word_at};
 use jc_reading::{Found, Halt};
 use jc_tree::{ClauseHead, Ident};

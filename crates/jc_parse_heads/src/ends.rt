@@ -7,10 +7,10 @@ ghost use Rattle.jc_unit_laws.specs.MemberReading.{levels, super_run, this_run};
 ghost use Rattle.jc_unit_laws.specs.UnitReading.{expr_in_run};
 ghost use Rattle.jc_parse_heads.specs.MemberCode.{actual_list_run, ended_actuals_run, no_items_run, no_statements_run, some_exprs_run};
 
-use crate::headings::{super_call_of, this_call_of};
-use crate::joins::{closed, reaching};
+use crate::closing::closed;
 use crate::openings::expr_in;
 use jc_lexer::{Key, Sign, Token};
+use jc_parse_nodes::{reaching, super_call_of, this_call_of};
 use jc_parse_parts::{separated, sign, word_at};
 use jc_reading::{Found, Halt};
 use jc_rules::{Items, WantOfMemory};

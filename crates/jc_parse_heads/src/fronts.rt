@@ -11,8 +11,8 @@ ghost use Rattle.jc_unit_laws.specs.MemberReading.{paren_codes, rest_codes};
 ghost use Rattle.jc_unit_laws.specs.UnitReading.{statement_codes};
 ghost use Rattle.jc_parse_heads.specs.Beginnings.{begins_declaration, begins_modifier, begins_rest, begins_statement, begins_word, declaration_codes, modifier_codes};
 
-use crate::joins::reaching;
 use jc_lexer::{Key, Sign, Token, TokenKind};
+use jc_parse_nodes::reaching;
 use jc_parse_parts::{past_sign, past_word};
 use jc_reading::{Found, Halt};
 

@@ -8,16 +8,17 @@ ghost use Rattle.jc_unit_laws.specs.UnitReading.{local_run};
 ghost use Rattle.jc_parse_heads.specs.UnitCode.{catch_opening_run, ended_effect_run, ended_strict_run, ended_vars_run, finally_opening_run, for_opening_run, local_or_effect_run, roomy_modifiers_run, roomy_resources_run, typed_or_run, typed_run};
 
 use crate::catching::{catch_head, opened};
+use crate::closing::closed;
 use crate::fronts::name_stands;
-use crate::head_nodes::catch_opening_of;
-use crate::joins::{closed, reaching};
 use crate::looping::for_ended;
-use crate::nodes::{bare_local_of, for_opening_of, local_of, typed_of};
-use crate::pieces::{ForOpening, Opening, Typed};
 use crate::resourcing::some_resources;
 use jc_lexer::{Key, Sign, Token};
 use jc_parse_expr::effect_within;
-use jc_parse_parts::{Vars, modifier_within, row, sign, type_within, vars_within, word_at};
+use jc_parse_nodes::{
+    ForOpening, Opening, Typed, Vars, bare_local_of, catch_opening_of, for_opening_of, local_of,
+    reaching, typed_of,
+};
+use jc_parse_parts::{modifier_within, row, sign, type_within, vars_within, word_at};
 use jc_reading::{Found, Halt, without};
 use jc_rules::Items;
 use jc_tree::{ClauseHead, Modifier, Resources, Stmt, TypeTree};

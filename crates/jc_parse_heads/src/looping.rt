@@ -7,22 +7,22 @@ ghost use Rattle.jc_reading.specs.Reading.{Read, becoming, of_kind};
 ghost use Rattle.jc_expr_laws.specs.ExprReading.{exprs, strict_effect};
 ghost use Rattle.jc_part_laws.specs.PartReading.{modifier_run};
 ghost use Rattle.jc_parse_heads.specs.HeadCode.{bare_head, closed_expr_run, each_kind, effects_in_run, effects_run, empty_head, first_modifiers_run, for_dims_run, for_each_run, for_effects_run, for_ended_run, for_kind_run, for_moded_run, for_more_run, for_name_run, for_other_run, for_tail_run, for_test_run, for_typed_or_run, for_typed_run, for_update_run, for_vars_run, named_head, no_updates, parens_end, typed_head, updates_run};
-ghost use Rattle.jc_parse_heads.specs.Joins.{Joined};
-ghost use Rattle.jc_parse_heads.specs.declared.head_parts.ForNamed.{ForNamed};
-ghost use Rattle.jc_parse_heads.specs.declared.head_parts.ForTyped.{ForTyped};
+ghost use Rattle.jc_parse_nodes.specs.Joins.{Joined};
+ghost use Rattle.jc_parse_nodes.specs.declared.head_parts.ForNamed.{ForNamed};
+ghost use Rattle.jc_parse_nodes.specs.declared.head_parts.ForTyped.{ForTyped};
 ghost use Rattle.jc_tree.specs.declared.statement.ForHead.{ForHead};
 ghost use Rattle.jc_tree.specs.declared.statement.Modifier.{Modifier};
 ghost use Rattle.jc_tree.specs.declared.types.TypeTree.{TypeTree};
 
+use crate::closing::closed;
 use crate::fronts::{modifier_stands, name_stands, sign_stands};
-use crate::head_nodes::{
-    for_dims_of, for_effects_of, for_kind_of, for_more_of, for_named_of, for_tail_of, for_typed_of,
-};
-use crate::head_parts::{ForDims, ForKind, ForMore, ForNamed, ForTail, ForTyped};
-use crate::joins::{closed, join, reaching};
 use crate::openings::some_expr;
 use jc_lexer::{Sign, Token};
 use jc_parse_expr::{effect_within, expr_within};
+use jc_parse_nodes::{
+    ForDims, ForKind, ForMore, ForNamed, ForTail, ForTyped, for_dims_of, for_effects_of,
+    for_kind_of, for_more_of, for_named_of, for_tail_of, for_typed_of, join, reaching,
+};
 use jc_parse_parts::{
     dims, initial_within, modifier_within, more_vars_within, name, row, separated, sign,
     type_within,

@@ -6,11 +6,11 @@ ghost use Rattle.jc_expr_laws.specs.ExprReading.{exprs};
 ghost use Rattle.jc_unit_laws.specs.UnitReading.{expr_in_run};
 ghost use Rattle.jc_parse_heads.specs.UnitCode.{case_label_run, case_value_run, default_label_run, do_test_run, ended_expr_run, ended_label_run, ended_value_run, inner_run, label_run, named_label_run, roomy_tested_run, some_name_run, tested_run};
 
+use crate::closing::closed;
 use crate::fronts::word_stands;
-use crate::joins::{closed, reaching};
-use crate::pieces::{Opening, Tested};
 use jc_lexer::{Key, Sign, Token};
 use jc_parse_expr::{conditional_within, expr_within};
+use jc_parse_nodes::{Opening, Tested, reaching};
 use jc_parse_parts::{name, sign, word, word_at};
 use jc_reading::{Found, Halt};
 use jc_rules::WantOfMemory;

@@ -5,11 +5,13 @@ ghost use Rattle.jc_reading.specs.Giving.{Gives};
 ghost use Rattle.jc_part_laws.specs.PartReading.{closing_run};
 ghost use Rattle.jc_parse_heads.specs.HeadCode.{assigned_name_run, more_resources_run, one_resource_run, some_resources_run, typed_value_run, valued_run};
 
-use crate::head_nodes::{more_resources_of, resource_of, resources_of, typed_value_of, valued_of};
-use crate::head_parts::{MoreResources, TypedValue, Valued};
-use crate::joins::closed;
+use crate::closing::closed;
 use jc_lexer::{Sign, Token};
 use jc_parse_expr::expr_within;
+use jc_parse_nodes::{
+    MoreResources, TypedValue, Valued, more_resources_of, resource_of, resources_of,
+    typed_value_of, valued_of,
+};
 use jc_parse_parts::{each, modifiers_within, name, past_sign, type_within};
 use jc_reading::{Found, Halt};
 use jc_tree::{Ident, Resource, Resources};

@@ -3,14 +3,13 @@ ghost use Rattle.std.specs.Prelude.{◌<◌, ◌≤◌, ◌^◌, length, IfOk};
 ghost use Rattle.jc_reading.specs.Giving.{Gives};
 ghost use Rattle.jc_parse_heads.specs.MemberCode.{code_head_run, generic_head_run, plain_head_run, constructor_shape_run, ended_more_run, fields_run, generic_shape_run, method_shape_run, named_shape_run, named_signature_run, named_tail_run, signature_run, typed_shape_run, void_shape_run};
 
+use crate::closing::closed;
 use crate::fronts::{behind_name, call_stands, sign_stands, word_stands};
-use crate::headings::{
-    fields_of, generic_of, method_of, method_tail_of, named_of, parts_of, signature_of,
-    typed_shape_of, void_of,
-};
-use crate::heads::{CodeHead, FieldsTail, Named, NamedTail, Shape, Signature};
-use crate::joins::{closed, reaching, some};
 use jc_lexer::{Key, Sign, Token};
+use jc_parse_nodes::{
+    CodeHead, FieldsTail, Named, NamedTail, Shape, Signature, fields_of, generic_of, method_of,
+    method_tail_of, named_of, parts_of, reaching, signature_of, some, typed_shape_of, void_of,
+};
 use jc_parse_parts::{
     dims, formals_within, initial_within, keyed_within, more_vars_within, name, params_of_within,
     type_within, word_at,

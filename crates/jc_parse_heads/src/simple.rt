@@ -5,9 +5,9 @@ ghost use Rattle.jc_expr_laws.specs.ExprReading.{exprs};
 ghost use Rattle.jc_unit_laws.specs.MemberReading.{levels};
 ghost use Rattle.jc_unit_laws.specs.UnitReading.{break_run, continue_run, empty_run, return_run, throw_run};
 
-use crate::nodes::{break_of, continue_of, return_of, throw_of};
 use crate::openings::{ended_expr, ended_label, ended_value};
 use jc_lexer::{Key, Sign, Token};
+use jc_parse_nodes::{break_of, continue_of, return_of, throw_of};
 use jc_parse_parts::{sign_at, word_at};
 use jc_reading::{Found, Halt};
 use jc_tree::Stmt;

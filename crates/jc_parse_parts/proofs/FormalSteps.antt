@@ -10,12 +10,13 @@ use Rattle.jc_tree.specs.declared.statement.Modifier.{Modifier}
 use Rattle.jc_reading.specs.Kinds.{sign_code}
 use Rattle.jc_reading.specs.Reading.{Read, Found, Stopped, Run, found, noting, ◌>>=◌, becoming, joined, as_new, in_turn, perhaps_from, perhaps, an_ident_at, behind_it, of_kind}
 use Rattle.jc_reading.specs.Further.{with_room, followed, unless}
-use Rattle.jc_reading.proofs.Turns.{resume}
+use Rattle.jc_reading.specs.Reach.{onto}
 use Rattle.jc_parse_type.specs.TypeReading.{dims_run, type_run}
 use Rattle.jc_part_laws.specs.PartReading.{is_variable, or_no_formals, formal_made, formal_run, formals_made, formals_run, formals_tail_run, modifiers_run}
 use Rattle.jc_expr_laws.specs.ExprReading.{exprs}
 use Rattle.jc_parse_parts.specs.declared.trees.FormalTail.{FormalTail}
 use Rattle.jc_parse_parts.specs.Lists.{or_no_list}
+use Rattle.jc_reading.specs.Reach.{}
 use Rattle.jc_parse_parts.specs.Parts.{first_formals, formal_tail_run, formal_tail_tree, formal_with, perhaps_formals_run, some_formals_run}
 use Rattle.jc_parse_parts.proofs.ChainSteps.{then_made, then_stops, mapped_made}
 
@@ -64,7 +65,7 @@ formal_on (suc k) ts q modifiers l p e =
 
 -- formal parameters, turn by turn
 
-resume_noting : (list : List Formal) (left l : ℕ) (a : Formal) (m : Read (List Formal)) → resume list left (noting l (becoming (λ more. a ∷ more) m)) ≡ resume (list ++ a ∷ []) (min left l) m
+resume_noting : (list : List Formal) (left l : ℕ) (a : Formal) (m : Read (List Formal)) → onto list left (noting l (becoming (λ more. a ∷ more) m)) ≡ onto (list ++ a ∷ []) (min left l) m
 resume_noting list left l a (Found more r k) =
     ap (λ (v : List Formal). Found v r (min left (min l k))) (sym (append_assoc list (a ∷ []) more)) ∙ (let e : min left (min l k) ≡ min (min left l) k = omega arith in ap (λ j. Found ((list ++ a ∷ []) ++ more) r j) e)
 resume_noting list left l a (Stopped k) = let e : min left (min l k) ≡ min (min left l) k = omega arith in ap (λ j. Stopped j) e
@@ -72,17 +73,17 @@ resume_noting list left l a (Stopped k) = let e : min left (min l k) ≡ min (mi
 -- the loop stands behind a formal parameter: behind one of variable arity it ends
 abbrev pub Continues : Bool → Run Formal → Read (List Formal) → List Formal → ℕ → List Token → Type 0
 Continues true formal whole list left rest = whole ≡ Found list rest (min left (length rest))
-Continues false formal whole list left rest = (n : ℕ) × (length rest ≤ n) × (whole ≡ resume list left (formals_tail_run n formal rest))
+Continues false formal whole list left rest = (n : ℕ) × (length rest ≤ n) × (whole ≡ onto list left (formals_tail_run n formal rest))
 
 pub ended : (b : Bool) (formal : Run Formal) (whole : Read (List Formal)) (list : List Formal) (left : ℕ) (rest : List Token) → b ≡ true → Continues b formal whole list left rest → whole ≡ Found list rest (min left (length rest))
 ended true formal whole list left rest e c = c
 ended false formal whole list left rest e c = cc
 
-going : (b : Bool) (formal : Run Formal) (whole : Read (List Formal)) (list : List Formal) (left : ℕ) (rest : List Token) → b ≡ false → Continues b formal whole list left rest → (n : ℕ) × (length rest ≤ n) × (whole ≡ resume list left (formals_tail_run n formal rest))
+going : (b : Bool) (formal : Run Formal) (whole : Read (List Formal)) (list : List Formal) (left : ℕ) (rest : List Token) → b ≡ false → Continues b formal whole list left rest → (n : ℕ) × (length rest ≤ n) × (whole ≡ onto list left (formals_tail_run n formal rest))
 going true formal whole list left rest e c = cc
 going false formal whole list left rest e c = c
 
-joined_first : (l : ℕ) (f : Formal) (m : Read (List Formal)) → becoming first_formals (noting l (becoming (joined f) m)) ≡ resume (f ∷ []) l m
+joined_first : (l : ℕ) (f : Formal) (m : Read (List Formal)) → becoming first_formals (noting l (becoming (joined f) m)) ≡ onto (f ∷ []) l m
 joined_first l f (Found more r k) = refl
 joined_first l f (Stopped k) = refl
 
@@ -134,26 +135,26 @@ tail_next : (n : ℕ) (formal : Run Formal) (rest : List Token) → formals_tail
 unfolding formals_tail_run
 tail_next n formal rest = tail_comma rest (of_kind (sign_code sign_of.Comma) rest) formal (formals_tail_run n formal) (tail_finds n formal)
 
-next_by : (b : Bool) (n : ℕ) (formal : Run Formal) (list : List Formal) (left l : ℕ) (f : Formal) (q : List Token) → length q ≤ n → Continues b formal (resume list left (noting l (becoming (λ more. f ∷ more) (cond b (found [] q) (formals_tail_run n formal q))))) (list ++ f ∷ []) (min left l) q
+next_by : (b : Bool) (n : ℕ) (formal : Run Formal) (list : List Formal) (left l : ℕ) (f : Formal) (q : List Token) → length q ≤ n → Continues b formal (onto list left (noting l (becoming (λ more. f ∷ more) (cond b (found [] q) (formals_tail_run n formal q))))) (list ++ f ∷ []) (min left l) q
 next_by true n formal list left l f q e = let s : min left (min l (length q)) ≡ min (min left l) (length q) = omega arith in ap (λ j. Found (list ++ f ∷ []) q j) s
 next_by false n formal list left l f q e = (n, e, resume_noting list left l f (formals_tail_run n formal q))
 
-formals_on : (formal : Run Formal) (whole : Read (List Formal)) (list : List Formal) (left : ℕ) (rest q : List Token) (f : Formal) (l : ℕ) → (n : ℕ) → length rest ≤ n → whole ≡ resume list left (formals_tail_run n formal rest) → Comma formal rest ≡ Found f q l → length q < length rest → Continues f.variable_arity formal whole (list ++ f ∷ []) (min left l) q
+formals_on : (formal : Run Formal) (whole : Read (List Formal)) (list : List Formal) (left : ℕ) (rest q : List Token) (f : Formal) (l : ℕ) → (n : ℕ) → length rest ≤ n → whole ≡ onto list left (formals_tail_run n formal rest) → Comma formal rest ≡ Found f q l → length q < length rest → Continues f.variable_arity formal whole (list ++ f ∷ []) (min left l) q
 formals_on formal whole list left rest q f l zero le w e lt = absurd (omega (arith, le, lt))
 formals_on formal whole list left rest q f l (suc n) le w e lt =
-    let s = w ∙ ap (resume list left) (tail_next n formal rest) ∙ ap (λ (v : Read Formal). resume list left (more_from rest v (formals_tail_run n formal))) e in
+    let s = w ∙ ap (onto list left) (tail_next n formal rest) ∙ ap (λ (v : Read Formal). onto list left (more_from rest v (formals_tail_run n formal))) e in
     subst (λ (v : Read (List Formal)). Continues f.variable_arity formal v (list ++ f ∷ []) (min left l) q) (sym s) (next_by f.variable_arity n formal list left l f q (omega (arith, le, lt)))
 
 pub formals_next : (b : Bool) (formal : Run Formal) (whole : Read (List Formal)) (list : List Formal) (left : ℕ) (rest q : List Token) (f : Formal) (l : ℕ) → b ≡ false → Continues b formal whole list left rest → as_new behind_it (in_turn (of_kind (sign_code sign_of.Comma)) formal) rest ≡ Found f q l → length q < length rest → Continues f.variable_arity formal whole (list ++ f ∷ []) (min left l) q
 formals_next b formal whole list left rest q f l s c e lt = let w = going b formal whole list left rest s c in formals_on formal whole list left rest q f l w.0 w.1 w.2 e lt
 
-formals_off : (formal : Run Formal) (whole : Read (List Formal)) (list : List Formal) (left : ℕ) (rest : List Token) (l : ℕ) → (n : ℕ) → length rest ≤ n → whole ≡ resume list left (formals_tail_run n formal rest) → Comma formal rest ≡ Stopped l → l ≤ length rest → whole ≡ Found list rest (min left l)
+formals_off : (formal : Run Formal) (whole : Read (List Formal)) (list : List Formal) (left : ℕ) (rest : List Token) (l : ℕ) → (n : ℕ) → length rest ≤ n → whole ≡ onto list left (formals_tail_run n formal rest) → Comma formal rest ≡ Stopped l → l ≤ length rest → whole ≡ Found list rest (min left l)
 unfolding formals_tail_run
 formals_off formal whole list left rest l zero le w e v =
     let k : length rest ≡ l = omega (arith, le, v) in
     w ∙ ap (λ (more : List Formal). Found more rest (min left (length rest))) (append-nil list) ∙ ap (λ j. Found list rest (min left j)) k
 formals_off formal whole list left rest l (suc n) le w e v =
-    w ∙ ap (resume list left) (tail_next n formal rest) ∙ ap (λ (v : Read Formal). resume list left (more_from rest v (formals_tail_run n formal))) e ∙ ap (λ (more : List Formal). Found more rest (min left l)) (append-nil list)
+    w ∙ ap (onto list left) (tail_next n formal rest) ∙ ap (λ (v : Read Formal). onto list left (more_from rest v (formals_tail_run n formal))) e ∙ ap (λ (more : List Formal). Found more rest (min left l)) (append-nil list)
 
 pub formals_stop : (b : Bool) (formal : Run Formal) (whole : Read (List Formal)) (list : List Formal) (left : ℕ) (rest : List Token) (l : ℕ) → b ≡ false → Continues b formal whole list left rest → as_new behind_it (in_turn (of_kind (sign_code sign_of.Comma)) formal) rest ≡ Stopped l → l ≤ length rest → whole ≡ Found list rest (min left l)
 formals_stop b formal whole list left rest l s c e v = let w = going b formal whole list left rest s c in formals_off formal whole list left rest l w.0 w.1 w.2 e v

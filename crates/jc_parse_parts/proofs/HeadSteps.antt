@@ -15,8 +15,8 @@ use Rattle.jc_parse_type.specs.TypeReading.{class_run}
 use Rattle.jc_part_laws.specs.PartReading.{InterfaceHead, AnnotationHead, HeadRest, or_no_class, keyed_run, params_run, class_head_run, interface_head_run, annotation_head_run, head_rest_run, more_names_run}
 use Rattle.jc_unit_laws.specs.MemberReading.{is_there, is_this, import_made, import_run}
 use Rattle.jc_unit_laws.specs.UnitReading.{semicolon_run}
-use Rattle.jc_parse_parts.specs.declared.trees.HeadTree.{HeadTree}
-use Rattle.jc_parse_parts.specs.declared.trees.HeadTree.TheVariants as head_tree_of
+use Rattle.jc_parse_nodes.specs.declared.trees.HeadTree.{HeadTree}
+use Rattle.jc_parse_nodes.specs.declared.trees.HeadTree.TheVariants as head_tree_of
 use Rattle.jc_parse_parts.specs.declared.trees.SuperTrees.{SuperTrees}
 use Rattle.jc_parse_parts.specs.Parts.{class_head_tree, interface_head_tree, head_tree, extended_run, supers_tree, supers_run, import_end_run}
 use Rattle.jc_parse_parts.proofs.ChainSteps.{twice, then_made, then_stops, mapped_made, last_made, last_stops}

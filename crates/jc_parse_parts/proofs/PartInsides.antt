@@ -12,86 +12,85 @@ use Rattle.jc_parse_type.proofs.TypeForms.{arg_laws, class_laws, dims_laws}
 use Rattle.jc_part_laws.specs.PartReading.{more_names_run, bounds_made, bounds_run, param_made, param_run, which, closing_run, rows_tail_run, row_made, row_run, value_made, value_run, pair_made, pair_run, pairs_made, pairs_run, annotation_made, annotation_run, picks_modifier, modifier_made, modifier_run, formal_made, formal_run, var_made, var_run}
 use Rattle.jc_expr_laws.specs.ExprReading.{exprs, readers}
 use Rattle.jc_expr_laws.proofs.ExprWhole.{expr_laws}
-use Rattle.jc_parse_parts.specs.Lists.{GoesAhead, Inside}
-use Rattle.jc_parse_parts.proofs.Growths.{within_near}
-use Rattle.jc_parse_parts.proofs.Insides.{ahead_as, ahead_either, ahead_picking, ahead_turn, inside_any, inside_as, inside_commas, inside_each, inside_either, inside_perhaps, inside_picking, inside_preferring, inside_room, inside_turn}
+use Rattle.jc_reading.specs.Reach.{GoesAhead, Near}
+use Rattle.jc_reading.proofs.Nears.{ahead_as, ahead_either, ahead_picking, ahead_turn, near_as, near_commas, near_each, near_either, near_perhaps, near_picking, near_prefer, near_room, near_turn, near_any, ahead_near}
 
-pub type_inside : (h : ℕ) → Inside (type_run h)
-type_inside h ts = within_near ts (type_run h ts) (within_type h ts)
+pub type_inside : (h : ℕ) → Near (type_run h)
+type_inside h ts = (within_type h ts)
 
-pub class_inside : (h : ℕ) → Inside (class_run h)
-class_inside h ts = within_near ts (class_run h ts) ((class_laws h (arg_laws h)).within ts)
+pub class_inside : (h : ℕ) → Near (class_run h)
+class_inside h ts = ((class_laws h (arg_laws h)).within ts)
 
-pub dims_inside : Inside dims_run
-dims_inside ts = within_near ts (dims_run ts) (dims_laws.within ts)
+pub dims_inside : Near dims_run
+dims_inside ts = dims_laws.within ts
 
-kind : (code : ℕ) → Inside (of_kind code)
-kind code = inside_picking (picks code)
+kind : (code : ℕ) → Near (of_kind code)
+kind code = near_picking (picks code)
 
-ident : Inside an_ident_at
-ident = inside_picking picks_ident
+ident : Near an_ident_at
+ident = near_picking picks_ident
 
-pub names_inside : Inside more_names_run
+pub names_inside : Near more_names_run
 unfolding more_names_run
-names_inside = inside_as (map behind_it) (each_behind sign_of.Dot an_ident_at) (inside_each sign_of.Dot an_ident_at ident)
+names_inside = near_as (map behind_it) (each_behind sign_of.Dot an_ident_at) (near_each sign_of.Dot an_ident_at ident)
 
 -- type parameters
 
-bounds_inside : (h : ℕ) → Inside (bounds_run (class_run h))
+bounds_inside : (h : ℕ) → Near (bounds_run (class_run h))
 unfolding bounds_run
 bounds_inside h =
-    inside_as bounds_made _ (inside_perhaps _ (inside_turn (of_kind (key_code key_of.Extends)) _ (kind (key_code key_of.Extends)) (inside_turn (class_run h) _ (class_inside h) (inside_each sign_of.And (class_run h) (class_inside h)))))
+    near_as bounds_made _ (near_perhaps _ (near_turn (of_kind (key_code key_of.Extends)) _ (kind (key_code key_of.Extends)) (near_turn (class_run h) _ (class_inside h) (near_each sign_of.And (class_run h) (class_inside h)))))
 
-pub param_inside : (h : ℕ) → Inside (param_run (class_run h))
+pub param_inside : (h : ℕ) → Near (param_run (class_run h))
 unfolding param_run
-param_inside h = inside_as param_made _ (inside_turn an_ident_at _ ident (bounds_inside h))
+param_inside h = near_as param_made _ (near_turn an_ident_at _ ident (bounds_inside h))
 
 -- annotations
 
-conditional_inside : (h : ℕ) → Inside (exprs.conditional h)
+conditional_inside : (h : ℕ) → Near (exprs.conditional h)
 unfolding readers
 conditional_inside zero ts = omega arith
-conditional_inside (suc h) ts = within_near ts (exprs.conditional (suc h) ts) ((expr_laws.conditional h).within ts)
+conditional_inside (suc h) ts = (expr_laws.conditional h).within ts
 
-init_inside : (h : ℕ) → Inside (with_room h (exprs.init h))
+init_inside : (h : ℕ) → Near (with_room h (exprs.init h))
 unfolding with_room
 init_inside zero ts = omega arith
-init_inside (suc h) ts = within_near ts (exprs.init (suc h) ts) ((expr_laws.init h).within ts)
+init_inside (suc h) ts = (expr_laws.init h).within ts
 
-closing_inside : Inside (closing_run sign_of.Comma sign_of.RightBrace)
+closing_inside : Near (closing_run sign_of.Comma sign_of.RightBrace)
 closing_inside =
-    inside_as which _ (inside_either (sign_code sign_of.Comma ∷ []) (in_turn (of_kind (sign_code sign_of.Comma)) (of_kind (sign_code sign_of.RightBrace))) (of_kind (sign_code sign_of.RightBrace))
-    (inside_turn (of_kind (sign_code sign_of.Comma)) (of_kind (sign_code sign_of.RightBrace)) (kind (sign_code sign_of.Comma)) (kind (sign_code sign_of.RightBrace))) (kind (sign_code sign_of.RightBrace)))
+    near_as which _ (near_either (sign_code sign_of.Comma ∷ []) (in_turn (of_kind (sign_code sign_of.Comma)) (of_kind (sign_code sign_of.RightBrace))) (of_kind (sign_code sign_of.RightBrace))
+    (near_turn (of_kind (sign_code sign_of.Comma)) (of_kind (sign_code sign_of.RightBrace)) (kind (sign_code sign_of.Comma)) (kind (sign_code sign_of.RightBrace))) (kind (sign_code sign_of.RightBrace)))
 
-row_inside : (run : Run AnnotationValue) → Inside run → Inside (row_run sign_of.Comma sign_of.RightBrace run)
+row_inside : (run : Run AnnotationValue) → Near run → Near (row_run sign_of.Comma sign_of.RightBrace run)
 row_inside run w =
-    inside_as row_made _ (inside_either (sign_code sign_of.Comma ∷ sign_code sign_of.RightBrace ∷ []) (closing_run sign_of.Comma sign_of.RightBrace) (in_turn run (rows_tail_run sign_of.Comma sign_of.RightBrace run))
-    closing_inside (inside_turn run (rows_tail_run sign_of.Comma sign_of.RightBrace run) w (inside_turn (each_behind sign_of.Comma run) (closing_run sign_of.Comma sign_of.RightBrace) (inside_each sign_of.Comma run w) closing_inside)))
+    near_as row_made _ (near_either (sign_code sign_of.Comma ∷ sign_code sign_of.RightBrace ∷ []) (closing_run sign_of.Comma sign_of.RightBrace) (in_turn run (rows_tail_run sign_of.Comma sign_of.RightBrace run))
+    closing_inside (near_turn run (rows_tail_run sign_of.Comma sign_of.RightBrace run) w (near_turn (each_behind sign_of.Comma run) (closing_run sign_of.Comma sign_of.RightBrace) (near_each sign_of.Comma run w) closing_inside)))
 
-pub value_inside : (h : ℕ) → Inside (value_run exprs h)
+pub value_inside : (h : ℕ) → Near (value_run exprs h)
 unfolding value_run
 value_inside zero ts = omega arith
 value_inside (suc h) ts =
-    inside_as value_made _ (inside_either (sign_code sign_of.LeftBrace ∷ []) (in_turn (at_kind (sign_code sign_of.LeftBrace)) (row_run sign_of.Comma sign_of.RightBrace (value_run exprs h))) (exprs.conditional (suc h))
-    (inside_turn (at_kind (sign_code sign_of.LeftBrace)) (row_run sign_of.Comma sign_of.RightBrace (value_run exprs h)) (inside_picking (picks_at (sign_code sign_of.LeftBrace))) (row_inside (value_run exprs h) (value_inside h))) (conditional_inside (suc h))) ts
+    near_as value_made _ (near_either (sign_code sign_of.LeftBrace ∷ []) (in_turn (at_kind (sign_code sign_of.LeftBrace)) (row_run sign_of.Comma sign_of.RightBrace (value_run exprs h))) (exprs.conditional (suc h))
+    (near_turn (at_kind (sign_code sign_of.LeftBrace)) (row_run sign_of.Comma sign_of.RightBrace (value_run exprs h)) (near_picking (picks_at (sign_code sign_of.LeftBrace))) (row_inside (value_run exprs h) (value_inside h))) (conditional_inside (suc h))) ts
 
-pub pair_inside : (h : ℕ) → Inside (pair_run exprs h)
+pub pair_inside : (h : ℕ) → Near (pair_run exprs h)
 unfolding pair_run
 pair_inside h =
-    inside_room h _ (inside_as (pair_made exprs) _ (inside_preferring (in_turn an_ident_at (in_turn (of_kind (sign_code sign_of.Assign)) (value_run exprs h))) (value_run exprs h)
-    (inside_turn an_ident_at (in_turn (of_kind (sign_code sign_of.Assign)) (value_run exprs h)) ident (inside_turn (of_kind (sign_code sign_of.Assign)) (value_run exprs h) (kind (sign_code sign_of.Assign)) (value_inside h))) (value_inside h)))
+    near_room h _ (near_as (pair_made exprs) _ (near_prefer (in_turn an_ident_at (in_turn (of_kind (sign_code sign_of.Assign)) (value_run exprs h))) (value_run exprs h)
+    (near_turn an_ident_at (in_turn (of_kind (sign_code sign_of.Assign)) (value_run exprs h)) ident (near_turn (of_kind (sign_code sign_of.Assign)) (value_run exprs h) (kind (sign_code sign_of.Assign)) (value_inside h))) (value_inside h)))
 
-pairs_inside : (h : ℕ) → Inside (pairs_run exprs h)
+pairs_inside : (h : ℕ) → Near (pairs_run exprs h)
 unfolding pairs_run
 pairs_inside h =
-    inside_as (pairs_made exprs) _ (inside_turn (of_kind (sign_code sign_of.LeftParen)) (in_turn (perhaps (commas_run (pair_run exprs h))) (of_kind (sign_code sign_of.RightParen))) (kind (sign_code sign_of.LeftParen))
-    (inside_turn (perhaps (commas_run (pair_run exprs h))) (of_kind (sign_code sign_of.RightParen)) (inside_perhaps (commas_run (pair_run exprs h)) (inside_commas (pair_run exprs h) (pair_inside h))) (kind (sign_code sign_of.RightParen))))
+    near_as (pairs_made exprs) _ (near_turn (of_kind (sign_code sign_of.LeftParen)) (in_turn (perhaps (commas_run (pair_run exprs h))) (of_kind (sign_code sign_of.RightParen))) (kind (sign_code sign_of.LeftParen))
+    (near_turn (perhaps (commas_run (pair_run exprs h))) (of_kind (sign_code sign_of.RightParen)) (near_perhaps (commas_run (pair_run exprs h)) (near_commas (pair_run exprs h) (pair_inside h))) (kind (sign_code sign_of.RightParen))))
 
 annotation_ahead : (h : ℕ) → GoesAhead (annotation_run exprs h)
 unfolding annotation_run
 annotation_ahead h =
     ahead_as (annotation_made exprs) _ (ahead_turn (at_kind (sign_code sign_of.At)) (in_turn an_ident_at (in_turn more_names_run (perhaps (pairs_run exprs h)))) (ahead_picking (picks_at (sign_code sign_of.At)))
-    (inside_turn an_ident_at (in_turn more_names_run (perhaps (pairs_run exprs h))) ident (inside_turn more_names_run (perhaps (pairs_run exprs h)) names_inside (inside_perhaps (pairs_run exprs h) (pairs_inside h)))))
+    (near_turn an_ident_at (in_turn more_names_run (perhaps (pairs_run exprs h))) ident (near_turn more_names_run (perhaps (pairs_run exprs h)) names_inside (near_perhaps (pairs_run exprs h) (pairs_inside h)))))
 
 pub modifier_ahead : (h : ℕ) → GoesAhead (modifier_run exprs h)
 unfolding modifier_run
@@ -99,21 +98,21 @@ modifier_ahead h = ahead_as modifier_made _ (ahead_either (sign_code sign_of.At 
 
 -- formal parameters and variables
 
-pub formal_inside : (h : ℕ) → Inside (formal_run exprs h)
+pub formal_inside : (h : ℕ) → Near (formal_run exprs h)
 unfolding formal_run
 formal_inside h =
     let ellipsis = perhaps (of_kind (sign_code sign_of.Ellipsis)) in
-    inside_room h _ (inside_as formal_made _ (inside_turn (any_number (modifier_run exprs h)) (in_turn (type_run h) (in_turn ellipsis (in_turn an_ident_at dims_run))) (inside_any (modifier_run exprs h) (modifier_ahead h))
-    (inside_turn (type_run h) (in_turn ellipsis (in_turn an_ident_at dims_run)) (type_inside h) (inside_turn ellipsis (in_turn an_ident_at dims_run) (inside_perhaps (of_kind (sign_code sign_of.Ellipsis)) (kind (sign_code sign_of.Ellipsis)))
-    (inside_turn an_ident_at dims_run ident dims_inside)))))
+    near_room h _ (near_as formal_made _ (near_turn (any_number (modifier_run exprs h)) (in_turn (type_run h) (in_turn ellipsis (in_turn an_ident_at dims_run))) (near_any (modifier_run exprs h) (ahead_near (modifier_run exprs h) (modifier_ahead h)))
+    (near_turn (type_run h) (in_turn ellipsis (in_turn an_ident_at dims_run)) (type_inside h) (near_turn ellipsis (in_turn an_ident_at dims_run) (near_perhaps (of_kind (sign_code sign_of.Ellipsis)) (kind (sign_code sign_of.Ellipsis)))
+    (near_turn an_ident_at dims_run ident dims_inside)))))
 
-assigned_inside : (h : ℕ) → Inside (with_room h (in_turn (of_kind (sign_code sign_of.Assign)) (exprs.init h)))
+assigned_inside : (h : ℕ) → Near (with_room h (in_turn (of_kind (sign_code sign_of.Assign)) (exprs.init h)))
 unfolding with_room
 assigned_inside zero ts = omega arith
-assigned_inside (suc h) ts = inside_turn (of_kind (sign_code sign_of.Assign)) (exprs.init (suc h)) (kind (sign_code sign_of.Assign)) (init_inside (suc h)) ts
+assigned_inside (suc h) ts = near_turn (of_kind (sign_code sign_of.Assign)) (exprs.init (suc h)) (kind (sign_code sign_of.Assign)) (init_inside (suc h)) ts
 
-pub var_inside : (h : ℕ) → Inside (var_run exprs h)
+pub var_inside : (h : ℕ) → Near (var_run exprs h)
 unfolding var_run
 var_inside h =
     let given = perhaps (with_room h (in_turn (of_kind (sign_code sign_of.Assign)) (exprs.init h))) in
-    inside_as var_made _ (inside_turn an_ident_at (in_turn dims_run given) ident (inside_turn dims_run given dims_inside (inside_perhaps (with_room h (in_turn (of_kind (sign_code sign_of.Assign)) (exprs.init h))) (assigned_inside h))))
+    near_as var_made _ (near_turn an_ident_at (in_turn dims_run given) ident (near_turn dims_run given dims_inside (near_perhaps (with_room h (in_turn (of_kind (sign_code sign_of.Assign)) (exprs.init h))) (assigned_inside h))))

@@ -24,6 +24,7 @@ use Rattle.jc_part_laws.specs.PartReading.{or_nothing, bounds_made, bounds_run, 
 use Rattle.jc_expr_laws.specs.ExprReading.{exprs}
 use Rattle.jc_parse_parts.specs.declared.trees.ValueRow.{ValueRow}
 use Rattle.jc_parse_parts.specs.Lists.{or_no_list}
+use Rattle.jc_reading.specs.Reach.{}
 use Rattle.jc_parse_parts.specs.Parts.{initial_run, more_vars_run, named_value, or_no_initial, row_tree, row_value, unnamed_value, vars_tree, vars_tree_run}
 use Rattle.jc_parse_parts.proofs.ChainSteps.{then_made, then_stops, mapped_made, last_made}
 

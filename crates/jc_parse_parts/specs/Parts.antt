@@ -23,12 +23,13 @@ use Rattle.jc_expr_laws.specs.ExprReading.{exprs}
 use Rattle.jc_unit_laws.specs.MemberReading.{is_this}
 use Rattle.jc_unit_laws.specs.UnitReading.{semicolon_run}
 use Rattle.jc_parse_parts.specs.Lists.{or_no_list}
+use Rattle.jc_reading.specs.Reach.{}
 use Rattle.jc_parse_parts.specs.declared.trees.FormalTail.{FormalTail}
-use Rattle.jc_parse_parts.specs.declared.trees.HeadTree.{HeadTree}
-use Rattle.jc_parse_parts.specs.declared.trees.HeadTree.TheVariants as head_tree_of
+use Rattle.jc_parse_nodes.specs.declared.trees.HeadTree.{HeadTree}
+use Rattle.jc_parse_nodes.specs.declared.trees.HeadTree.TheVariants as head_tree_of
 use Rattle.jc_parse_parts.specs.declared.trees.SuperTrees.{SuperTrees}
 use Rattle.jc_parse_parts.specs.declared.trees.ValueRow.{ValueRow}
-use Rattle.jc_parse_parts.specs.declared.trees.Vars.{Vars}
+use Rattle.jc_parse_nodes.specs.declared.trees.Vars.{Vars}
 
 -- class types with a sign between them
 abbrev pub classes_run : Sign → ℕ → Run (List ClassTree)

@@ -9,6 +9,7 @@ ghost use Rattle.jc_reading.specs.Reading.{Read, That, an_ident_at, as_new, beco
 ghost use Rattle.jc_expr_laws.specs.ExprReading.{exprs};
 ghost use Rattle.jc_part_laws.specs.PartReading.{annotation_run, closing_run, modifier_made, modifier_run, modifier_word_of_kind, modifiers_run, pair_run, pairs_run, picks_modifier, row_run, value_made, value_run};
 ghost use Rattle.jc_parse_parts.specs.Lists.{or_no_list};
+ghost use Rattle.jc_reading.specs.Reach.{};
 ghost use Rattle.jc_parse_parts.specs.Parts.{named_value, row_tree, row_value, unnamed_value};
 ghost use Rattle.jc_parse_parts.specs.declared.trees.ValueRow.{ValueRow};
 

@@ -9,8 +9,9 @@ ghost use Rattle.jc_parse_parts.specs.Parts.{extended_run, head_tree, supers_run
 use crate::kinds::class_within;
 use crate::names::{name, past_sign_at, past_word, past_word_at};
 use crate::params::{keyed_within, params_within};
-use crate::trees::{HeadTree, SuperTrees};
+use crate::trees::SuperTrees;
 use jc_lexer::{Key, Sign, Token};
+use jc_parse_nodes::HeadTree;
 use jc_reading::{Found, Halt, without};
 use jc_rules::{Items, WantOfMemory};
 use jc_tree::{ClassTree, DeclarationHead, Modifier};

@@ -3,7 +3,7 @@ ghost use Rattle.std.specs.Prelude.{◌≡◌, ◌<◌, ◌≤◌, [], ◌∷◌
 ghost use Rattle.jc_reading.specs.Giving.{Gives, Is};
 ghost use Rattle.jc_reading.specs.Kinds.{sign_code};
 ghost use Rattle.jc_reading.specs.Reading.{Run, any_number, as_new, becoming, behind_it, each_behind, first_and_more, in_turn, noting, of_kind};
-ghost use Rattle.jc_parse_parts.specs.Lists.{GoesAhead, Inside, onto};
+ghost use Rattle.jc_reading.specs.Reach.{GoesAhead, Near, onto};
 
 use jc_lexer::{Sign, Token};
 use jc_reading::{Found, Halt, behind_sign};
@@ -92,7 +92,7 @@ fn behind<'a, T, F: Fn(&'a [Token]) -> Result<Found<'a, T>, Halt>>(
     read: &F,
 ) -> Result<Found<'a, T>, Halt>
     requires callable { (ts : _) → length ts.now ≤ length tokens.now → F.pre read.now ts }
-    ensures { (run : Run T) → Inside run → ((ts : _) (r : _) → F.post read.now ts r → Gives r (run ts.now)) → Gives result (as_new behind_it (in_turn (of_kind (sign_code sign)) run) tokens.now) }
+    ensures { (run : Run T) → Near run → ((ts : _) (r : _) → F.post read.now ts r → Gives r (run ts.now)) → Gives result (as_new behind_it (in_turn (of_kind (sign_code sign)) run) tokens.now) }
 {
     match behind_sign(sign, tokens) {
         Some(after) => read(after),
@@ -109,8 +109,8 @@ fn trail<'a, T: Drop, F: Fn(&'a [Token]) -> Result<Found<'a, T>, Halt>>(
     read: F,
 ) -> Result<Found<'a, Items<T>>, WantOfMemory>
     requires callable { (ts : _) → length ts.now ≤ length tokens.now → F.pre read ts }
-    requires reads { (run : Run T) × Inside run × ((ts : _) (r : _) → F.post read ts r → Gives r (run ts.now)) }
-    ensures read { (run : Run T) → Inside run → ((ts : _) (r : _) → F.post read ts r → Gives r (run ts.now)) → IfOk result (λ f. Is f (onto items left (any_number (as_new behind_it (in_turn (of_kind (sign_code sign)) run)) tokens.now))) }
+    requires reads { (run : Run T) × Near run × ((ts : _) (r : _) → F.post read ts r → Gives r (run ts.now)) }
+    ensures read { (run : Run T) → Near run → ((ts : _) (r : _) → F.post read ts r → Gives r (run ts.now)) → IfOk result (λ f. Is f (onto items left (any_number (as_new behind_it (in_turn (of_kind (sign_code sign)) run)) tokens.now))) }
     ensures shorter { IfOk result (λ f. length f.rest.now ≤ length tokens.now) }
 {
     let mut items = items;
@@ -143,8 +143,8 @@ pub fn each<'a, T: Drop, F: Fn(&'a [Token]) -> Result<Found<'a, T>, Halt>>(
     read: F,
 ) -> Result<Found<'a, Items<T>>, WantOfMemory>
     requires callable { (ts : _) → length ts.now ≤ length tokens.now → F.pre read ts }
-    requires reads { (run : Run T) × Inside run × ((ts : _) (r : _) → F.post read ts r → Gives r (run ts.now)) }
-    ensures read { (run : Run T) → Inside run → ((ts : _) (r : _) → F.post read ts r → Gives r (run ts.now)) → IfOk result (λ f. Is f (as_new (map behind_it) (each_behind sign run) tokens.now)) }
+    requires reads { (run : Run T) × Near run × ((ts : _) (r : _) → F.post read ts r → Gives r (run ts.now)) }
+    ensures read { (run : Run T) → Near run → ((ts : _) (r : _) → F.post read ts r → Gives r (run ts.now)) → IfOk result (λ f. Is f (as_new (map behind_it) (each_behind sign run) tokens.now)) }
     ensures shorter { IfOk result (λ f. length f.rest.now ≤ length tokens.now) }
 {
     trail(Items::new(alloc), tokens.len(), sign, tokens, read)
@@ -158,8 +158,8 @@ pub fn separated<'a, T: Drop, F: Fn(&'a [Token]) -> Result<Found<'a, T>, Halt>>(
     read: F,
 ) -> Result<Found<'a, Items<T>>, Halt>
     requires callable { (ts : _) → length ts.now ≤ length tokens.now → F.pre read ts }
-    requires reads { (run : Run T) × Inside run × ((ts : _) (r : _) → F.post read ts r → Gives r (run ts.now)) }
-    ensures read { (run : Run T) → Inside run → ((ts : _) (r : _) → F.post read ts r → Gives r (run ts.now)) → Gives result (as_new first_and_more (in_turn run (each_behind sign run)) tokens.now) }
+    requires reads { (run : Run T) × Near run × ((ts : _) (r : _) → F.post read ts r → Gives r (run ts.now)) }
+    ensures read { (run : Run T) → Near run → ((ts : _) (r : _) → F.post read ts r → Gives r (run ts.now)) → Gives result (as_new first_and_more (in_turn run (each_behind sign run)) tokens.now) }
     ensures shorter { IfOk result (λ f. length f.rest.now ≤ length tokens.now) }
 {
     let first = read(tokens)?;

@@ -10,9 +10,10 @@ use Rattle.jc_tree.specs.declared.types.TypePart.{TypePart}
 use Rattle.jc_tree.specs.declared.types.TypeTree.{TypeTree}
 use Rattle.jc_reading.specs.Kinds.{sign_code, key_code, one_of}
 use Rattle.jc_reading.specs.Reading.{Read, Found, Stopped, Run, found, noting, ◌>>=◌, becoming, joined, as_new, in_turn, perhaps_from, Either, This, That, any_number, of_kind, at_kind, behind_it, first_and_more, each_behind, commas_run}
-use Rattle.jc_reading.proofs.Steps.{Within}
 use Rattle.jc_reading.proofs.Ledby.{led, led_laws}
-use Rattle.jc_reading.proofs.Turns.{Advances, lawful_advances, as_advances, times_as}
+use Rattle.jc_reading.proofs.Turns.{lawful_ahead, times_as}
+use Rattle.jc_reading.specs.Reach.{Within, GoesAhead}
+use Rattle.jc_reading.proofs.Nears.{ahead_as}
 use Rattle.jc_parse_type.specs.TypeReading.{Bound, bound_run, wildcard, arg_made, arg_run, or_none, args_run, part_run, type_run, base_run}
 use Rattle.jc_parse_type.proofs.TypeForms.{type_laws, arg_laws, arg_form, part_form, part_laws, base_laws, row_laws}
 
@@ -138,11 +139,11 @@ arg_exact (suc h) ts e f =
 
 -- lists
 
-pub comma_steps : (h : ℕ) → Advances TypeArg (as_new behind_it (in_turn (of_kind (sign_code sign_of.Comma)) (arg_run h (type_run h))))
-comma_steps h = as_advances (Unit {0} × TypeArg) TypeArg behind_it _ (lawful_advances (Unit {0} × TypeArg) (led TypeArg sign_of.Comma (arg_form h)) (led_laws TypeArg sign_of.Comma (arg_form h) (arg_laws h) refl) refl)
+pub comma_steps : (h : ℕ) → GoesAhead (as_new behind_it (in_turn (of_kind (sign_code sign_of.Comma)) (arg_run h (type_run h))))
+comma_steps h = ahead_as behind_it _ (lawful_ahead (Unit {0} × TypeArg) (led TypeArg sign_of.Comma (arg_form h)) (led_laws TypeArg sign_of.Comma (arg_form h) (arg_laws h) refl) refl)
 
-pub dot_steps : (h : ℕ) → Advances TypePart (as_new behind_it (in_turn (of_kind (sign_code sign_of.Dot)) (part_run (args_run (arg_run h (type_run h))))))
-dot_steps h = as_advances (Unit {0} × TypePart) TypePart behind_it _ (lawful_advances (Unit {0} × TypePart) (led TypePart sign_of.Dot (part_form h (arg_laws h))) (led_laws TypePart sign_of.Dot (part_form h (arg_laws h)) (part_laws h (arg_laws h)) refl) refl)
+pub dot_steps : (h : ℕ) → GoesAhead (as_new behind_it (in_turn (of_kind (sign_code sign_of.Dot)) (part_run (args_run (arg_run h (type_run h))))))
+dot_steps h = ahead_as behind_it _ (lawful_ahead (Unit {0} × TypePart) (led TypePart sign_of.Dot (part_form h (arg_laws h))) (led_laws TypePart sign_of.Dot (part_form h (arg_laws h)) (part_laws h (arg_laws h)) refl) refl)
 
 row_made : {A : Type 0} (l : ℕ) (a : A) (m : Read (List (Unit {0} × A))) → becoming first_and_more (noting l (becoming (joined a) m)) ≡ noting l (becoming (λ more. a ∷ more) (becoming (map behind_it) m))
 row_made l a (Found list r k) = refl

@@ -16,8 +16,8 @@ use Rattle.jc_reading.specs.Reading.{Read, Found, Stopped, Run, found, noting, b
 use Rattle.jc_reading.specs.Further.{followed, unless}
 use Rattle.jc_unit_laws.specs.UnitReading.{arm_open, branch_made, branch_run, no_more, or_none}
 use Rattle.jc_unit_laws.specs.UnitReading.{Branch as UnitBranch}
-use Rattle.jc_parse_heads.specs.declared.pieces.Branch.{Branch}
-use Rattle.jc_parse_heads.specs.declared.pieces.Branch.TheVariants as branch_is
+use Rattle.jc_parse_nodes.specs.declared.pieces.Branch.{Branch}
+use Rattle.jc_parse_nodes.specs.declared.pieces.Branch.TheVariants as branch_is
 use Rattle.jc_parse_heads.specs.UnitCode.{branch_of, if_node}
 
 module _ (arm : Run Clause) (other : Run Stmt) where

@@ -9,16 +9,16 @@ use Rattle.jc_tree.specs.declared.statement.TopLevel.TheVariants as top_level_of
 use Rattle.jc_reading.specs.Kinds.{one_of, sign_code}
 use Rattle.jc_reading.specs.Reading.{as_new, at_kind, in_turn}
 use Rattle.jc_reading.proofs.Coded.{formed}
-use Rattle.jc_reading.proofs.Turns.{lawful_advances}
+use Rattle.jc_reading.proofs.Turns.{lawful_ahead}
 use Rattle.jc_part_laws.specs.PartReading.{modifiers_run}
 use Rattle.jc_expr_laws.specs.ExprReading.{exprs}
 use Rattle.jc_unit_laws.specs.UnitReading.{DeclarationRest}
 use Rattle.jc_unit_laws.specs.MemberReading.{declared_made, import_run, levels, rest_run, top_run}
 use Rattle.jc_unit_laws.proofs.FileForms.{import_coded, import_laws}
-use Rattle.jc_parse_parts.specs.Lists.{GoesAhead}
-use Rattle.jc_parse_parts.proofs.Growths.{advances_ahead}
-use Rattle.jc_parse_heads.specs.declared.pieces.Body.{Body}
-use Rattle.jc_parse_heads.specs.UnitCode.{body_made, declaration_of, declaration_rest_run, declared_top_run}
+use Rattle.jc_reading.specs.Reach.{GoesAhead}
+use Rattle.jc_parse_nodes.specs.declared.pieces.Body.{Body}
+use Rattle.jc_parse_heads.specs.UnitCode.{body_made, declaration_rest_run, declared_top_run}
+use Rattle.jc_parse_nodes.specs.Nodes.{declaration_of}
 use Rattle.jc_parse_heads.proofs.Joinings.{or_this, or_that, second_made}
 use Rattle.jc_parse_heads.proofs.LevelAdvances.{top_advances}
 use Rattle.jc_parse_unit.proofs.Moded.{declared_same}
@@ -42,7 +42,7 @@ unfolding top_run declared_top_run
 top_declared ts e = or_that Semicolon (as_new top_level_of.Semicolon (at_kind (sign_code sign_of.Semicolon))) (as_new declared_made (in_turn (modifiers_run exprs 198) (rest_run exprs 198 (levels exprs 198)))) ts e
 
 pub import_ahead : GoesAhead import_run
-import_ahead = advances_ahead Import import_run (lawful_advances Import (formed import_coded) import_laws refl)
+import_ahead = lawful_ahead Import (formed import_coded) import_laws refl
 
 pub top_ahead : GoesAhead (top_run exprs 199)
-top_ahead = advances_ahead TopLevel (top_run exprs 199) (top_advances 199)
+top_ahead = top_advances 199

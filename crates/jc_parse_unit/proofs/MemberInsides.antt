@@ -17,123 +17,116 @@ use Rattle.jc_expr_laws.specs.ExprReading.{exprs}
 use Rattle.jc_expr_laws.proofs.ExprWhole.{expr_laws}
 use Rattle.jc_unit_laws.specs.UnitReading.{or_others, semicolon_run}
 use Rattle.jc_unit_laws.specs.MemberReading.{field_tail_run, paren_codes}
-use Rattle.jc_parse_parts.specs.Lists.{Inside, Near}
-use Rattle.jc_parse_parts.proofs.Growths.{within_near}
-use Rattle.jc_parse_parts.proofs.Insides.{inside_as, inside_commas, inside_each, inside_either, inside_perhaps, inside_picking, inside_turn}
-use Rattle.jc_parse_heads.specs.MemberCode.{code_head_run, constructor_shape_run, fields_run, fields_tail_made, generic_head, generic_shape_run, method_shape, method_shape_run, named_made, named_shape_run, named_signature_run, named_tail_run, plain_head, signature_made, signature_run, tail_made, typed_shape, typed_shape_run, void_shape, void_shape_run, with_head}
-use Rattle.jc_parse_heads.specs.declared.heads.MemberHead.{MemberHead}
-use Rattle.jc_parse_heads.specs.declared.heads.Shape.{Shape}
-use Rattle.jc_parse_heads.specs.declared.heads.Shape.TheVariants as shape_of
+use Rattle.jc_reading.specs.Reach.{Near, Within}
+use Rattle.jc_reading.proofs.Nears.{near_as, near_commas, near_each, near_either, near_perhaps, near_picking, near_turn, within_cond}
+use Rattle.jc_reading.proofs.Steps.{within_noting}
+use Rattle.jc_parse_heads.specs.MemberCode.{code_head_run, constructor_shape_run, fields_run, fields_tail_made, generic_head, generic_shape_run, method_shape, method_shape_run, named_made, named_shape_run, named_signature_run, named_tail_run, plain_head, signature_made, signature_run, tail_made, typed_shape_run, void_shape, void_shape_run}
+use Rattle.jc_parse_nodes.specs.Nodes.{typed_shape, with_head}
+use Rattle.jc_parse_nodes.specs.declared.heads.MemberHead.{MemberHead}
+use Rattle.jc_parse_nodes.specs.declared.heads.Shape.{Shape}
+use Rattle.jc_parse_nodes.specs.declared.heads.Shape.TheVariants as shape_of
 
-near_cond : {A : Type 0} (b : Bool) (ts : List Token) (m n : Read A) → Near ts m → Near ts n → Near ts (cond b m n)
-near_cond true ts m n v w = v
-near_cond false ts m n v w = w
-
-near_noted : {A : Type 0} (t : Token) (ts : List Token) (m : Read A) → Near (t ∷ ts) m → Near (t ∷ ts) (noting (length ts) m)
-near_noted t ts (Found a r l) w = (omega (arith, w.0), w.1)
-near_noted t ts (Stopped l) w = omega (arith, w)
-
-near_past : {A : Type 0} (code : ℕ) (ts : List Token) (m : Read A) → Near ts m → Near ts (past code ts m)
+near_past : {A : Type 0} (code : ℕ) (ts : List Token) (m : Read A) → Within (length ts) m → Within (length ts) (past code ts m)
 near_past code [] m w = w
-near_past code (t ∷ ts) m w = near_cond (kind_code t.kind == code) (t ∷ ts) (noting (length ts) m) m (near_noted t ts m w) w
+near_past code (t ∷ ts) m w = within_cond (suc (length ts)) (kind_code t.kind == code) (noting (length ts) m) m (within_noting (length ts) (suc (length ts)) m w) w
 
-inside_roomy : {A B : Type 0} (h code : ℕ) (codes : List ℕ) (m : Run A) (n : Run B) → Inside m → Inside n → Inside (roomy_second h code codes m n)
+inside_roomy : {A B : Type 0} (h code : ℕ) (codes : List ℕ) (m : Run A) (n : Run B) → Near m → Near n → Near (roomy_second h code codes m n)
 unfolding roomy_second
-inside_roomy zero code codes m n v w ts = inside_as This m v ts
+inside_roomy zero code codes m n v w ts = near_as This m v ts
 inside_roomy (suc h) code codes m n v w ts =
-    near_cond (second_is code codes ts) ts (becoming This (m ts)) (past code ts (becoming That (n ts))) (inside_as This m v ts) (near_past code ts (becoming That (n ts)) (inside_as That n w ts))
+    within_cond (length ts) (second_is code codes ts) (becoming This (m ts)) (past code ts (becoming That (n ts))) (near_as This m v ts) (near_past code ts (becoming That (n ts)) (near_as That n w ts))
 
-inside_others : {A : Type 0} (codes : List ℕ) (m n : Run A) → Inside m → Inside n → Inside (or_others codes m n)
-inside_others codes m n v w = inside_as either_one (either codes m n) (inside_either codes m n v w)
+inside_others : {A : Type 0} (codes : List ℕ) (m n : Run A) → Near m → Near n → Near (or_others codes m n)
+inside_others codes m n v w = near_as either_one (either codes m n) (near_either codes m n v w)
 
-class_inside : (h : ℕ) → Inside (class_run h)
-class_inside h ts = within_near ts (class_run h ts) ((class_coded_laws h).within ts)
+class_inside : (h : ℕ) → Near (class_run h)
+class_inside h ts = (class_coded_laws h).within ts
 
-type_inside : (h : ℕ) → Inside (type_run h)
-type_inside h ts = within_near ts (type_run h ts) (within_type h ts)
+type_inside : (h : ℕ) → Near (type_run h)
+type_inside h ts = (within_type h ts)
 
-dims_inside : Inside dims_run
-dims_inside ts = within_near ts (dims_run ts) (dims_laws.within ts)
+dims_inside : Near dims_run
+dims_inside ts = dims_laws.within ts
 
-throws_inside : (h : ℕ) → Inside (keyed_run key_of.Throws (class_run h))
+throws_inside : (h : ℕ) → Near (keyed_run key_of.Throws (class_run h))
 unfolding keyed_run
-throws_inside h = inside_as or_nothing _ (inside_perhaps _ (inside_turn (of_kind (key_code key_of.Throws)) (commas_run (class_run h)) (inside_picking _) (inside_commas (class_run h) (class_inside h))))
+throws_inside h = near_as or_nothing _ (near_perhaps _ (near_turn (of_kind (key_code key_of.Throws)) (commas_run (class_run h)) (near_picking _) (near_commas (class_run h) (class_inside h))))
 
-formals_inside : (h : ℕ) → Inside (formals_run (formal_run exprs h))
-formals_inside h ts = within_near ts (formals_run (formal_run exprs h) ts) ((formals_laws exprs h expr_laws).within ts)
+formals_inside : (h : ℕ) → Near (formals_run (formal_run exprs h))
+formals_inside h ts = (formals_laws exprs h expr_laws).within ts
 
-params_of_inside : (h : ℕ) → Inside (params_of_run (class_run h))
-params_of_inside h ts = within_near ts (params_of_run (class_run h) ts) ((params_of_laws h).within ts)
+params_of_inside : (h : ℕ) → Near (params_of_run (class_run h))
+params_of_inside h ts = (params_of_laws h).within ts
 
-init_inside : (h : ℕ) → Inside (exprs.init (suc h))
-init_inside h ts = within_near ts (exprs.init (suc h) ts) ((expr_laws.init h).within ts)
+init_inside : (h : ℕ) → Near (exprs.init (suc h))
+init_inside h ts = (expr_laws.init h).within ts
 
-assigned_inside : (h : ℕ) → Inside (with_room h (in_turn (of_kind (sign_code sign_of.Assign)) (exprs.init h)))
+assigned_inside : (h : ℕ) → Near (with_room h (in_turn (of_kind (sign_code sign_of.Assign)) (exprs.init h)))
 unfolding with_room
 assigned_inside zero ts = omega arith
-assigned_inside (suc h) ts = inside_turn (of_kind (sign_code sign_of.Assign)) (exprs.init (suc h)) (inside_picking _) (init_inside h) ts
+assigned_inside (suc h) ts = near_turn (of_kind (sign_code sign_of.Assign)) (exprs.init (suc h)) (near_picking _) (init_inside h) ts
 
-given_inside : (h : ℕ) → Inside (perhaps (with_room h (in_turn (of_kind (sign_code sign_of.Assign)) (exprs.init h))))
-given_inside h = inside_perhaps (with_room h (in_turn (of_kind (sign_code sign_of.Assign)) (exprs.init h))) (assigned_inside h)
+given_inside : (h : ℕ) → Near (perhaps (with_room h (in_turn (of_kind (sign_code sign_of.Assign)) (exprs.init h))))
+given_inside h = near_perhaps (with_room h (in_turn (of_kind (sign_code sign_of.Assign)) (exprs.init h))) (assigned_inside h)
 
-var_inside : (h : ℕ) → Inside (var_run exprs h)
+var_inside : (h : ℕ) → Near (var_run exprs h)
 unfolding var_run
 var_inside h =
-    inside_as var_made _ (inside_turn an_ident_at (in_turn dims_run (perhaps (with_room h (in_turn (of_kind (sign_code sign_of.Assign)) (exprs.init h))))) (inside_picking _)
-    (inside_turn dims_run (perhaps (with_room h (in_turn (of_kind (sign_code sign_of.Assign)) (exprs.init h)))) dims_inside (given_inside h)))
+    near_as var_made _ (near_turn an_ident_at (in_turn dims_run (perhaps (with_room h (in_turn (of_kind (sign_code sign_of.Assign)) (exprs.init h))))) (near_picking _)
+    (near_turn dims_run (perhaps (with_room h (in_turn (of_kind (sign_code sign_of.Assign)) (exprs.init h)))) dims_inside (given_inside h)))
 
 module _ (h : ℕ) where
-  signature_inside : Inside (signature_run h)
+  signature_inside : Near (signature_run h)
   unfolding signature_run
-  signature_inside = inside_as signature_made _ (inside_turn (formals_run (formal_run exprs h)) (keyed_run key_of.Throws (class_run h)) (formals_inside h) (throws_inside h))
+  signature_inside = near_as signature_made _ (near_turn (formals_run (formal_run exprs h)) (keyed_run key_of.Throws (class_run h)) (formals_inside h) (throws_inside h))
 
-  named_inside : Inside (named_signature_run h)
+  named_inside : Near (named_signature_run h)
   unfolding named_signature_run
-  named_inside = inside_as named_made _ (inside_turn an_ident_at (signature_run h) (inside_picking _) signature_inside)
+  named_inside = near_as named_made _ (near_turn an_ident_at (signature_run h) (near_picking _) signature_inside)
 
-  fields_inside : Inside (fields_run h)
+  fields_inside : Near (fields_run h)
   unfolding fields_run field_tail_run
   fields_inside =
-      inside_as fields_tail_made _ (inside_turn dims_run _ dims_inside (inside_turn (perhaps (with_room h (in_turn (of_kind (sign_code sign_of.Assign)) (exprs.init h)))) (in_turn (each_behind sign_of.Comma (var_run exprs h)) semicolon_run) (given_inside h)
-      (inside_turn (each_behind sign_of.Comma (var_run exprs h)) semicolon_run (inside_each sign_of.Comma (var_run exprs h) (var_inside h)) (inside_picking _))))
+      near_as fields_tail_made _ (near_turn dims_run _ dims_inside (near_turn (perhaps (with_room h (in_turn (of_kind (sign_code sign_of.Assign)) (exprs.init h)))) (in_turn (each_behind sign_of.Comma (var_run exprs h)) semicolon_run) (given_inside h)
+      (near_turn (each_behind sign_of.Comma (var_run exprs h)) semicolon_run (near_each sign_of.Comma (var_run exprs h) (var_inside h)) (near_picking _))))
 
-  tail_inside : Inside (named_tail_run h)
+  tail_inside : Near (named_tail_run h)
   unfolding named_tail_run
-  tail_inside = inside_as tail_made _ (inside_turn an_ident_at (either paren_codes (signature_run h) (fields_run h)) (inside_picking _) (inside_either paren_codes (signature_run h) (fields_run h) signature_inside fields_inside))
+  tail_inside = near_as tail_made _ (near_turn an_ident_at (either paren_codes (signature_run h) (fields_run h)) (near_picking _) (near_either paren_codes (signature_run h) (fields_run h) signature_inside fields_inside))
 
-  void_inside : Inside (void_shape_run h)
+  void_inside : Near (void_shape_run h)
   unfolding void_shape_run
-  void_inside = inside_as void_shape _ (inside_turn (at_kind (key_code key_of.Void)) (named_signature_run h) (inside_picking _) named_inside)
+  void_inside = near_as void_shape _ (near_turn (at_kind (key_code key_of.Void)) (named_signature_run h) (near_picking _) named_inside)
 
-  constructor_inside : Inside (constructor_shape_run h)
+  constructor_inside : Near (constructor_shape_run h)
   unfolding constructor_shape_run
-  constructor_inside = inside_as shape_of.Constructor (named_signature_run h) named_inside
+  constructor_inside = near_as shape_of.Constructor (named_signature_run h) named_inside
 
-  method_inside : Inside (method_shape_run h)
+  method_inside : Near (method_shape_run h)
   unfolding method_shape_run
-  method_inside = inside_as method_shape _ (inside_turn (type_run h) (named_signature_run h) (type_inside h) named_inside)
+  method_inside = near_as method_shape _ (near_turn (type_run h) (named_signature_run h) (type_inside h) named_inside)
 
-  typed_inside : Inside (typed_shape_run h)
+  typed_inside : Near (typed_shape_run h)
   unfolding typed_shape_run
-  typed_inside = inside_as typed_shape _ (inside_turn (type_run h) (named_tail_run h) (type_inside h) tail_inside)
+  typed_inside = near_as typed_shape _ (near_turn (type_run h) (named_tail_run h) (type_inside h) tail_inside)
 
-  pick_inside : (n : Run Shape) → Inside n → Inside (as_new either_one (roomy_second h word_code paren_codes (constructor_shape_run h) n))
-  pick_inside n w = inside_as either_one (roomy_second h word_code paren_codes (constructor_shape_run h) n) (inside_roomy h word_code paren_codes (constructor_shape_run h) n constructor_inside w)
+  pick_inside : (n : Run Shape) → Near n → Near (as_new either_one (roomy_second h word_code paren_codes (constructor_shape_run h) n))
+  pick_inside n w = near_as either_one (roomy_second h word_code paren_codes (constructor_shape_run h) n) (inside_roomy h word_code paren_codes (constructor_shape_run h) n constructor_inside w)
 
-  generic_inside : Inside (generic_shape_run h)
+  generic_inside : Near (generic_shape_run h)
   unfolding generic_shape_run
   generic_inside = inside_others (key_code key_of.Void ∷ []) (void_shape_run h) _ void_inside (pick_inside (method_shape_run h) method_inside)
 
-  plain_inside : Inside (named_shape_run h)
+  plain_inside : Near (named_shape_run h)
   unfolding named_shape_run
   plain_inside = inside_others (key_code key_of.Void ∷ []) (void_shape_run h) _ void_inside (pick_inside (typed_shape_run h) typed_inside)
 
-  pub code_head_inside : Inside (code_head_run h)
+  pub code_head_inside : Near (code_head_run h)
   unfolding code_head_run
   code_head_inside =
       inside_others (sign_code sign_of.Less ∷ []) (as_new generic_head (in_turn (params_of_run (class_run h)) (generic_shape_run h))) (as_new plain_head (named_shape_run h))
-      (inside_as generic_head (in_turn (params_of_run (class_run h)) (generic_shape_run h)) (inside_turn (params_of_run (class_run h)) (generic_shape_run h) (params_of_inside h) generic_inside))
-      (inside_as plain_head (named_shape_run h) plain_inside)
+      (near_as generic_head (in_turn (params_of_run (class_run h)) (generic_shape_run h)) (near_turn (params_of_run (class_run h)) (generic_shape_run h) (params_of_inside h) generic_inside))
+      (near_as plain_head (named_shape_run h) plain_inside)
 
 -- what is left behind a head with its modifiers
 
@@ -141,7 +134,7 @@ abbrev Leaves : {A : Type 0} → List Token → Read A → Type 0
 Leaves q (Found a r l) = length r ≤ length q
 Leaves q (Stopped l) = Unit {0}
 
-leaves : {A B : Type 0} (q : List Token) (l : ℕ) (f : A → B) (m : Read A) → Near q m → Leaves q (noting l (becoming f m))
+leaves : {A B : Type 0} (q : List Token) (l : ℕ) (f : A → B) (m : Read A) → Within (length q) m → Leaves q (noting l (becoming f m))
 leaves q l f (Found a r k) w = w.1
 leaves q l f (Stopped k) w = tt
 

@@ -21,11 +21,12 @@ use Rattle.jc_part_laws.specs.PartReading.{HeadRest, head_made, head_rest_run, m
 use Rattle.jc_expr_laws.specs.ExprReading.{exprs}
 use Rattle.jc_unit_laws.specs.UnitReading.{Braces, DeclarationRest, Variables, braced_at_run, braced_run, declaration_made, moded_made, or_others, variables_run}
 use Rattle.jc_unit_laws.specs.MemberReading.{MemberRest, code_rest_run, instance_made, is_low, item_rest_run, levels, member_made, member_rest_run, member_run, moded_item_run, moded_member, moded_member_run, rest_codes, rest_run, static_made}
-use Rattle.jc_parse_parts.specs.declared.trees.HeadTree.{HeadTree}
+use Rattle.jc_parse_nodes.specs.declared.trees.HeadTree.{HeadTree}
 use Rattle.jc_parse_parts.specs.Parts.{head_tree}
-use Rattle.jc_parse_heads.specs.declared.pieces.Body.{Body}
-use Rattle.jc_parse_heads.specs.declared.pieces.Typed.{Typed}
-use Rattle.jc_parse_heads.specs.UnitCode.{body_made, braced_items_run, braced_members_run, braces_list, coded_member_run, declaration_of, declaration_rest_run, items_until_run, locals_of, static_run, tree_head, typed_made, typed_run}
+use Rattle.jc_parse_nodes.specs.declared.pieces.Body.{Body}
+use Rattle.jc_parse_nodes.specs.declared.pieces.Typed.{Typed}
+use Rattle.jc_parse_heads.specs.UnitCode.{body_made, braced_items_run, braced_members_run, braces_list, coded_member_run, declaration_rest_run, items_until_run, static_run, typed_made, typed_run}
+use Rattle.jc_parse_nodes.specs.Nodes.{declaration_of, locals_of, tree_head}
 use Rattle.jc_parse_heads.proofs.Joinings.{first_made, or_this, or_that, remade, second_made}
 
 same_values : {A B : Type 0} (f g : A → B) (m : Read A) → ((a : A) → f a ≡ g a) → becoming f m ≡ becoming g m

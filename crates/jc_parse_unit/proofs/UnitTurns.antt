@@ -7,8 +7,8 @@ use Rattle.jc_tree.specs.declared.fault.ParseFault.{ParseFault}
 use Rattle.jc_tree.specs.declared.fault.ParseFault.TheVariants as fault_of
 use Rattle.jc_tree.specs.declared.statement.SourceFile.{SourceFile}
 use Rattle.jc_left_out.specs.LeftOut.{earlier, first_left_out_word, first_left_out_form, left_out_forms, least_of, place_of}
-use Rattle.jc_reading.proofs.Steps.{Within}
 use Rattle.jc_reading.specs.Reading.{Read, Found}
+use Rattle.jc_reading.specs.Reach.{Within}
 use Rattle.jc_expr_laws.specs.ExprReading.{exprs}
 use Rattle.jc_expr_laws.proofs.ExprWhole.{expr_laws}
 use Rattle.jc_unit_laws.specs.MemberReading.{file_run}

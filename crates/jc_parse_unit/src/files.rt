@@ -11,7 +11,8 @@ ghost use Rattle.jc_parse_heads.specs.UnitCode.{declared_top_run};
 
 use crate::members::rest_at;
 use jc_lexer::{Sign, Token};
-use jc_parse_heads::{sign_stands, top_of};
+use jc_parse_heads::sign_stands;
+use jc_parse_nodes::top_of;
 use jc_parse_parts::{import, many, modifiers_within, package, sign_at};
 use jc_reading::{Found, Halt, without};
 use jc_rules::{Items, WantOfMemory};

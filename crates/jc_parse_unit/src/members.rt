@@ -6,7 +6,7 @@ ghost use Rattle.jc_expr_laws.specs.ExprReading.{exprs};
 ghost use Rattle.jc_unit_laws.specs.MemberReading.{first_run, instance_made, item_run, levels, member_run, moded_item_run, moded_member_run};
 ghost use Rattle.jc_parse_heads.specs.UnitCode.{body_made, braced_members_run, coded_member_run, declaration_rest_run, static_run};
 ghost use Rattle.jc_parse_heads.specs.MemberCode.{constructor_list_run, finish_from, first_ended_run, first_items_run, first_row_run, method_items_run, super_or_item_run};
-ghost use Rattle.jc_parse_heads.specs.declared.heads.MemberHead.TheVariants as head_of;
+ghost use Rattle.jc_parse_nodes.specs.declared.heads.MemberHead.TheVariants as head_of;
 ghost use Rattle.jc_lexer.specs.declared.token.Sign.TheVariants as sign_of;
 ghost use Rattle.jc_tree.specs.declared.statement.Member.TheVariants as member_of;
 ghost use Rattle.jc_reading.specs.Kinds.{sign_code};
@@ -15,11 +15,13 @@ ghost use Rattle.jc_unit_laws.specs.UnitReading.{braced_at_run};
 use crate::statements::{braced_items, if_at, item_within, items_until, simple, worded};
 use jc_lexer::{Key, Sign, Token};
 use jc_parse_heads::{
-    Body, MemberHead, are_low, behind_key, behind_static, body_of, closed, code_head,
-    constructor_end_of, declaration_stands, declared_of, headed_of, in_some, initialiser_of,
-    key_call_stands, local_of, method_end_of, nested_of, no_items, no_statements, reaching,
-    rest_stands, sign_stands, statement_stands, static_block_stands, super_call, this_call, typed,
-    word_stands,
+    are_low, behind_key, behind_static, closed, code_head, declaration_stands, in_some,
+    key_call_stands, no_items, no_statements, rest_stands, sign_stands, statement_stands,
+    static_block_stands, super_call, this_call, typed, word_stands,
+};
+use jc_parse_nodes::{
+    Body, MemberHead, body_of, constructor_end_of, declared_of, headed_of, initialiser_of,
+    local_of, method_end_of, nested_of, reaching,
 };
 use jc_parse_parts::{head_rest_within, many, modifiers_within, row, sign, sign_at, word_at};
 use jc_reading::{Found, Halt};

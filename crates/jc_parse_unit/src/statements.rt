@@ -10,12 +10,15 @@ ghost use Rattle.jc_parse_heads.specs.UnitCode.{arms_run, braced_groups_run, bra
 use crate::members::item_at;
 use jc_lexer::{Key, Sign, Token};
 use jc_parse_heads::{
-    Branch, Guarded, arm_branch, arm_of, behind_name, block_of, boxed, break_at, catch_opening,
-    clause_of, closed, continue_at, do_of, do_test, empty, ended_effect, finally_opening, for_of,
-    for_opening, guarded_of, if_else_of, if_of, is_open, label, label_stands, labeled_of,
-    last_branch, local, local_or_effect, modifier_stands, named_label, reaching, resources,
-    return_at, roomy_tested, sign_stands, single, some, statement_stands, switch_of, tested,
-    throw_at, try_of, try_with_of, while_of, with_last, word_stands,
+    behind_name, break_at, catch_opening, closed, continue_at, do_test, empty, ended_effect,
+    finally_opening, for_opening, label, label_stands, local, local_or_effect, modifier_stands,
+    named_label, resources, return_at, roomy_tested, sign_stands, statement_stands, tested,
+    throw_at, word_stands,
+};
+use jc_parse_nodes::{
+    Branch, Guarded, arm_branch, arm_of, block_of, boxed, clause_of, do_of, for_of, guarded_of,
+    if_else_of, if_of, is_open, labeled_of, last_branch, reaching, single, some, switch_of, try_of,
+    try_with_of, while_of, with_last,
 };
 use jc_parse_parts::{many, row, sign, sign_at, word, word_at};
 use jc_reading::{Found, Halt, pushed, without};

@@ -6,8 +6,9 @@ use Rattle.jc_lexer.specs.declared.token.Token.{Token}
 use Rattle.jc_grammar.specs.Told.{Told}
 use Rattle.jc_reading.specs.Reading.{Read, Found, Stopped, becoming, Either, This, That, either}
 use Rattle.jc_reading.specs.Kinds.{one_of}
-use Rattle.jc_reading.proofs.Steps.{Good, Within, Goes, IsFound, Refuses, reach, Moves, Plain, good_becoming, within_becoming, goes_becoming, found_becoming, reach_becoming, moves_becoming, moves_none}
+use Rattle.jc_reading.proofs.Steps.{Good, Goes, IsFound, Refuses, reach, Moves, Plain, good_becoming, within_becoming, goes_becoming, found_becoming, reach_becoming, moves_becoming, moves_none}
 use Rattle.jc_reading.proofs.Forms.{Form, Stands, Begins, Opens, Lawful, begins_as}
+use Rattle.jc_reading.specs.Reach.{Within}
 
 abbrev pub tell_either : {A B : Type 0} → (A → List Told → List Told) → (B → List Told → List Told) → Either A B → List Told → List Told
 tell_either f g (This a) r = f a r

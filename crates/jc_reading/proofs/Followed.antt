@@ -6,10 +6,11 @@ use Rattle.jc_lexer.specs.declared.token.Token.{Token}
 use Rattle.jc_grammar.specs.Told.{Told}
 use Rattle.jc_reading.specs.Kinds.{is_in, front_code, one_of}
 use Rattle.jc_reading.specs.Reading.{Read, Found, Stopped, found, becoming, joined, ◌>>=◌, Takes}
-use Rattle.jc_reading.proofs.Steps.{Good, Within, Goes, IsFound, Refuses, reach, Moves, Plain, good_becoming, good_bind, within_becoming, within_bind, goes_becoming, goes_bind, goes_after, goes_more, found_becoming, found_bind, reach_becoming, reach_noting, moves_becoming, moves_bind, moves_found, takes_cut, takes_join, takes_front}
+use Rattle.jc_reading.proofs.Steps.{Good, Goes, IsFound, Refuses, reach, Moves, Plain, good_becoming, good_bind, within_becoming, within_bind, goes_becoming, goes_bind, goes_after, goes_more, found_becoming, found_bind, reach_becoming, reach_noting, moves_becoming, moves_bind, moves_found, takes_cut, takes_join, takes_front}
 use Rattle.jc_reading.proofs.Forms.{Lawful, Stands, Begins, Opens, begins_as, begins_full, begins_behind, begins_pick}
 use Rattle.jc_reading.specs.Further.{unless, followed}
 use Rattle.jc_reading.proofs.Coded.{Coded, formed, in_first, in_second}
+use Rattle.jc_reading.specs.Reach.{Within}
 
 module _ (A T : Type 0) (closes : A → Bool) (none : T) (nothing : T → Bool) (ca : Coded A) (ct : Coded T) where
   abbrev pub following : Coded (A × T)

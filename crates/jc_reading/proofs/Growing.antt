@@ -5,11 +5,12 @@ use Rattle.std.specs.Prelude.{◌&&◌}
 use Rattle.jc_lexer.specs.declared.token.Token.{Token}
 use Rattle.jc_grammar.specs.Told.{Told}
 use Rattle.jc_reading.specs.Reading.{Read, Found, Stopped, Run, noting, becoming, joined, ◌>>=◌, Takes}
-use Rattle.jc_reading.proofs.Steps.{Good, Within, Goes, IsFound, Refuses, reach, Plain, good_becoming, good_bind, within_becoming, within_bind, goes_becoming, goes_bind, goes_after, goes_more, found_becoming, found_bind, reach_noting, reach_becoming, moves_becoming, moves_bind, takes_cut, takes_join, takes_front, takes_length}
+use Rattle.jc_reading.proofs.Steps.{Good, Goes, IsFound, Refuses, reach, Plain, good_becoming, good_bind, within_becoming, within_bind, goes_becoming, goes_bind, goes_after, goes_more, found_becoming, found_bind, reach_noting, reach_becoming, moves_becoming, moves_bind, takes_cut, takes_join, takes_front, takes_length}
 use Rattle.jc_reading.proofs.Forms.{Form, Stands, Begins, Opens, Lawful, begins_pick, begins_as, begins_behind}
 use Rattle.jc_reading.proofs.Lists.{tell_all}
 use Rattle.jc_reading.specs.Growing.{growing}
 use Rattle.jc_reading.proofs.Stepwise.{part, parts, fits_from, Stepping, parts_laws, cut_part}
+use Rattle.jc_reading.specs.Reach.{Within}
 
 module _ (V P : Type 0) (make : V → P → V) (tell : P → List Told → List Told) (fits : V → P → Bool) (run : V → Run P) (starts : V → List Token → Bool) (ends : List Token → Bool) (fv : Form V) where
   abbrev pub grows : Form (V × List P)

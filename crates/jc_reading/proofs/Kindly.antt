@@ -5,8 +5,9 @@ use Rattle.jc_lexer.specs.declared.token.Token.{Token}
 use Rattle.jc_grammar.specs.Told.{Told}
 use Rattle.jc_reading.specs.Kinds.{kind_code, is_in, one_of}
 use Rattle.jc_reading.specs.Reading.{Read, Found, on_pick, picking, IsTold}
-use Rattle.jc_reading.proofs.Steps.{Good, Within, Goes, IsFound, Refuses, reach, Moves, moves_none, moves_found}
+use Rattle.jc_reading.proofs.Steps.{Good, Goes, IsFound, Refuses, reach, Moves, moves_none, moves_found}
 use Rattle.jc_reading.proofs.Forms.{Form, Stands, Begins, Least, Opens, Lawful, begins_start, begins_full}
+use Rattle.jc_reading.specs.Reach.{Within}
 
 module _ (A : Type 0) (codes : List ℕ) (pick : Token → Option A) (tell : A → Told) where
   -- a token of one of the codes

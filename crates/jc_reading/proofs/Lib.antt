@@ -12,6 +12,7 @@ pub mod LedAt
 pub mod Ledby
 pub mod Lists
 pub mod Lowest
+pub mod Nears
 pub mod Options
 pub mod Pairs
 pub mod Places

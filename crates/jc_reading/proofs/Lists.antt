@@ -5,8 +5,9 @@ use Rattle.std.specs.Prelude.{◌&&◌, ◌||◌}
 use Rattle.jc_lexer.specs.declared.token.Token.{Token}
 use Rattle.jc_grammar.specs.Told.{Told}
 use Rattle.jc_reading.specs.Reading.{Read, Found, Stopped, noting, becoming, one_more, times, any_number, Takes}
-use Rattle.jc_reading.proofs.Steps.{Good, Within, Goes, IsFound, Refuses, reach, Moved, Moves, Plain, good_becoming, good_noting, within_becoming, within_noting, within_more, goes_becoming, goes_noting, goes_more, found_becoming, found_noting, reach_noting, reach_becoming, moves_becoming, moved_noting, moves_none, takes_cut, takes_join, takes_front, takes_length}
+use Rattle.jc_reading.proofs.Steps.{Good, Goes, IsFound, Refuses, reach, Moved, Moves, Plain, good_becoming, good_noting, within_becoming, within_noting, within_more, goes_becoming, goes_noting, goes_more, found_becoming, found_noting, reach_noting, reach_becoming, moves_becoming, moved_noting, moves_none, takes_cut, takes_join, takes_front, takes_length}
 use Rattle.jc_reading.proofs.Forms.{Form, Stands, Begins, Opens, Lawful, begins_pick, begins_behind, begins_full, begins_as}
+use Rattle.jc_reading.specs.Reach.{Within}
 
 -- one behind the other
 abbrev pub tell_all : {A : Type 0} → (A → List Told → List Told) → List A → List Told → List Told

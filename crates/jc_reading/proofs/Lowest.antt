@@ -8,7 +8,7 @@ use Rattle.jc_lexer.specs.declared.token.Sign.TheVariants as sign_of
 use Rattle.jc_grammar.specs.Told.{Told}
 use Rattle.jc_reading.specs.Kinds.{front_code, one_of, sign_code}
 use Rattle.jc_reading.specs.Reading.{Read, Found, Stopped, Run, found, becoming, as_new, ◌>>=◌, perhaps, perhaps_from, one_more, times, any_number, Either, This, That, either, joined, first_and_more, each_behind, Takes}
-use Rattle.jc_reading.proofs.Steps.{Good, Within, Goes, IsFound, Refuses, reach, Moves, Plain, moves_none, moves_stop, moves_found}
+use Rattle.jc_reading.proofs.Steps.{Good, Goes, IsFound, Refuses, reach, Moves, Plain, moves_none, moves_stop, moves_found}
 use Rattle.jc_reading.proofs.Forms.{Lawful, Stands, Begins, begins_start, begins_full}
 use Rattle.jc_reading.proofs.Options.{fits_some}
 use Rattle.jc_reading.proofs.Lists.{fits_all}
@@ -17,6 +17,7 @@ use Rattle.jc_reading.proofs.Ledby.{fits_some_of}
 use Rattle.jc_reading.proofs.Signs.{none_common, apart_sets, within_sets}
 use Rattle.jc_reading.specs.Further.{with_room, either_one}
 use Rattle.jc_reading.proofs.Coded.{Coded, formed, coded_laws, in_first, in_second, in_order, in_order_laws, optional, optional_laws, repeated, repeated_laws, listed, listed_laws, one_or, Apart, one_or_laws, made, Makes, made_laws}
+use Rattle.jc_reading.specs.Reach.{Within}
 
 -- it has no value
 pub record Void (A : Type 0) (c : Coded A) : Type 0 where

@@ -5,8 +5,9 @@ use Rattle.std.specs.Prelude.{◌||◌}
 use Rattle.jc_lexer.specs.declared.token.Token.{Token}
 use Rattle.jc_grammar.specs.Told.{Told}
 use Rattle.jc_reading.specs.Reading.{Read, Found, Stopped, perhaps, perhaps_from}
-use Rattle.jc_reading.proofs.Steps.{Good, Within, Goes, IsFound, Refuses, reach, Moves, Plain}
+use Rattle.jc_reading.proofs.Steps.{Good, Goes, IsFound, Refuses, reach, Moves, Plain}
 use Rattle.jc_reading.proofs.Forms.{Form, Stands, Begins, Opens, Lawful, begins_as}
+use Rattle.jc_reading.specs.Reach.{Within}
 
 abbrev pub tell_some : {A : Type 0} → (A → List Told → List Told) → Option A → List Told → List Told
 tell_some tell None r = r

@@ -6,8 +6,9 @@ use Rattle.jc_lexer.specs.declared.token.Token.{Token}
 use Rattle.jc_grammar.specs.Told.{Told}
 use Rattle.jc_grammar.specs.Spelling.{AreTold}
 use Rattle.jc_reading.specs.Reading.{Read, Found, Stopped, Takes}
-use Rattle.jc_reading.proofs.Steps.{Good, Within, Goes, reach, Moved}
+use Rattle.jc_reading.proofs.Steps.{Good, Goes, reach, Moved}
 use Rattle.jc_reading.proofs.Forms.{Form, Stands, Begins, Lawful}
+use Rattle.jc_reading.specs.Reach.{Within}
 
 -- tokens taken one by one are a front that is as told
 pub told_front : (b : Bool) (told : List Told) (ts r : List Token) → Takes b told ts r → (front : List Token) × (ts ≡ front ++ r) × AreTold b told front

@@ -5,11 +5,12 @@ use Rattle.jc_lexer.specs.declared.token.Token.{Token}
 use Rattle.jc_grammar.specs.Told.{Told}
 use Rattle.jc_reading.specs.Kinds.{front_code, one_of}
 use Rattle.jc_reading.specs.Reading.{Read, Found, Stopped, noting, becoming, Either, This, That}
-use Rattle.jc_reading.proofs.Steps.{Good, Within, Goes, IsFound, Refuses, reach, Moves, Plain, good_becoming, good_noting, within_becoming, within_noting, goes_becoming, goes_noting, found_becoming, found_noting, reach_becoming, reach_noting, moves_becoming, moved_noting}
+use Rattle.jc_reading.proofs.Steps.{Good, Goes, IsFound, Refuses, reach, Moves, Plain, good_becoming, good_noting, within_becoming, within_noting, goes_becoming, goes_noting, found_becoming, found_noting, reach_becoming, reach_noting, moves_becoming, moved_noting}
 use Rattle.jc_reading.proofs.Forms.{Lawful, Stands, Begins, Opens, begins_as, begins_pick}
 use Rattle.jc_reading.proofs.Choices.{tell_either, fits_either}
 use Rattle.jc_reading.specs.Further.{or_else, preferring}
 use Rattle.jc_reading.proofs.Coded.{Coded, formed, in_first, in_second}
+use Rattle.jc_reading.specs.Reach.{Within}
 
 module _ (A B : Type 0) (goes : List ℕ) (ca : Coded A) (cb : Coded B) where
   abbrev pub preferred : Coded (Either A B)

@@ -6,11 +6,12 @@ use Rattle.jc_lexer.specs.declared.token.Token.{Token}
 use Rattle.jc_grammar.specs.Told.{Told}
 use Rattle.jc_reading.specs.Kinds.{kind_code, is_in, front_code, one_of}
 use Rattle.jc_reading.specs.Reading.{Read, Found, Stopped, noting, becoming, Either, This, That}
-use Rattle.jc_reading.proofs.Steps.{Good, Within, Goes, IsFound, Refuses, reach, Moved, Moves, Plain, good_becoming, good_noting, within_becoming, within_noting, goes_becoming, goes_noting, found_becoming, found_noting, reach_becoming, reach_noting, moves_becoming, moved_noting, moves_none}
+use Rattle.jc_reading.proofs.Steps.{Good, Goes, IsFound, Refuses, reach, Moved, Moves, Plain, good_becoming, good_noting, within_becoming, within_noting, goes_becoming, goes_noting, found_becoming, found_noting, reach_becoming, reach_noting, moves_becoming, moved_noting, moves_none}
 use Rattle.jc_reading.proofs.Forms.{Form, Lawful, Stands, Begins, Opens, begins_as, begins_pick}
 use Rattle.jc_reading.proofs.Choices.{tell_either, fits_either}
 use Rattle.jc_reading.specs.Further.{by_second, past, second_is}
 use Rattle.jc_reading.proofs.Coded.{Coded, formed, in_first, in_second}
+use Rattle.jc_reading.specs.Reach.{Within}
 
 -- where a value may begin with a token, that token is read, whatever follows
 pub takes_first : (A : Type 0) (form : Form A) → Lawful A form → form.empties ≡ false → (t : Token) (z : List Token) (a : A) (r : List Token) → Stands form (t ∷ z) a r → (ts : List Token) → reach (form.run (t ∷ ts)) ≤ length ts

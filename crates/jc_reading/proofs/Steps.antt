@@ -3,17 +3,13 @@ use Rattle.std.proofs.Common.{◌≡◌, ℕ, ◌+◌, ◌<◌, ◌≤◌, min, 
 use Rattle.std.proofs.lemmas.Bool.{false≢true}
 use Rattle.jc_lexer.specs.declared.token.Token.{Token}
 use Rattle.jc_grammar.specs.Told.{Told}
+use Rattle.jc_reading.specs.Reach.{Within}
 use Rattle.jc_reading.specs.Reading.{Read, Found, Stopped, found, noting, ◌>>=◌, becoming, Takes}
 
 -- each answer has P
 abbrev pub Good : {A : Type 0} → (A → List Token → Type 0) → Read A → Type 0
 Good P (Found a r l) = P a r
 Good P (Stopped l) = Unit {0}
-
--- the reach is not before the next token, and that not before n tokens are left
-abbrev pub Within : {A : Type 0} → ℕ → Read A → Type 0
-Within n (Found a r l) = (l ≤ length r) × (length r ≤ n)
-Within n (Stopped l) = l ≤ n
 
 -- something is found, with at most k tokens after it
 abbrev pub Goes : {A : Type 0} → ℕ → Read A → Type 0

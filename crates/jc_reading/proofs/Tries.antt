@@ -5,13 +5,14 @@ use Rattle.jc_lexer.specs.declared.token.Token.{Token}
 use Rattle.jc_grammar.specs.Told.{Told}
 use Rattle.jc_reading.specs.Kinds.{is_in, front_code, one_of}
 use Rattle.jc_reading.specs.Reading.{Read, Found, Stopped, noting, becoming, Either, This, That}
-use Rattle.jc_reading.proofs.Steps.{Good, Within, Goes, IsFound, Refuses, reach, Moved, Moves, Plain, good_becoming, good_noting, within_becoming, within_noting, within_more, goes_becoming, goes_noting, found_becoming, found_noting, reach_becoming, reach_noting, moves_becoming, moved_noting, takes_front}
+use Rattle.jc_reading.proofs.Steps.{Good, Goes, IsFound, Refuses, reach, Moved, Moves, Plain, good_becoming, good_noting, within_becoming, within_noting, within_more, goes_becoming, goes_noting, found_becoming, found_noting, reach_becoming, reach_noting, moves_becoming, moved_noting, takes_front}
 use Rattle.jc_reading.proofs.Forms.{Form, Lawful, Stands, Begins, Opens, begins_as, begins_fill, begins_behind, begins_pick}
 use Rattle.jc_reading.proofs.Pairs.{pair, Meet, pair_laws, cut, join}
 use Rattle.jc_reading.proofs.Choices.{tell_either, fits_either}
 use Rattle.jc_reading.proofs.Signs.{apart_sets, none_common, within_sets, all_in}
 use Rattle.jc_reading.specs.Further.{tried, trying}
 use Rattle.jc_reading.proofs.Coded.{Coded, formed, in_first, in_second, in_order}
+use Rattle.jc_reading.specs.Reach.{Within}
 
 module _ (A B C : Type 0) (codes : List ℕ) (ca : Coded A) (cc : Coded C) (cb : Coded B) where
   abbrev pub attempted : Coded (Either (A × C) B)

@@ -30,7 +30,9 @@ use Rattle.jc_parse_expr.proofs.RungSteps.{expr_halts, expr_tall, expr_untargete
 use Rattle.jc_tree.specs.declared.expression.Init.{Init}
 use Rattle.jc_expr_laws.specs.PrimeReading.{array_creation, array_tail_run, creation_run}
 use Rattle.jc_expr_laws.specs.StartReading.{keyed_run, parens_run}
-use Rattle.jc_reading.proofs.Turns.{resume, loop_first, loop_next, loop_stop, loop_shorter}
+use Rattle.jc_reading.proofs.Turns.{loop_first, loop_next, loop_stop, loop_shorter}
+use Rattle.jc_reading.specs.Reach.{onto}
+use Rattle.jc_reading.proofs.Nears.{ahead_near}
 use Rattle.jc_lexer.specs.declared.token.Token.{Token}
 use Rattle.jc_parse_expr.specs.PrimeCode.{IsMeasured, array_in, expr_in, exprs_height, init_in, keyed_made, length_run, of_selector, parens_made, selected_on, selector_at, sized_made, sized_run}
 use Rattle.jc_parse_expr.specs.declared.parts.SelectorTree.{SelectorTree}
@@ -510,7 +512,7 @@ pub creations::lengths-lengths-init : goal.creations::lengths-lengths-init
 creations::lengths-lengths-init t c =
     let run = length_run (expr_in c.args.height) in
     let s = loop_first Expr run (length_steps c.args.height) c.args.tokens.now in (
-      (s.0, s.1, s.2 ∙ ap (λ (l : List Expr). resume l (length c.args.tokens.now) (times s.0 run c.args.tokens.now)) (sym c.new-list.ensures)),
+      (s.0, s.1, s.2 ∙ ap (λ (l : List Expr). onto l (length c.args.tokens.now) (times s.0 run c.args.tokens.now)) (sym c.new-list.ensures)),
       sym (ap (λ (l : List Expr). capped (exprs_height l)) c.new-list.ensures),
       c.requires,
     )
@@ -582,7 +584,7 @@ members::selectors-returns-in-Err-Stopped t c =
     let run = selector_at c.args.height in
     let reach = c.in-Err-Stopped.reach in
     let stop : run v.value.tree v.rest.now ≡ Stopped reach = subst (λ (h : Halt). Halts h (run v.value.tree v.rest.now)) c.in-Err-Stopped.field-0-is c.in-Err-Stopped.ensures in
-    let far = stop_of_near (run v.value.tree) v.rest.now reach (selector_advances c.args.height v.value.tree).within stop in (
+    let far = stop_of_near (run v.value.tree) v.rest.now reach (ahead_near (run v.value.tree) (selector_advances c.args.height v.value.tree)) stop in (
       grows_stop of_selector run whole v.value.tree v.left v.rest.now reach c.parts.invariant.0 stop far ∙ ap (λ j. Found v.value.tree v.rest.now j) (sym (c.min.ensures ∙ ap (λ k. min v.left k) c.in-Err-Stopped.reach-is)),
       c.parts.invariant.1,
     )

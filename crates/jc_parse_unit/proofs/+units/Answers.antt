@@ -12,10 +12,11 @@ use Rattle.jc_expr_laws.specs.ExprReading.{exprs}
 use Rattle.jc_unit_laws.specs.MemberReading.{levels, member_run}
 use Rattle.jc_parse_heads.proofs.Joinings.{cut, joined_gives, two_gives, two_halts}
 use Rattle.jc_unit_laws.specs.UnitReading.{case_run, catch_run, clauses_run, do_made, some_clauses_run}
-use Rattle.jc_parse_parts.proofs.Insides.{ahead_inside, kept, shorter_by}
-use Rattle.jc_parse_heads.specs.Joins.{alone}
-use Rattle.jc_parse_heads.specs.UnitCode.{braced_groups_run, braced_items_run, catch_opening_run, clause_made, do_test_run, finally_opening_run, for_opening_run, guarded_run, items_until_run, label_run, named_label_run, plain_guarded_run, roomy_resources_run, roomy_tested_run, some_catches_run, tested_run, with_last, with_node}
-use Rattle.jc_parse_heads.specs.declared.pieces.Guarded.{Guarded}
+use Rattle.jc_parse_parts.proofs.Insides.{shorter_by}
+use Rattle.jc_parse_nodes.specs.Joins.{alone}
+use Rattle.jc_parse_heads.specs.UnitCode.{braced_groups_run, braced_items_run, catch_opening_run, do_test_run, finally_opening_run, for_opening_run, guarded_run, items_until_run, label_run, named_label_run, plain_guarded_run, roomy_resources_run, roomy_tested_run, some_catches_run, tested_run, with_last, with_node}
+use Rattle.jc_parse_nodes.specs.Nodes.{clause_made}
+use Rattle.jc_parse_nodes.specs.declared.pieces.Guarded.{Guarded}
 use Rattle.jc_parse_heads.proofs.Aheads.{body_ahead, braced_items_inside, case_item_ahead, group_ahead, item_ahead, member_ahead}
 use Rattle.jc_parse_heads.proofs.Starts.{arm_is, arm_node, block_is, block_node, case_is, for_is, for_node, labeled_is, labeled_node, switch_is, switch_node, while_is, while_node}
 use Rattle.jc_parse_unit.proofs.Tails.{Catch, Finally, catch_is, clauses_is, do_is, do_node, do_there, finally_is, guarded_is, guarded_node, plain_guarded_is, some_clauses_catch, branch_halts, if_halts, try_halts, try_node, try_plain_is}
@@ -25,25 +26,27 @@ use Rattle.jc_parse_type.specs.TypeReading.{class_run}
 use Rattle.std.proofs.Common.{Bool, true, false}
 use Rattle.jc_unit_laws.specs.UnitReading.{arm_run}
 use Rattle.jc_parse_heads.specs.UnitCode.{arms_run, braced_members_run}
-use Rattle.jc_parse_heads.specs.declared.pieces.Body.{Body}
+use Rattle.jc_parse_nodes.specs.declared.pieces.Body.{Body}
 use Rattle.jc_parse_heads.proofs.Aheads.{catch_ahead}
 use Rattle.jc_parse_unit.proofs.Elses.{Turns}
 use Rattle.jc_parse_unit.proofs.Moded.{block_member, body_node, instance_is, rest_is, static_is}
 use Rattle.jc_tree.specs.declared.statement.Modifier.{Modifier}
 use Rattle.jc_tree.specs.declared.statement.Stmt.TheVariants as stmt_of
 use Rattle.jc_reading.specs.declared.reading.Halt.{Halt}
+use Rattle.jc_reading.proofs.Nears.{ahead_near, near_left}
+use Rattle.jc_reading.proofs.Turns.{loop_shorter}
 use Rattle.jc_unit_laws.specs.MemberReading.{is_low, moded_item_run, moded_member_run}
-use Rattle.jc_parse_parts.proofs.Growths.{ahead_less}
 use Rattle.jc_parse_heads.specs.UnitCode.{body_made, branch_once_run, coded_member_run, declaration_rest_run, listed, typed_run}
-use Rattle.jc_parse_heads.specs.declared.pieces.Branch.{Branch}
-use Rattle.jc_parse_heads.specs.declared.pieces.Branch.TheVariants as branch_is
+use Rattle.jc_parse_nodes.specs.declared.pieces.Branch.{Branch}
+use Rattle.jc_parse_nodes.specs.declared.pieces.Branch.TheVariants as branch_is
 use Rattle.jc_parse_heads.proofs.Aheads.{arm_ahead, branch_ahead, stop_near}
 use Rattle.jc_parse_unit.proofs.Elses.{last_gives, turn_arm, turn_last, turn_stops}
 use Rattle.jc_parse_heads.proofs.Joinings.{found_same}
 use Rattle.jc_parse_unit.proofs.Moded.{declared_node, item_lines, item_none, item_stands, lines_node, member_high, member_nested, member_other, nested_node}
 use Rattle.jc_parse_unit.proofs.Tails.{some_catches_is, try_with_is}
 use Rattle.jc_parse_unit.proofs.+units.Goals.{members::moded_item-then-is_empty-via-then-is_empty, members::moded_item-then-is_empty-via-else-is_empty+then-rest_stands, members::moded_member-else-rest_stands-via-then-rest_stands+else-are_low, members::moded_member-else-rest_stands-via-else-rest_stands}
-use Rattle.jc_parse_heads.specs.MemberCode.{code_head_run, constructor_list_run, finish, first_row_run, method_items_run, method_member, with_head}
+use Rattle.jc_parse_heads.specs.MemberCode.{code_head_run, constructor_list_run, finish, first_row_run, method_items_run}
+use Rattle.jc_parse_nodes.specs.Nodes.{method_member, with_head}
 use Rattle.jc_parse_heads.proofs.Aheads.{first_ahead}
 use Rattle.jc_parse_unit.proofs.MemberInsides.{head_leaves}
 use Rattle.jc_parse_heads.proofs.MemberEnds.{coded_goes, constructor_goes_on, constructor_of, finish_halts, method_goes_on}
@@ -124,13 +127,13 @@ statements::arm-returns t c = subst (λ (v : Read Clause). Gives c.arm_of.result
 pub statements::guarded-clauses-requires : goal.statements::guarded-clauses-requires
 statements::guarded-clauses-requires t c =
     let items = c.in_ok-items.items in
-    let lt = kept (braced_items_run c.args.height) c.args.tokens.now items.rest.now items.value items.left (braced_items_inside c.args.height) c.in_ok-items.ensures in
+    let lt = near_left (braced_items_run c.args.height) c.args.tokens.now items.rest.now items.value items.left (braced_items_inside c.args.height) c.in_ok-items.ensures in
     omega (arith, lt)
 
 pub statements::plain_guarded-some_clauses-requires : goal.statements::plain_guarded-some_clauses-requires
 statements::plain_guarded-some_clauses-requires t c =
     let items = c.in_ok-items.items in
-    let lt = kept (braced_items_run c.args.height) c.args.tokens.now items.rest.now items.value items.left (braced_items_inside c.args.height) c.in_ok-items.ensures in
+    let lt = near_left (braced_items_run c.args.height) c.args.tokens.now items.rest.now items.value items.left (braced_items_inside c.args.height) c.in_ok-items.ensures in
     omega (arith, lt)
 
 pub statements::do_at-returns-in_err-at : goal.statements::do_at-returns-in_err-at
@@ -151,7 +154,7 @@ statements::do_at-returns t c =
 pub statements::do_at-do_test-requires : goal.statements::do_at-do_test-requires
 statements::do_at-do_test-requires t c =
     let at = c.in_ok-at.at in
-    let short = shorter_by (levels exprs c.args.height).body at.rest.now c.body_within.result (ahead_inside (levels exprs c.args.height).body (body_ahead c.args.height)) c.body_within.ensures in
+    let short = shorter_by (levels exprs c.args.height).body at.rest.now c.body_within.result (ahead_near (levels exprs c.args.height).body (body_ahead c.args.height)) c.body_within.ensures in
     let lt = c.in_ok-body.ensures.shorter (length at.rest.now) (c.boxed.ensures.shorter (length at.rest.now) short) in
     omega (arith, lt, c.in_ok-at.ensures.shorter)
 
@@ -288,7 +291,7 @@ pub statements::arms-arms-smaller : goal.statements::arms-arms-smaller
 statements::arms-arms-smaller t c =
     let h = c.args.height in
     let found = c.in_Ok-found.found in
-    ahead_less (branch_once_run h) c.arms.rest.now found.rest.now found.value found.left (branch_ahead h) c.in_Ok-found.ensures
+    loop_shorter _ (branch_once_run h) (branch_ahead h) c.arms.rest.now found.rest.now found.value found.left c.in_Ok-found.ensures
 
 pub statements::arms-arms-preserved : goal.statements::arms-arms-preserved
 unfolding branch_once_run
@@ -300,7 +303,7 @@ statements::arms-arms-preserved t c =
     let found = c.in_Ok-found.found in
     let at : Turns arm other whole c.arms.arms c.arms.left false c.arms.rest.now = subst (λ (b : Bool). Turns arm other whole c.arms.arms c.arms.left b c.arms.rest.now) c.if-open.false c.arms.invariant.0 in
     let next : branch_once_run h c.arms.rest.now ≡ Found (branch_is.Arm c.in-Arm.arm) found.rest.now found.left = c.in_Ok-found.ensures ∙ ap (λ (v : Branch). Found v found.rest.now found.left) c.in-Arm.is in
-    let lt = ahead_less (branch_once_run h) c.arms.rest.now found.rest.now found.value found.left (branch_ahead h) c.in_Ok-found.ensures in
+    let lt = loop_shorter _ (branch_once_run h) (branch_ahead h) c.arms.rest.now found.rest.now found.value found.left c.in_Ok-found.ensures in
     let s = turn_arm arm other whole c.arms.arms c.arms.left c.arms.rest.now found.rest.now c.in-Arm.arm found.left at next lt in
     let held : c.in_ok-arms-in-Arm.arms ≡ c.arms.arms ++ c.in-Arm.arm ∷ [] = c.in_ok-arms-in-Arm.ensures in (
       subst (λ (list : List Clause). Turns arm other whole list c.min-left.result c.is_open-open-in-Arm.result found.rest.now) (sym held)
@@ -319,7 +322,7 @@ statements::arms-returns-in-Last t c =
     let found = c.in_Ok-found.found in
     let at : Turns arm other whole c.arms.arms c.arms.left false c.arms.rest.now = subst (λ (b : Bool). Turns arm other whole c.arms.arms c.arms.left b c.arms.rest.now) c.if-open.false c.arms.invariant.0 in
     let next : branch_once_run h c.arms.rest.now ≡ Found (branch_is.Last c.in-Last.last) found.rest.now found.left = c.in_Ok-found.ensures ∙ ap (λ (v : Branch). Found v found.rest.now found.left) c.in-Last.is in
-    let lt = ahead_less (branch_once_run h) c.arms.rest.now found.rest.now found.value found.left (branch_ahead h) c.in_Ok-found.ensures in
+    let lt = loop_shorter _ (branch_once_run h) (branch_ahead h) c.arms.rest.now found.rest.now found.value found.left c.in_Ok-found.ensures in
     let e = turn_last arm other whole c.arms.arms c.arms.left c.arms.rest.now found.rest.now c.in-Last.last found.left at next lt in
     last_gives whole c.if_else_of.result (stmt_of.If c.arms.arms (c.in-Last.last ∷ [])) found.rest.now c.min-in-Last.result c.if_else_of.ensures.ok c.if_else_of.ensures.err
     (e ∙ ap (λ (j : ℕ). Found (stmt_of.If c.arms.arms (c.in-Last.last ∷ [])) found.rest.now j) (sym c.min-in-Last.ensures))
@@ -343,7 +346,7 @@ pub statements::if_at-arms-requires : goal.statements::if_at-arms-requires
 statements::if_at-arms-requires t c =
     let h = c.args.height in
     let first = c.in_ok-first.first in
-    let lt = ahead_less (arm_run exprs h (levels exprs h)) c.args.tokens.now first.rest.now first.value first.left (arm_ahead h) c.in_ok-first.ensures in
+    let lt = loop_shorter _ (arm_run exprs h (levels exprs h)) (arm_ahead h) c.args.tokens.now first.rest.now first.value first.left c.in_ok-first.ensures in
     (omega arith, omega (arith, lt))
 
 pub statements::some_catches-returns-in_err-first-clause-read : goal.statements::some_catches-returns-in_err-first-clause-read
@@ -358,7 +361,7 @@ statements::some_catches-row-requires t c κs =
     let h = c.args.height in
     let first = c.in_ok-first.first in
     let run = catch_run exprs h (levels exprs h) in
-    let lt = ahead_less run c.args.tokens.now first.rest.now first.value first.left (catch_ahead h) c.in_ok-first.ensures in
+    let lt = loop_shorter _ run (catch_ahead h) c.args.tokens.now first.rest.now first.value first.left c.in_ok-first.ensures in
     (search rules, (λ ts e. (omega arith, omega (arith, e, lt)), (run, catch_ahead h, λ ts r p. search rules)))
 
 pub statements::some_catches-returns-clause-read : goal.statements::some_catches-returns-clause-read
@@ -372,7 +375,7 @@ pub statements::some_catches-returns-clause-shorter : goal.statements::some_catc
 statements::some_catches-returns-clause-shorter t c =
     let h = c.args.height in
     let first = c.in_ok-first.first in
-    let lt = ahead_less (catch_run exprs h (levels exprs h)) c.args.tokens.now first.rest.now first.value first.left (catch_ahead h) c.in_ok-first.ensures in
+    let lt = loop_shorter _ (catch_run exprs h (levels exprs h)) (catch_ahead h) c.args.tokens.now first.rest.now first.value first.left c.in_ok-first.ensures in
     omega (arith, lt, c.in_ok-row.ensures.shorter)
 
 pub statements::some_clauses-returns-in_err-catches : goal.statements::some_clauses-returns-in_err-catches
@@ -439,7 +442,7 @@ pub members::first_row-row-requires : goal.members::first_row-row-requires
 members::first_row-row-requires t c κs =
     let h = c.args.height in
     let first = c.in_ok-first.first in
-    let lt = ahead_less (levels exprs h).first c.args.tokens.now first.rest.now first.value first.left (first_ahead h) c.in_ok-first.ensures in
+    let lt = loop_shorter _ (levels exprs h).first (first_ahead h) c.args.tokens.now first.rest.now first.value first.left c.in_ok-first.ensures in
     (search rules, (λ ts e. (omega arith, omega (arith, e, lt)), ((levels exprs h).item, item_ahead h, λ ts r p. search rules)))
 
 pub members::first_row-returns : goal.members::first_row-returns

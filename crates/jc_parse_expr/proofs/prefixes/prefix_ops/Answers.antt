@@ -1,18 +1,19 @@
 use Rattle.std.proofs.Common.{◌≡◌, List, [], ◌∷◌, ◌++◌, length, sym, ap, ◌∙◌, subst}
 use Rattle.jc_tree.specs.declared.expression.PrefixOp.{PrefixOp}
 use Rattle.jc_reading.specs.Reading.{Found, any_number, times}
-use Rattle.jc_reading.proofs.Turns.{resume, Resumes, Advances, loop_first, loop_next, loop_stop, loop_shorter}
+use Rattle.jc_reading.proofs.Turns.{Resumes, loop_first, loop_next, loop_stop, loop_shorter}
+use Rattle.jc_reading.specs.Reach.{onto, GoesAhead}
+use Rattle.jc_reading.proofs.Nears.{ahead_picking}
 use Rattle.jc_expr_laws.specs.LevelReading.{picks_prefix, prefix_op_run}
-use Rattle.jc_parse_expr.proofs.Picks.{picking_steps}
 use Rattle.jc_parse_expr.proofs.prefixes.prefix_ops.Goals as goal
 
-steps : Advances PrefixOp prefix_op_run
-steps = picking_steps PrefixOp picks_prefix
+steps : GoesAhead prefix_op_run
+steps = ahead_picking picks_prefix
 
 pub signs-init : goal.signs-init
 signs-init c =
     let s = loop_first PrefixOp prefix_op_run steps c.args.tokens.now in
-    (s.0, s.1, s.2 ∙ ap (λ (l : List PrefixOp). resume l (length c.args.tokens.now) (times s.0 prefix_op_run c.args.tokens.now)) (sym c.new-ops.ensures))
+    (s.0, s.1, s.2 ∙ ap (λ (l : List PrefixOp). onto l (length c.args.tokens.now) (times s.0 prefix_op_run c.args.tokens.now)) (sym c.new-ops.ensures))
 
 pub signs-smaller : goal.signs-smaller
 signs-smaller c = loop_shorter PrefixOp prefix_op_run steps c.signs.rest.now c.in-Some.after.now c.in-Some.op _ c.in-Some.ensures.read

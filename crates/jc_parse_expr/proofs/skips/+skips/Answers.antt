@@ -5,7 +5,8 @@ use Rattle.jc_tree.specs.Heights.{capped, skip_part_height}
 use Rattle.jc_reading.specs.declared.reading.Halt.{Halt}
 use Rattle.jc_reading.specs.Giving.{Halts}
 use Rattle.jc_reading.specs.Reading.{Found, Stopped, any_number, times}
-use Rattle.jc_reading.proofs.Turns.{resume, Resumes, loop_first, loop_next, loop_stop, loop_shorter}
+use Rattle.jc_reading.proofs.Turns.{Resumes, loop_first, loop_next, loop_stop, loop_shorter}
+use Rattle.jc_reading.specs.Reach.{onto}
 use Rattle.jc_parse_expr.specs.PrimeCode.{skip_item_run, skip_parts_height}
 use Rattle.jc_parse_expr.proofs.HeightSteps.{pushed}
 use Rattle.jc_parse_expr.proofs.Shorters.{skip_steps}
@@ -15,7 +16,7 @@ pub skip_parts-parts-init : goal.skip_parts-parts-init
 skip_parts-parts-init t c =
     let run = skip_item_run c.args.height in
     let s = loop_first SkipPart run (skip_steps c.args.height) c.args.tokens.now in (
-      (s.0, s.1, s.2 ∙ ap (λ (l : List SkipPart). resume l (length c.args.tokens.now) (times s.0 run c.args.tokens.now)) (sym c.new-parts.ensures)),
+      (s.0, s.1, s.2 ∙ ap (λ (l : List SkipPart). onto l (length c.args.tokens.now) (times s.0 run c.args.tokens.now)) (sym c.new-parts.ensures)),
       sym (ap (λ (l : List SkipPart). capped (skip_parts_height l)) c.new-parts.ensures),
     )
 

@@ -3,7 +3,8 @@ use Rattle.jc_tree.specs.declared.name.Ident.{Ident}
 use Rattle.jc_reading.specs.declared.reading.Halt.{Halt}
 use Rattle.jc_reading.specs.Giving.{Halts}
 use Rattle.jc_reading.specs.Reading.{Found, Stopped, any_number, times}
-use Rattle.jc_reading.proofs.Turns.{resume, Resumes, loop_first, loop_next, loop_stop, loop_shorter}
+use Rattle.jc_reading.proofs.Turns.{Resumes, loop_first, loop_next, loop_stop, loop_shorter}
+use Rattle.jc_reading.specs.Reach.{onto}
 use Rattle.jc_parse_expr.specs.SpecialCode.{dot_name_run}
 use Rattle.jc_parse_expr.proofs.Shorters.{dot_names, names_as}
 use Rattle.jc_parse_expr.proofs.specials.more_names.Goals as goal
@@ -11,7 +12,7 @@ use Rattle.jc_parse_expr.proofs.specials.more_names.Goals as goal
 pub dots-init : goal.dots-init
 dots-init c =
     let s = loop_first Ident dot_name_run dot_names c.args.tokens.now in
-    (s.0, s.1, s.2 ∙ ap (λ (l : List Ident). resume l (length c.args.tokens.now) (times s.0 dot_name_run c.args.tokens.now)) (sym c.new-names.ensures))
+    (s.0, s.1, s.2 ∙ ap (λ (l : List Ident). onto l (length c.args.tokens.now) (times s.0 dot_name_run c.args.tokens.now)) (sym c.new-names.ensures))
 
 pub dots-smaller : goal.dots-smaller
 dots-smaller c =

@@ -5,7 +5,7 @@ use Rattle.jc_reading.specs.Giving.{Gives}
 use Rattle.jc_reading.specs.Reading.{Read, as_new, behind_it, each_behind}
 use Rattle.jc_parse_type.specs.TypeReading.{class_run}
 use Rattle.jc_parse_heads.proofs.Joinings.{two_gives}
-use Rattle.jc_parse_heads.specs.declared.head_parts.Caught.{Caught}
+use Rattle.jc_parse_nodes.specs.declared.head_parts.Caught.{Caught}
 use Rattle.jc_parse_heads.specs.HeadCode.{closed_name_run}
 use Rattle.jc_parse_heads.proofs.CatchForms.{caught_is, caught_node}
 use Rattle.jc_parse_heads.proofs.HeadInsides.{class_inside}

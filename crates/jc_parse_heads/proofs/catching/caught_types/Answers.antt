@@ -6,7 +6,7 @@ use Rattle.jc_reading.specs.Giving.{Gives, Halts}
 use Rattle.jc_reading.specs.Reading.{Read}
 use Rattle.jc_parse_type.specs.TypeReading.{class_run}
 use Rattle.jc_parse_heads.proofs.Joinings.{two_gives, two_halts}
-use Rattle.jc_parse_heads.specs.declared.head_parts.CaughtTypes.{CaughtTypes}
+use Rattle.jc_parse_nodes.specs.declared.head_parts.CaughtTypes.{CaughtTypes}
 use Rattle.jc_parse_heads.specs.HeadCode.{caught_run}
 use Rattle.jc_parse_heads.proofs.CatchForms.{caught_types_is, caught_types_node}
 use Rattle.jc_parse_heads.proofs.catching.caught_types.Goals as goal

@@ -4,7 +4,7 @@ use Rattle.jc_lexer.specs.declared.token.Key.TheVariants as key_of
 use Rattle.jc_lexer.specs.declared.token.Sign.TheVariants as sign_of
 use Rattle.jc_reading.specs.Giving.{Gives, Halts}
 use Rattle.jc_reading.specs.Reading.{Read}
-use Rattle.jc_parse_heads.specs.declared.pieces.ForOpening.{ForOpening}
+use Rattle.jc_parse_nodes.specs.declared.pieces.ForOpening.{ForOpening}
 use Rattle.jc_parse_heads.proofs.Joinings.{two_gives, two_halts}
 use Rattle.jc_parse_heads.specs.UnitCode.{for_opening_run}
 use Rattle.jc_parse_heads.specs.HeadCode.{for_ended_run, opened_run}

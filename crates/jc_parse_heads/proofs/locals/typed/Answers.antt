@@ -4,7 +4,7 @@ use Rattle.jc_reading.specs.Giving.{Gives, Halts}
 use Rattle.jc_reading.specs.Reading.{Read}
 use Rattle.jc_parse_heads.proofs.Joinings.{two_gives, two_halts}
 use Rattle.jc_parse_type.specs.TypeReading.{type_run}
-use Rattle.jc_parse_heads.specs.declared.pieces.Typed.{Typed}
+use Rattle.jc_parse_nodes.specs.declared.pieces.Typed.{Typed}
 use Rattle.jc_parse_heads.specs.UnitCode.{ended_vars_run}
 use Rattle.jc_parse_heads.proofs.Effects.{typed_is, typed_node}
 use Rattle.jc_parse_heads.proofs.locals.typed.Goals as goal

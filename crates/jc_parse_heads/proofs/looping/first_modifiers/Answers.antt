@@ -7,7 +7,7 @@ use Rattle.jc_reading.specs.Reading.{Read}
 use Rattle.jc_part_laws.specs.PartReading.{modifier_run, modifiers_run}
 use Rattle.jc_expr_laws.specs.ExprReading.{exprs}
 use Rattle.jc_parse_heads.proofs.Joinings.{cut, two_halts}
-use Rattle.jc_parse_heads.specs.declared.head_parts.ForKind.TheVariants as kind_is
+use Rattle.jc_parse_nodes.specs.declared.head_parts.ForKind.TheVariants as kind_is
 use Rattle.jc_tree.specs.declared.statement.Modifier.{Modifier}
 use Rattle.jc_parse_heads.specs.UnitCode.{listed}
 use Rattle.jc_parse_heads.proofs.Aheads.{modifier_ahead}

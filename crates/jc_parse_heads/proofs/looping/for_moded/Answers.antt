@@ -6,8 +6,8 @@ use Rattle.jc_tree.specs.declared.statement.ForHead.{ForHead}
 use Rattle.jc_reading.specs.Giving.{Gives, Halts}
 use Rattle.jc_reading.specs.Reading.{Read}
 use Rattle.jc_parse_heads.proofs.Joinings.{two_gives, two_halts}
-use Rattle.jc_parse_heads.specs.declared.head_parts.ForTyped.{ForTyped}
-use Rattle.jc_parse_heads.specs.declared.head_parts.ForKind.TheVariants as kind_is
+use Rattle.jc_parse_nodes.specs.declared.head_parts.ForTyped.{ForTyped}
+use Rattle.jc_parse_nodes.specs.declared.head_parts.ForKind.TheVariants as kind_is
 use Rattle.jc_tree.specs.declared.statement.Modifier.{Modifier}
 use Rattle.jc_parse_heads.specs.HeadCode.{first_modifiers_run, for_typed_run, typed_head}
 use Rattle.jc_parse_heads.proofs.ForForms.{for_moded_is}

@@ -4,9 +4,9 @@ use Rattle.jc_lexer.specs.declared.token.Sign.TheVariants as sign_of
 use Rattle.jc_reading.specs.Giving.{Gives}
 use Rattle.jc_reading.specs.Reading.{Read}
 use Rattle.jc_parse_heads.proofs.Joinings.{two_gives}
-use Rattle.jc_parse_heads.specs.declared.head_parts.ForMore.{ForMore}
-use Rattle.jc_parse_heads.specs.declared.head_parts.ForKind.{ForKind}
-use Rattle.jc_parse_heads.specs.declared.head_parts.ForKind.TheVariants as kind_is
+use Rattle.jc_parse_nodes.specs.declared.head_parts.ForMore.{ForMore}
+use Rattle.jc_parse_nodes.specs.declared.head_parts.ForKind.{ForKind}
+use Rattle.jc_parse_nodes.specs.declared.head_parts.ForKind.TheVariants as kind_is
 use Rattle.jc_tree.specs.declared.expression.Init.{Init}
 use Rattle.jc_parse_parts.specs.Parts.{initial_run}
 use Rattle.jc_parse_heads.specs.HeadCode.{for_more_run}

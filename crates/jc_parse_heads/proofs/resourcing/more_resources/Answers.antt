@@ -5,7 +5,7 @@ use Rattle.jc_reading.specs.Giving.{Gives}
 use Rattle.jc_reading.specs.Reading.{Read, as_new, behind_it, each_behind}
 use Rattle.jc_part_laws.specs.PartReading.{closing_run}
 use Rattle.jc_parse_heads.proofs.Joinings.{two_gives}
-use Rattle.jc_parse_heads.specs.declared.head_parts.MoreResources.{MoreResources}
+use Rattle.jc_parse_nodes.specs.declared.head_parts.MoreResources.{MoreResources}
 use Rattle.jc_parse_heads.specs.HeadCode.{one_resource_run}
 use Rattle.jc_parse_heads.proofs.ResourceForms.{more_resources_is, more_resources_node}
 use Rattle.jc_parse_heads.proofs.HeadInsides.{resource_inside}

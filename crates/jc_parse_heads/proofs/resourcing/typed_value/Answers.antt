@@ -6,7 +6,7 @@ use Rattle.jc_reading.specs.Giving.{Gives, Halts}
 use Rattle.jc_reading.specs.Reading.{Read}
 use Rattle.jc_parse_type.specs.TypeReading.{type_run}
 use Rattle.jc_parse_heads.proofs.Joinings.{two_gives, two_halts}
-use Rattle.jc_parse_heads.specs.declared.head_parts.TypedValue.{TypedValue}
+use Rattle.jc_parse_nodes.specs.declared.head_parts.TypedValue.{TypedValue}
 use Rattle.jc_parse_heads.specs.HeadCode.{valued_run}
 use Rattle.jc_parse_heads.proofs.ResourceForms.{typed_value_is, typed_value_node}
 use Rattle.jc_parse_heads.proofs.resourcing.typed_value.Goals as goal

@@ -6,7 +6,7 @@ use Rattle.jc_reading.specs.Giving.{Gives, Halts}
 use Rattle.jc_reading.specs.Reading.{Read}
 use Rattle.jc_expr_laws.specs.ExprReading.{exprs}
 use Rattle.jc_parse_heads.proofs.Joinings.{two_gives, two_halts}
-use Rattle.jc_parse_heads.specs.declared.head_parts.Valued.{Valued}
+use Rattle.jc_parse_nodes.specs.declared.head_parts.Valued.{Valued}
 use Rattle.jc_parse_heads.specs.HeadCode.{assigned_name_run}
 use Rattle.jc_parse_heads.proofs.ResourceForms.{valued_is, valued_node}
 use Rattle.jc_parse_heads.proofs.resourcing.valued.Goals as goal

@@ -6,7 +6,7 @@ use Rattle.jc_reading.specs.Giving.{Gives, Halts}
 use Rattle.jc_reading.specs.Reading.{Read, noting}
 use Rattle.jc_parse_parts.specs.Parts.{initial_run}
 use Rattle.jc_parse_heads.specs.MemberCode.{ended_more_run}
-use Rattle.jc_parse_heads.specs.declared.heads.FieldsTail.{FieldsTail}
+use Rattle.jc_parse_nodes.specs.declared.heads.FieldsTail.{FieldsTail}
 use Rattle.jc_parse_heads.proofs.Joinings.{two_gives, two_halts}
 use Rattle.jc_parse_heads.proofs.Shaping.{fields_are, fields_node}
 use Rattle.jc_parse_heads.proofs.shapes.fields.Goals as goal

@@ -6,7 +6,7 @@ use Rattle.jc_reading.specs.Giving.{Gives}
 use Rattle.jc_reading.specs.Reading.{Read, an_ident_at, either}
 use Rattle.jc_unit_laws.specs.MemberReading.{paren_codes}
 use Rattle.jc_parse_heads.specs.MemberCode.{fields_run, named_tail_run, signature_run, tail_made}
-use Rattle.jc_parse_heads.specs.declared.heads.NamedTail.{NamedTail}
+use Rattle.jc_parse_nodes.specs.declared.heads.NamedTail.{NamedTail}
 use Rattle.jc_parse_heads.proofs.Joinings.{joined_gives, two_halts}
 use Rattle.jc_parse_heads.proofs.Shaping.{named_fields, named_method, tail_fields, tail_method}
 use Rattle.jc_parse_heads.proofs.shapes.named_tail.Goals as goal

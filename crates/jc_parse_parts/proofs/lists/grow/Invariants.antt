@@ -1,7 +1,7 @@
 use Rattle.std.proofs.Common.{◌≤◌, length}
 use Rattle.jc_reading.specs.Giving.{Gives}
 use Rattle.jc_reading.specs.Reading.{Run, any_number}
-use Rattle.jc_parse_parts.specs.Lists.{GoesAhead, onto}
+use Rattle.jc_reading.specs.Reach.{GoesAhead, onto}
 use Rattle.jc_reading.proofs.Turns.{Resumes}
 use Rattle.jc_parse_parts.proofs.lists.grow.Given as goal
 

@@ -1,7 +1,7 @@
 use Rattle.std.proofs.Common.{◌≡◌, List, [], ◌∷◌, ◌++◌, IfOk, ◌∙◌, ap, subst}
 use Rattle.jc_reading.specs.Giving.{Is}
 use Rattle.jc_reading.specs.Reading.{any_number}
-use Rattle.jc_parse_parts.specs.Lists.{onto}
+use Rattle.jc_reading.specs.Reach.{onto}
 use Rattle.jc_parse_parts.proofs.lists.row.Goals as goal
 
 pub returns-clause-read : goal.returns-clause-read

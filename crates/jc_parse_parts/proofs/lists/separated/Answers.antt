@@ -1,7 +1,7 @@
 use Rattle.std.proofs.Common.{◌≡◌, List, [], ◌∷◌, ◌++◌, ◌∙◌, ap, subst}
 use Rattle.jc_reading.specs.Giving.{Is}
 use Rattle.jc_reading.specs.Reading.{Found, any_number}
-use Rattle.jc_parse_parts.specs.Lists.{onto}
+use Rattle.jc_reading.specs.Reach.{onto}
 use Rattle.jc_parse_parts.proofs.Growths.{first_then, led}
 use Rattle.jc_parse_parts.proofs.lists.separated.Goals as goal
 

@@ -2,10 +2,11 @@ use Rattle.std.proofs.Common.{◌≡◌, List, [], ◌∷◌, ◌++◌, min, sym
 use Rattle.jc_reading.specs.Giving.{Halts}
 use Rattle.jc_reading.specs.Kinds.{sign_code}
 use Rattle.jc_reading.specs.declared.reading.Halt.{Halt}
-use Rattle.jc_reading.specs.Reading.{Found, Stopped, any_number}
-use Rattle.jc_parse_parts.specs.Lists.{onto}
-use Rattle.jc_reading.proofs.Turns.{Resumes}
-use Rattle.jc_parse_parts.proofs.Growths.{ahead_on, ahead_end, ahead_less, behind_ahead, led}
+use Rattle.jc_reading.specs.Reading.{Found, Stopped, any_number, behind_it}
+use Rattle.jc_reading.specs.Reach.{onto}
+use Rattle.jc_reading.proofs.Turns.{Resumes, loop_shorter, loop_next, loop_stop}
+use Rattle.jc_reading.proofs.Nears.{ahead_behind}
+use Rattle.jc_parse_parts.proofs.Growths.{led}
 use Rattle.jc_parse_parts.proofs.lists.trail.Goals as goal
 
 pub turns-preserved : goal.turns-preserved
@@ -14,13 +15,13 @@ turns-preserved g c =
     let r = c.requires.reads in
     let s = c.args.sign in
     let one : led s r.0 c.turns.rest.now ≡ Found found.value found.rest.now found.left = c.in-Ok.ensures r.0 r.1 r.2 in
-    let lt = ahead_less (led s r.0) c.turns.rest.now found.rest.now found.value found.left (behind_ahead (sign_code s) r.0 r.1) one in (
+    let lt = loop_shorter _ (led s r.0) (ahead_behind behind_it (sign_code s) r.0 r.1) c.turns.rest.now found.rest.now found.value found.left one in (
       omega (arith, lt),
       λ run moves reads.
           let m = led s run in
           let whole = onto c.args.items c.args.left (any_number m c.args.tokens.now) in
           let next : m c.turns.rest.now ≡ Found found.value found.rest.now found.left = c.in-Ok.ensures run moves reads in
-          let s = ahead_on m whole c.turns.items c.turns.left c.turns.rest.now found.rest.now found.value found.left (behind_ahead (sign_code s) run moves) (c.turns.invariant.1 run moves reads) next in
+          let s = loop_next _ m (ahead_behind behind_it (sign_code s) run moves) whole c.turns.items c.turns.left c.turns.rest.now found.rest.now found.value found.left (c.turns.invariant.1 run moves reads) next in
           let held : c.push.new.self ≡ c.turns.items ++ found.value ∷ [] = c.in_ok-push-in-Ok.ensures.ok in
           subst (λ (l : List g.row.T.Denot). Resumes whole l c.min-left.result m found.rest.now) (sym held) (subst (λ j. Resumes whole (c.turns.items ++ found.value ∷ []) j m found.rest.now) (sym c.min-left.ensures) s),
     )
@@ -29,7 +30,7 @@ pub returns-in-Err-Stopped-clause-read : goal.returns-in-Err-Stopped-clause-read
 returns-in-Err-Stopped-clause-read g c = λ run moves reads.
     let m = led c.args.sign run in
     let stop : m c.turns.rest.now ≡ Stopped c.in-Err-Stopped.reach = subst (λ (h : Halt). Halts h (m c.turns.rest.now)) c.in-Err-Stopped.field-0-is (c.in-Err-Stopped.ensures run moves reads) in
-    ahead_end m (onto c.args.items c.args.left (any_number m c.args.tokens.now)) c.turns.items c.turns.left c.turns.rest.now c.in-Err-Stopped.reach (behind_ahead (sign_code c.args.sign) run moves) (c.turns.invariant.1 run moves reads) stop
+    loop_stop _ m (ahead_behind behind_it (sign_code c.args.sign) run moves) (onto c.args.items c.args.left (any_number m c.args.tokens.now)) c.turns.items c.turns.left c.turns.rest.now c.in-Err-Stopped.reach (c.turns.invariant.1 run moves reads) stop
     ∙ ap (λ j. Found c.turns.items c.turns.rest.now j) (sym (c.min.ensures ∙ ap (λ k. min c.turns.left k) c.in-Err-Stopped.reach-is))
 
 pub turns-smaller : goal.turns-smaller
@@ -38,4 +39,4 @@ turns-smaller g c =
     let r = c.requires.reads in
     let s = c.args.sign in
     let one : led s r.0 c.turns.rest.now ≡ Found found.value found.rest.now found.left = c.in-Ok.ensures r.0 r.1 r.2 in
-    ahead_less (led s r.0) c.turns.rest.now found.rest.now found.value found.left (behind_ahead (sign_code s) r.0 r.1) one
+    loop_shorter _ (led s r.0) (ahead_behind behind_it (sign_code s) r.0 r.1) c.turns.rest.now found.rest.now found.value found.left one

@@ -10,13 +10,14 @@ use Rattle.jc_part_laws.specs.PartReading.{formal_run}
 use Rattle.jc_expr_laws.specs.ExprReading.{exprs}
 use Rattle.jc_parse_parts.specs.Parts.{some_formals_run}
 use Rattle.jc_parse_parts.proofs.FormalSteps.{Continues, ended, formals_first, formals_next, formals_stop}
-use Rattle.jc_parse_parts.specs.Lists.{Ahead}
-use Rattle.jc_parse_parts.proofs.Growths.{ahead_less, behind_ahead}
+use Rattle.jc_reading.specs.Reach.{Ahead}
+use Rattle.jc_reading.proofs.Turns.{loop_shorter}
+use Rattle.jc_reading.proofs.Nears.{ahead_behind}
 use Rattle.jc_parse_parts.proofs.PartInsides.{formal_inside}
 use Rattle.jc_parse_parts.proofs.variables.some_formals.Goals as goal
 
 comma_formal_reach : (h : ℕ) (ts : List Token) (l : ℕ) → as_new behind_it (in_turn (of_kind (sign_code sign_of.Comma)) (formal_run exprs h)) ts ≡ Stopped l → l ≤ length ts
-comma_formal_reach h ts l e = subst (λ (v : Read Formal). Ahead ts v) e (behind_ahead (sign_code sign_of.Comma) (formal_run exprs h) (formal_inside h) ts)
+comma_formal_reach h ts l e = subst (λ (v : Read Formal). Ahead ts v) e (ahead_behind behind_it (sign_code sign_of.Comma) (formal_run exprs h) (formal_inside h) ts)
 
 pub commas-init : goal.commas-init
 commas-init c =
@@ -31,14 +32,14 @@ pub commas-smaller : goal.commas-smaller
 commas-smaller c =
     let found = c.in-Ok.found in
     let formal = formal_run exprs c.args.height in
-    ahead_less (as_new behind_it (in_turn (of_kind (sign_code sign_of.Comma)) formal)) c.commas.rest.now found.rest.now found.value found.left (behind_ahead (sign_code sign_of.Comma) formal (formal_inside c.args.height)) c.in-Ok.ensures.read
+    loop_shorter _ (as_new behind_it (in_turn (of_kind (sign_code sign_of.Comma)) formal)) (ahead_behind behind_it (sign_code sign_of.Comma) formal (formal_inside c.args.height)) c.commas.rest.now found.rest.now found.value found.left c.in-Ok.ensures.read
 
 pub commas-preserved : goal.commas-preserved
 commas-preserved c =
     let found = c.in-Ok.found in
     let formal = formal_run exprs c.args.height in
     let whole = some_formals_run c.args.height c.args.tokens.now in
-    let lt = ahead_less (as_new behind_it (in_turn (of_kind (sign_code sign_of.Comma)) formal)) c.commas.rest.now found.rest.now found.value found.left (behind_ahead (sign_code sign_of.Comma) formal (formal_inside c.args.height)) c.in-Ok.ensures.read in
+    let lt = loop_shorter _ (as_new behind_it (in_turn (of_kind (sign_code sign_of.Comma)) formal)) (ahead_behind behind_it (sign_code sign_of.Comma) formal (formal_inside c.args.height)) c.commas.rest.now found.rest.now found.value found.left c.in-Ok.ensures.read in
     let s = formals_next c.commas.last formal whole c.commas.formals c.commas.left c.commas.rest.now found.rest.now found.value found.left c.if-last.false c.commas.invariant.0 c.in-Ok.ensures.read lt in
     let held : c.in_ok-formals-in-Ok.formals ≡ c.commas.formals ++ found.value ∷ [] = c.in_ok-formals-in-Ok.ensures in (
       subst (λ (l : List Formal). Continues found.value.variable_arity formal whole l c.min-left.result found.rest.now) (sym held)

@@ -4,7 +4,8 @@ use Rattle.jc_reading.specs.Giving.{Gives, Halts}
 use Rattle.jc_reading.specs.declared.reading.Halt.{Halt}
 use Rattle.jc_reading.specs.Kinds.{sign_code}
 use Rattle.jc_reading.specs.Reading.{Found, Stopped, as_new, in_turn, of_kind, behind_it, commas_run, each_behind, times}
-use Rattle.jc_reading.proofs.Turns.{resume, Resumes, loop_first, loop_next, loop_stop, loop_shorter, turn_second}
+use Rattle.jc_reading.proofs.Turns.{Resumes, loop_first, loop_next, loop_stop, loop_shorter, turn_second}
+use Rattle.jc_reading.specs.Reach.{onto}
 use Rattle.jc_tree.specs.declared.types.TypeArg.{TypeArg}
 use Rattle.jc_tree.specs.declared.types.TypePart.{TypePart}
 use Rattle.jc_parse_type.specs.TypeReading.{arg_run, args_run, part_run, type_run, base_run}
@@ -26,7 +27,7 @@ more_args-commas-init t c =
     let s = turn_second (as_new behind_it (in_turn (of_kind (sign_code sign_of.Comma)) run)) first.value first.left first.rest.now in
     let held : c.push.new.self ≡ first.value ∷ [] = c.in_ok-push.ensures.ok ∙ ap (λ (l : List TypeArg). l ++ first.value ∷ []) c.new-args.ensures in
     let whole : commas_run run c.args.tokens.now ≡ _ = commas_first run c.args.tokens.now first.rest.now first.value first.left one in
-    ((s.0, s.1, whole ∙ s.2 ∙ ap (λ (l : List TypeArg). resume l first.left (times s.0 (as_new behind_it (in_turn (of_kind (sign_code sign_of.Comma)) run)) first.rest.now)) (sym held)), omega (arith, lt))
+    ((s.0, s.1, whole ∙ s.2 ∙ ap (λ (l : List TypeArg). onto l first.left (times s.0 (as_new behind_it (in_turn (of_kind (sign_code sign_of.Comma)) run)) first.rest.now)) (sym held)), omega (arith, lt))
 
 pub more_args-commas-smaller : goal.more_args-commas-smaller
 more_args-commas-smaller t c =
@@ -59,7 +60,7 @@ more_parts-dots-init t c =
     let run = part_run (args_run (arg_run c.args.height (type_run c.args.height))) in
     let m = as_new behind_it (in_turn (of_kind (sign_code sign_of.Dot)) run) in
     let s = loop_first TypePart m (dot_steps c.args.height) c.args.tokens.now in
-    ((s.0, s.1, each_as run c.args.tokens.now ∙ s.2 ∙ ap (λ (l : List TypePart). resume l (length c.args.tokens.now) (times s.0 m c.args.tokens.now)) (sym c.new-parts.ensures)), c.requires)
+    ((s.0, s.1, each_as run c.args.tokens.now ∙ s.2 ∙ ap (λ (l : List TypePart). onto l (length c.args.tokens.now) (times s.0 m c.args.tokens.now)) (sym c.new-parts.ensures)), c.requires)
 
 pub more_parts-dots-smaller : goal.more_parts-dots-smaller
 more_parts-dots-smaller t c =

@@ -1,6 +1,7 @@
 use Rattle.std.proofs.Common.{◌+◌, [], ◌∷◌, ◌++◌, length, length-append, min, subst, refl, sym, ap, ◌∙◌, arith}
 use Rattle.jc_reading.specs.Reading.{Found, any_number, becoming}
-use Rattle.jc_reading.proofs.Turns.{Resumes, Advances, lawful_advances, loop_first, loop_next, loop_stop, loop_shorter}
+use Rattle.jc_reading.proofs.Turns.{Resumes, lawful_ahead, loop_first, loop_next, loop_stop, loop_shorter}
+use Rattle.jc_reading.specs.Reach.{GoesAhead}
 use Rattle.jc_parse_type.specs.TypeReading.{bracket_run, dims_run}
 use Rattle.jc_parse_type.proofs.TypeForms.{Bracket, bracket_laws}
 use Rattle.jc_parse_type.proofs.reading.dims.Goals as goal
@@ -8,8 +9,8 @@ use Rattle.jc_parse_type.proofs.reading.dims.Goals as goal
 abbrev Pair : Type 0
 Pair = Unit {0} × Unit {0}
 
-steps : Advances Pair bracket_run
-steps = lawful_advances Pair Bracket bracket_laws refl
+steps : GoesAhead bracket_run
+steps = lawful_ahead Pair Bracket bracket_laws refl
 
 pub pairs-init : goal.pairs-init
 pairs-init c = ([], refl, omega arith, loop_first Pair bracket_run steps c.args.tokens.now)

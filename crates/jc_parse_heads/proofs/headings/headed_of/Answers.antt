@@ -1,8 +1,0 @@
-use Rattle.std.proofs.Common.{List, rules}
-use Rattle.jc_tree.specs.declared.statement.Modifier.{Modifier}
-use Rattle.jc_parse_heads.specs.declared.heads.CodeHead.{CodeHead}
-use Rattle.jc_parse_heads.specs.MemberCode.{with_head}
-use Rattle.jc_parse_heads.proofs.headings.headed_of.Goals as goal
-
-pub returns : goal.returns
-returns c = c.join.ensures (λ (a : List Modifier) (b : CodeHead). with_head a b) (λ a b r p. search rules)

@@ -1,8 +1,0 @@
-use Rattle.std.proofs.Common.{rules}
-use Rattle.jc_tree.specs.declared.types.TypeTree.{TypeTree}
-use Rattle.jc_parse_heads.specs.declared.heads.NamedTail.{NamedTail}
-use Rattle.jc_parse_heads.specs.MemberCode.{typed_shape}
-use Rattle.jc_parse_heads.proofs.headings.typed_shape_of.Goals as goal
-
-pub returns : goal.returns
-returns c = c.join.ensures (λ (a : TypeTree) (b : NamedTail). typed_shape (a, b)) (λ a b r p. search rules)

@@ -1,8 +1,0 @@
-use Rattle.std.proofs.Common.{rules}
-use Rattle.jc_tree.specs.declared.types.TypeTree.{TypeTree}
-use Rattle.jc_parse_parts.specs.declared.trees.Vars.{Vars}
-use Rattle.jc_parse_heads.specs.UnitCode.{bare_local}
-use Rattle.jc_parse_heads.proofs.nodes.bare_local_of.Goals as goal
-
-pub returns : goal.returns
-returns c = c.join.ensures (λ (a : TypeTree) (b : Vars). bare_local a b) (λ a b r p. search rules)

@@ -1,7 +1,0 @@
-use Rattle.std.proofs.Common.{ℕ, Option, rules}
-use Rattle.jc_tree.specs.declared.name.Ident.{Ident}
-use Rattle.jc_tree.specs.declared.statement.Stmt.TheVariants as stmt_of
-use Rattle.jc_parse_heads.proofs.nodes.continue_of.Goals as goal
-
-pub returns : goal.returns
-returns c = c.join.ensures (λ (a : ℕ) (b : Option Ident). stmt_of.Continue a b) (λ a b r p. search rules)

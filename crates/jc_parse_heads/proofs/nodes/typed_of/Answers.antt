@@ -1,7 +1,0 @@
-use Rattle.std.proofs.Common.{rules}
-use Rattle.jc_tree.specs.declared.types.TypeTree.{TypeTree}
-use Rattle.jc_parse_parts.specs.declared.trees.Vars.{Vars}
-use Rattle.jc_parse_heads.proofs.nodes.typed_of.Goals as goal
-
-pub returns : goal.returns
-returns c = c.join.ensures (λ (a : TypeTree) (b : Vars). record { ty = a; first = b.first; more = b.more }) (λ a b r p. search rules)
