@@ -240,8 +240,8 @@ class Table:
     def select(self, name, method):
         at = name
         while at is not None:
-            for one in self.methods:
-                if one.owner == at and self.stands_for(name, one, method):
-                    return one if one.has_body else None
+            found = [one for one in self.methods if one.owner == at and self.stands_for(name, one, method)]
+            if found:
+                return next((one for one in found if not one.is_abstract), None)
             at = self.classes[at].supers[0][1] if self.classes[at].supers else None
         return None

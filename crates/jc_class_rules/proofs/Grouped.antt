@@ -1,7 +1,7 @@
 -- The members of a class agree where those of each name do.
 use Rattle.std.proofs.lemmas.Bool.Decides.{nat_tests}
 use Rattle.std.proofs.lemmas.Slice.Eq.{bytes_eq-Decides}
-use Rattle.std.proofs.Common.{◌≡◌, ◌⊎◌, inl, inr, ℕ, zero, suc, ◌+◌, ◌<◌, ◌≤◌, ◌==◌, arith, Bool, true, false, not, ◌&&◌, ◌||◌, cond, Option, Some, None, List, [], ◌∷◌, ◌++◌, length, refl, sym, ap, subst, ◌∙◌}
+use Rattle.std.proofs.Common.{◌≡◌, ◌⊎◌, inl, inr, nat_eq, ℕ, zero, suc, ◌+◌, ◌<◌, ◌≤◌, ◌==◌, arith, Bool, true, false, not, ◌&&◌, ◌||◌, cond, Option, Some, None, List, [], ◌∷◌, ◌++◌, length, refl, sym, ap, subst, ◌∙◌}
 use Rattle.std.specs.List.{list_any}
 use Rattle.std.specs.Option.{option_to_list}
 use Rattle.std.specs.Str.{bytes_eq}
@@ -10,23 +10,27 @@ use Rattle.jc_types.specs.declared.form.Ty.{Ty}
 use Rattle.jc_types.specs.declared.ids.ClassId.{ClassId}
 use Rattle.jc_types.specs.declared.ids.MethodId.{MethodId}
 use Rattle.jc_types.specs.declared.table.Table.{Table}
-use Rattle.jc_types.specs.Accessors.{method_name_of}
+use Rattle.jc_types.specs.Accessors.{method_name_of, method_owner_of}
+use Rattle.jc_types.specs.Names.{named}
 use Rattle.jc_judge.specs.declared.question.Answer.{Answer}
 use Rattle.jc_judge.specs.declared.question.Answer.TheVariants.{Yes, No}
 use Rattle.jc_judge.specs.Trees.{both, either}
+use Rattle.jc_judge.specs.Views.{view}
 use Rattle.jc_overriding.specs.declared.view.MethodView.{MethodView}
-use Rattle.jc_overriding.specs.Overriding.{candidates, candidates_from, has_name, hides, is_above, is_candidate, is_inheritable, is_instance, is_method, members, overrides, owner, remaining, replaced, same_class, subsignature_of, with_view, without_replaced}
+use Rattle.jc_overriding.specs.Overriding.{candidates, candidates_from, has_name, hides, is_above, is_candidate, is_inheritable, is_instance, is_method, is_viewed, members, or_object, overrides, owner, remaining, replaced, same_class, subsignature_of, with_view, without_replaced}
 use Rattle.jc_overriding.specs.Signatures.{is_erasure, override_equivalent, same_signature, subsignature}
-use Rattle.jc_overriding.specs.Viewing.{class_view, is_static, own_type, view_of_method}
+use Rattle.jc_overriding.specs.Viewing.{class_view, is_static, own_type, view_of_method, view_of_owner, viewed_in}
 use Rattle.jc_header_rules.specs.Inheriting.{agreement, agreements, all_members, disagrees, meets, meets_body, members_disagree, one_stands, stands_for_all, with_body}
 use Rattle.jc_header_rules.specs.Results.{result_answer}
 use Rattle.jc_members.specs.Below.{replaces}
-use Rattle.jc_members.specs.Listing.{candidate_ids, remaining_ids, remaining_in, replaced_by, views_of}
-use Rattle.jc_members.specs.Named.{all_named, named_from}
+use Rattle.jc_members.specs.declared.named.MethodIndex.{MethodIndex}
+use Rattle.jc_members.specs.Listing.{candidate_ids, has_method, if_candidate, remaining_ids, remaining_in, replaced_by, views_of}
+use Rattle.jc_members.specs.Named.{IsMethodIndex, all_named, group_at, named_from}
 use Rattle.jc_members.proofs.Remaining.{id_of_view, members_told}
 use Rattle.jc_members.proofs.Replacing.{hides_told, overrides_told, own_below}
 use Rattle.jc_members.proofs.Standing.{unnamed}
-use Rattle.jc_class_rules.specs.Grouping.{all_answers, all_covered, all_from, are_covered, disagrees_some, first_is, firsts, firsts_from, fitting, is_first, meets_badly, is_covered, name_agrees, no_if, one_at, own_ids, own_replaces, stands_at}
+use Rattle.jc_method_rules.specs.Owned.{ids_of, is_standing, picked, standing, stands_in}
+use Rattle.jc_class_rules.specs.Grouping.{HasSeen, all_answers, all_covered, all_from, are_covered, disagrees_some, fitting, ids_agree, is_covered, is_marked, marked_with, meets_badly, name_agrees, no_if, one_at, own_ids, own_replaces, stands_at, with_name}
 use Rattle.jc_class_rules.proofs.Joined.{all_told, both_assoc, both_comm, both_self}
 
 -- ---- lists
@@ -267,7 +271,7 @@ module _ (T : Table) (x : List ℕ) where
   members_named t =
       ap (remaining T) (candidates_named t 0 T.methods) ∙ without_named (candidates T (λ m. true) t) (candidates T (λ m. true) t)
 
--- ---- each member has a name that one of the first methods has
+-- ---- each member is declared by the class or above it
 
 module _ (T : Table) (t : Ty) where
   in_with : (m : MethodId) (o : Option MethodView) (v : MethodView) → In v (with_view T (λ _. true) t m o) → o ≡ Some v
@@ -305,88 +309,61 @@ module _ (T : Table) (t : Ty) where
   member_within v m =
       let within : v.id.0 < 0 + length T.methods = in_range 0 T.methods v (in_without (candidates T (λ m. true) t) (candidates T (λ m. true) t) v m) in omega arith
 
-module _ (T : Table) where
-  is_self : (n : ℕ) → (n == n) ≡ true
-  is_self n = grind (arith, nat_tests)
+-- a method that is viewed is of a class that is
+viewed_owner : (T : Table) (t : Ty) (m : MethodId) (v : MethodView) → view_of_method T t m ≡ Some v → is_viewed (view T (owner T m) t) ≡ true
+viewed_owner T t m v e = by (method_owner_of T m) e
+  where
+    of_view : (o : Option Ty) → viewed_in T m o ≡ Some v → is_viewed o ≡ true
+    of_view None f = cc
+    of_view (Some u) f = refl
 
-  -- where one of n methods from number i on has a name, there is a first one
-  record First (x : List ℕ) (i n : ℕ) : Type 0 where
-    pub id : MethodId
-    pub named : has_name T x id ≡ true
-    pub from : i ≤ id.0
-    pub to : id.0 < i + n
-    pub is : first_is id (named_from T x i n) ≡ true
+    by : (o : Option ClassId) → viewed_in T m (view_of_owner T t o) ≡ Some v → is_viewed (view T (or_object o) t) ≡ true
+    by None f = cc
+    by (Some l) f = of_view (view T l t) f
 
-  less : (a b : ℕ) → a ≤ b → (b ≡ a → ⊥) → suc a ≤ b
-  less a b le ne = grind arith
-
-  beyond_named : (x : List ℕ) (i : ℕ) (m : MethodId) → has_name T x m ≡ true → has_name T x (record { 0 = i }) ≡ false → i ≤ m.0 → suc i ≤ m.0
-  beyond_named x i m named e from = less i m.0 from same
+module _ (T : Table) (t : Ty) where
+  candidate_viewed : (i : ℕ) (ds : List MethodDecl) (v : MethodView) → In v (candidates_from T (λ _. true) t i ds) → is_viewed (view T (owner T v.id) t) ≡ true
+  candidate_viewed i [] v m = absurd m
+  candidate_viewed i (d ∷ ds) v m =
+      by (in_either v (with_view T (λ _. true) t (record { 0 = i }) (view_of_method T t (record { 0 = i }))) (candidates_from T (λ _. true) t (suc i) ds) m) (λ m. candidate_viewed (suc i) ds v m)
     where
-      same : m.0 ≡ i → ⊥
-      same is = let f : has_name T x (record { 0 = i }) ≡ true = subst (λ j. has_name T x (record { 0 = j }) ≡ true) is named in cc
+      by : In v (with_view T (λ _. true) t (record { 0 = i }) (view_of_method T t (record { 0 = i }))) ⊎ In v (candidates_from T (λ _. true) t (suc i) ds)
+          → (In v (candidates_from T (λ _. true) t (suc i) ds) → is_viewed (view T (owner T v.id) t) ≡ true) → is_viewed (view T (owner T v.id) t) ≡ true
+      by (inl m) h =
+          let e = in_with T t (record { 0 = i }) (view_of_method T t (record { 0 = i })) v m in
+          subst (λ n. is_viewed (view T (owner T n) t) ≡ true) (sym (id_of_view T t (record { 0 = i }) v e)) (viewed_owner T t (record { 0 = i }) v e)
+      by (inr m) h = h m
 
-  first_named : (x : List ℕ) (i n : ℕ) (m : MethodId) → has_name T x m ≡ true → i ≤ m.0 → m.0 < i + n → First x i n
-  first_named x i zero m named from to = absurd (omega arith)
-  first_named x i (suc n) m named from to = by (has_name T x (record { 0 = i })) refl (λ low. first_named x (suc i) n m named low (omega arith))
-    where
-      next : has_name T x (record { 0 = i }) ≡ false → First x (suc i) n → First x i (suc n)
-      next e rest =
-          let low : suc i ≤ rest.id.0 = rest.from in
-          let high : rest.id.0 < suc i + n = rest.to in
-          record {
-            id = rest.id;
-            named = rest.named;
-            from = omega arith;
-            to = omega arith;
-            is = ap (λ b. first_is rest.id (cond b (record { 0 = i } ∷ []) [] ++ named_from T x (suc i) n)) e ∙ rest.is;
-          }
+is_self : (n : ℕ) → (n == n) ≡ true
+is_self n = grind (arith, nat_tests)
 
-      by : (b : Bool) → has_name T x (record { 0 = i }) ≡ b → (suc i ≤ m.0 → First x (suc i) n) → First x i (suc n)
-      by true e h =
-          record {
-            id = record { 0 = i };
-            named = e;
-            from = omega arith;
-            to = omega arith;
-            is = ap (λ b. first_is (record { 0 = i }) (cond b (record { 0 = i } ∷ []) [] ++ named_from T x (suc i) n)) e ∙ is_self i;
-          }
-      by false e h = next e (h (beyond_named x i m named e from))
+number : (a b : ℕ) → (a == b) ≡ true → a ≡ b
+number a b e = grind (arith, nat_tests)
 
-  number : (a b : ℕ) → (a == b) ≡ true → a ≡ b
-  number a b e = grind (arith, nat_tests)
+beyond : (a b : ℕ) → (a == b) ≡ false → b ≤ a → suc b ≤ a
+beyond a b e le = grind (arith, nat_tests)
 
-  beyond : (a b : ℕ) → (a == b) ≡ false → b ≤ a → suc b ≤ a
-  beyond a b e le = grind (arith, nat_tests)
+in_picked : (test : ℕ → Bool) (i n : ℕ) (r : MethodId) → i ≤ r.0 → r.0 < i + n → test r.0 ≡ true → In r (ids_of (picked test i n))
+in_picked test i zero r from to e = absurd (omega arith)
+in_picked test i (suc n) r from to e = by (test i) (r.0 == i) refl refl (λ low. in_picked test (suc i) n r low (omega arith) e)
+  where
+    by : (t b : Bool) → test i ≡ t → (r.0 == i) ≡ b → (suc i ≤ r.0 → In r (ids_of (picked test (suc i) n))) → In r (ids_of (cond t (i ∷ []) [] ++ picked test (suc i) n))
+    by true true g f h = inl (ap (λ j. record { 0 = j }) (number r.0 i f))
+    by true false g f h = inr (h (beyond r.0 i f from))
+    by false true g f h =
+        let here : test i ≡ true = subst (λ j. test j ≡ true) (number r.0 i f) e in cc
+    by false false g f h = h (beyond r.0 i f from)
 
-  in_firsts : (i n : ℕ) (r : MethodId) → i ≤ r.0 → r.0 < i + n → is_first T r ≡ true → In r (firsts_from T i n)
-  in_firsts i zero r from to e = absurd (omega arith)
-  in_firsts i (suc n) r from to e = by (r.0 == i) refl (λ low. in_firsts (suc i) n r low (omega arith) e)
-    where
-      by : (b : Bool) → (r.0 == i) ≡ b → (suc i ≤ r.0 → In r (firsts_from T (suc i) n)) → In r (firsts_from T i (suc n))
-      by true f h =
-          let is : r.0 ≡ i = number r.0 i f in
-          let here : is_first T (record { 0 = i }) ≡ true = subst (λ j. is_first T (record { 0 = j }) ≡ true) is e in
-          in_left r (cond (is_first T (record { 0 = i })) (record { 0 = i } ∷ []) []) (firsts_from T (suc i) n)
-          (subst (λ b. In r (cond b (record { 0 = i } ∷ []) [])) (sym here) (inl (ap (λ j. record { 0 = j }) is)))
-      by false f h = in_right r (cond (is_first T (record { 0 = i })) (record { 0 = i } ∷ []) []) (firsts_from T (suc i) n) (h (beyond r.0 i f from))
-
-  -- the first method of the name of another one
-  record Named (m : MethodId) : Type 0 where
-    pub id : MethodId
-    pub listed : In id (firsts T)
-    pub named : has_name T (method_name_of T id) m ≡ true
-
-  first_of_name : (m : MethodId) → m.0 < length T.methods → Named m
-  first_of_name m within =
-      let first = first_named (method_name_of T m) 0 (length T.methods) m (own_bytes (method_name_of T m)) (omega arith) (omega arith) in
-      let same : method_name_of T first.id ≡ method_name_of T m = same_bytes (method_name_of T first.id) (method_name_of T m) first.named in
-      let high : first.id.0 < 0 + length T.methods = first.to in
-      record {
-        id = first.id;
-        listed = in_firsts 0 (length T.methods) first.id (omega arith) high (ap (λ x. first_is first.id (all_named T x)) same ∙ first.is);
-        named = ap (λ x. has_name T x m) same ∙ own_bytes (method_name_of T m);
-      }
+member_stands : (T : Table) (k : ClassId) (v : MethodView) → In v (all_members T k) → In v.id (standing T k)
+member_stands T k v m =
+    let t = own_type T k in
+    let within : v.id.0 < length T.methods = member_within T t v m in
+    let viewed = candidate_viewed T t 0 T.methods v (in_without T t (candidates T (λ m. true) t) (candidates T (λ m. true) t) v m) in
+    in_picked (is_standing T k) 0 (length T.methods) v.id (omega arith) (omega arith) (or_true (same_class (owner T v.id) k) (is_viewed (view T (owner T v.id) t)) viewed)
+  where
+    or_true : (a b : Bool) → b ≡ true → (a || b) ≡ true
+    or_true true b e = refl
+    or_true false b e = e
 
 -- ---- all of them
 
@@ -410,22 +387,23 @@ module _ (T : Table) (k : ClassId) where
       one : (v : MethodView) → In v all × (has_name T x v.id ≡ true) → both (fitting T k (named_only T x all) v) (group_agrees all) ≡ group_agrees all
       one v h = ap (λ a. both a (group_agrees all)) (fitting_named T x k v h.1 all) ∙ upper (fitting T k all) v all h.0
 
-  all_below : (v : MethodView) → In v all → both (fitting T k all v) (all_answers (name_agrees T k) (firsts T)) ≡ all_answers (name_agrees T k) (firsts T)
+  all_below : (v : MethodView) → In v all → both (fitting T k all v) (all_answers (name_agrees T k) (standing T k)) ≡ all_answers (name_agrees T k) (standing T k)
   all_below v m =
-      let r = first_of_name T v.id (member_within T (own_type T k) v m) in
-      let x = method_name_of T r.id in
-      let total = all_answers (name_agrees T k) (firsts T) in
-      let up : both (name_agrees T k r.id) total ≡ total = upper (name_agrees T k) r.id (firsts T) r.listed in
-      let low : both (fitting T k all v) (name_agrees T k r.id) ≡ name_agrees T k r.id =
-      ap (both (fitting T k all v)) (group_told r.id) ∙ ap (λ a. both a (group_agrees (named_only T x all))) (sym (fitting_named T x k v r.named all))
-      ∙ upper (fitting T k (named_only T x all)) v (named_only T x all) (in_named T x v all m r.named) ∙ sym (group_told r.id) in
-      ap (both (fitting T k all v)) (sym up) ∙ sym (both_assoc (fitting T k all v) (name_agrees T k r.id) total) ∙ ap (λ a. both a total) low ∙ up
+      let r = v.id in
+      let x = method_name_of T r in
+      let named = own_bytes x in
+      let total = all_answers (name_agrees T k) (standing T k) in
+      let up : both (name_agrees T k r) total ≡ total = upper (name_agrees T k) r (standing T k) (member_stands T k v m) in
+      let low : both (fitting T k all v) (name_agrees T k r) ≡ name_agrees T k r =
+      ap (both (fitting T k all v)) (group_told r) ∙ ap (λ a. both a (group_agrees (named_only T x all))) (sym (fitting_named T x k v named all))
+      ∙ upper (fitting T k (named_only T x all)) v (named_only T x all) (in_named T x v all m named) ∙ sym (group_told r) in
+      ap (both (fitting T k all v)) (sym up) ∙ sym (both_assoc (fitting T k all v) (name_agrees T k r) total) ∙ ap (λ a. both a total) low ∙ up
 
-  names_told : all_answers (name_agrees T k) (firsts T) ≡ group_agrees all
+  names_told : all_answers (name_agrees T k) (standing T k) ≡ group_agrees all
   names_told =
-      as_low (all_answers (name_agrees T k) (firsts T)) (group_agrees all)
-      (lowest (name_agrees T k) (firsts T) (group_agrees all) (λ r m. ap (λ a. both a (group_agrees all)) (group_told r) ∙ below_all (method_name_of T r)))
-      (lowest (fitting T k all) all (all_answers (name_agrees T k) (firsts T)) all_below)
+      as_low (all_answers (name_agrees T k) (standing T k)) (group_agrees all)
+      (lowest (name_agrees T k) (standing T k) (group_agrees all) (λ r m. ap (λ a. both a (group_agrees all)) (group_told r) ∙ below_all (method_name_of T r)))
+      (lowest (fitting T k all) all (all_answers (name_agrees T k) (standing T k)) all_below)
 
   agreements_told : (ms vs : List MethodView) → all_answers (agreement T k ms) vs ≡ agreements T k ms vs
   agreements_told ms [] = refl
@@ -437,13 +415,13 @@ module _ (T : Table) (k : ClassId) where
       each_both (λ v. no_if (disagrees_some T k all v)) (agreement T k all) all
       ∙ ap (λ a. both a (all_answers (agreement T k all) all)) (each_no (disagrees_some T k all) all) ∙ ap (both (no_if (members_disagree T k all))) (agreements_told all all)
 
-  class_told : all_answers (name_agrees T k) (firsts T) ≡ both (no_if (members_disagree T k (all_members T k))) (agreements T k (all_members T k) (all_members T k))
+  class_told : all_answers (name_agrees T k) (standing T k) ≡ both (no_if (members_disagree T k (all_members T k))) (agreements T k (all_members T k) (all_members T k))
   class_told = names_told ∙ fitting_each
 
 -- ---- few members
 
 meets_none : (T : Table) (k : ClassId) (v : MethodView) → meets T k v v ≡ false
-meets_none T k v = ap (λ b. not b && not (same_class (owner T v.id) k) && not (same_class (owner T v.id) k) && override_equivalent T v v) (is_self T v.id.0)
+meets_none T k v = ap (λ b. not b && not (same_class (owner T v.id) k) && not (same_class (owner T v.id) k) && override_equivalent T v v) (is_self v.id.0)
 
 one_alone : (T : Table) (k : ClassId) (v : MethodView) → all_answers (fitting T k (v ∷ [])) (v ∷ []) ≡ Yes
 unfolding fitting meets_badly
@@ -480,16 +458,16 @@ few_left T t (m ∷ []) lt = first (replaced_by T m (m ∷ []))
     first false = second (view_of_method T t m)
 few_left T t (m ∷ n ∷ ids) lt = absurd (omega arith)
 
-members_by : (T : Table) (k : ClassId) (m : MethodId) (t : Ty) (ids : List MethodId) → t ≡ own_type T k → ids ≡ all_named T (method_name_of T m)
-    → members T (own_type T k) (method_name_of T m) ≡ views_of T t (remaining_ids T (candidate_ids T t ids))
-members_by T k m t ids own e =
+members_by : (T : Table) (k : ClassId) (m : MethodId) (t : Ty) (all : List MethodId) → t ≡ own_type T k → all ≡ candidate_ids T t (all_named T (method_name_of T m))
+    → members T (own_type T k) (method_name_of T m) ≡ views_of T t (remaining_ids T all)
+members_by T k m t all own e =
     members_told T (own_type T k) (method_name_of T m)
-    ∙ ap (λ l. views_of T (own_type T k) (remaining_ids T (candidate_ids T (own_type T k) l))) (sym e) ∙ ap (λ u. views_of T u (remaining_ids T (candidate_ids T u ids))) (sym own)
+    ∙ ap (λ u. views_of T u (remaining_ids T (candidate_ids T u (all_named T (method_name_of T m))))) (sym own) ∙ ap (λ l. views_of T t (remaining_ids T l)) (sym e)
 
-pub few_agree : (T : Table) (k : ClassId) (m : MethodId) (t : Ty) (ids : List MethodId) → t ≡ own_type T k → ids ≡ all_named T (method_name_of T m) → length (candidate_ids T t ids) < 2 → Yes ≡ name_agrees T k m
+pub few_agree : (T : Table) (k : ClassId) (m : MethodId) (t : Ty) (all : List MethodId) → t ≡ own_type T k → all ≡ candidate_ids T t (all_named T (method_name_of T m)) → length all < 2 → Yes ≡ name_agrees T k m
 unfolding name_agrees
-few_agree T k m t ids own e lt =
-    sym (ap (λ ms. all_answers (fitting T k ms) ms) (members_by T k m t ids own e) ∙ few_views T k (views_of T t (remaining_ids T (candidate_ids T t ids))) (few_left T t (candidate_ids T t ids) lt))
+few_agree T k m t all own e lt =
+    sym (ap (λ ms. all_answers (fitting T k ms) ms) (members_by T k m t all own e) ∙ few_views T k (views_of T t (remaining_ids T all)) (few_left T t all lt))
 
 -- ---- no member that is inherited
 
@@ -604,22 +582,98 @@ module _ (T : Table) (k : ClassId) where
       by false true f e out = let g : replaced_by T m all ≡ true = one_replaces m (own_ids T k all) all (λ w h. own_of all w h) f in cc
       by false false f e out = e
 
-pub covered_agree : (T : Table) (k : ClassId) (m : MethodId) (t : Ty) (ids all : List MethodId) → t ≡ own_type T k → ids ≡ all_named T (method_name_of T m) → all ≡ candidate_ids T t ids
+pub covered_agree : (T : Table) (k : ClassId) (m : MethodId) (t : Ty) (all : List MethodId) → t ≡ own_type T k → all ≡ candidate_ids T t (all_named T (method_name_of T m))
     → are_covered T k all ≡ true → Yes ≡ name_agrees T k m
 unfolding name_agrees
-covered_agree T k m t ids all own e is covered =
-    let left = views_of T t (remaining_ids T (candidate_ids T t ids)) in
-    let holds : are_covered T k (candidate_ids T t ids) ≡ true = ap (are_covered T k) (sym is) ∙ covered in
-    sym (ap (λ ms. all_answers (fitting T k ms) ms) (members_by T k m t ids own e)
-    ∙ all_own T k left left (λ v h. left_own T k (candidate_ids T t ids) v.id holds (viewed_of T k t (remaining_ids T (candidate_ids T t ids)) v h)))
+covered_agree T k m t all own e covered =
+    let left = views_of T t (remaining_ids T all) in
+    sym (ap (λ ms. all_answers (fitting T k ms) ms) (members_by T k m t all own e)
+    ∙ all_own T k left left (λ v h. left_own T k all v.id covered (viewed_of T k t (remaining_ids T all) v h)))
 
 pub ruleset agree_early = (few_agree, covered_agree)
 
-pub name_told : (T : Table) (k : ClassId) (m : MethodId) (t : Ty) (ids : List MethodId) (vs : List MethodView) (r : Answer)
-    → t ≡ own_type T k → ids ≡ all_named T (method_name_of T m) → vs ≡ views_of T t (remaining_ids T (candidate_ids T t ids)) → r ≡ all_from (fitting T k vs) Yes vs → r ≡ name_agrees T k m
+pub name_told : (T : Table) (k : ClassId) (m : MethodId) (t : Ty) (all : List MethodId) (vs : List MethodView) (r : Answer)
+    → t ≡ own_type T k → all ≡ candidate_ids T t (all_named T (method_name_of T m)) → vs ≡ views_of T t (remaining_ids T all) → r ≡ all_from (fitting T k vs) Yes vs → r ≡ name_agrees T k m
 unfolding name_agrees
-name_told T k m t ids vs r own e f g = g ∙ all_told (fitting T k vs) vs ∙ ap (λ ms. all_answers (fitting T k ms) ms) (f ∙ sym (members_by T k m t ids own e))
+name_told T k m t all vs r own e f g = g ∙ all_told (fitting T k vs) vs ∙ ap (λ ms. all_answers (fitting T k ms) ms) (f ∙ sym (members_by T k m t all own e))
 
 -- all of them, joined one after the other
-pub class_joined : (T : Table) (k : ClassId) (ids : List MethodId) (r : Answer) → ids ≡ firsts T → r ≡ all_from (name_agrees T k) Yes ids → r ≡ both (no_if (members_disagree T k (all_members T k))) (agreements T k (all_members T k) (all_members T k))
+pub class_joined : (T : Table) (k : ClassId) (ids : List MethodId) (r : Answer) → ids ≡ standing T k → r ≡ all_from (name_agrees T k) Yes ids → r ≡ both (no_if (members_disagree T k (all_members T k))) (agreements T k (all_members T k) (all_members T k))
 class_joined T k ids r e f = f ∙ all_told (name_agrees T k) ids ∙ ap (all_answers (name_agrees T k)) e ∙ class_told T k
+
+-- ---- the methods of a name, among all of the class and of those above it
+
+module _ (T : Table) (k : ClassId) (x : List ℕ) where
+  no_candidate : (m : MethodId) → stands_in T k m ≡ false → if_candidate T (own_type T k) m ≡ []
+  no_candidate m out =
+      ap (λ b. cond b (m ∷ []) []) (and_false (is_candidate T (own_type T k) m) (has_method T (own_type T k) m) (by (method_owner_of T m) out))
+    where
+      second : (a b : Bool) → (a || b) ≡ false → b ≡ false
+      second true b e = cc
+      second false b e = e
+
+      by : (o : Option ClassId) → (same_class (or_object o) k || is_viewed (view T (or_object o) (own_type T k))) ≡ false → is_viewed (view_of_owner T (own_type T k) o) ≡ false
+      by None e = refl
+      by (Some l) e = second (same_class l k) (is_viewed (view T l (own_type T k))) e
+
+  few_from : (i n : ℕ) → candidate_ids T (own_type T k) (with_name T x (ids_of (picked (is_standing T k) i n))) ≡ candidate_ids T (own_type T k) (named_from T x i n)
+  few_from i zero = refl
+  few_from i (suc n) = by (is_standing T k i) (has_name T x (record { 0 = i })) refl refl (few_from (suc i) n)
+    where
+      by : (s b : Bool) → is_standing T k i ≡ s → has_name T x (record { 0 = i }) ≡ b
+          → candidate_ids T (own_type T k) (with_name T x (ids_of (picked (is_standing T k) (suc i) n))) ≡ candidate_ids T (own_type T k) (named_from T x (suc i) n)
+          → candidate_ids T (own_type T k) (with_name T x (ids_of (cond s (i ∷ []) [] ++ picked (is_standing T k) (suc i) n))) ≡ candidate_ids T (own_type T k) (cond b (record { 0 = i } ∷ []) [] ++ named_from T x (suc i) n)
+      by true true e f r =
+          ap (λ c. candidate_ids T (own_type T k) (cond c (record { 0 = i } ∷ []) [] ++ with_name T x (ids_of (picked (is_standing T k) (suc i) n)))) f
+          ∙ ap (λ l. if_candidate T (own_type T k) (record { 0 = i }) ++ l) r
+      by true false e f r = ap (λ c. candidate_ids T (own_type T k) (cond c (record { 0 = i } ∷ []) [] ++ with_name T x (ids_of (picked (is_standing T k) (suc i) n)))) f ∙ r
+      by false true e f r = r ∙ ap (λ l. l ++ candidate_ids T (own_type T k) (named_from T x (suc i) n)) (sym (no_candidate (record { 0 = i }) e))
+      by false false e f r = r
+
+pub few_told : (T : Table) (k : ClassId) (x : List ℕ) (t : Ty) (all few ids : List MethodId) → t ≡ own_type T k → all ≡ standing T k → few ≡ with_name T x all → ids ≡ candidate_ids T t few → ids ≡ candidate_ids T t (all_named T x)
+few_told T k x t all few ids own e f g =
+    g ∙ ap (λ u. candidate_ids T u few) own ∙ ap (λ l. candidate_ids T (own_type T k) l) (f ∙ ap (with_name T x) e) ∙ few_from T k x 0 (length T.methods)
+    ∙ ap (λ u. candidate_ids T u (all_named T x)) (sym own)
+
+-- ---- each name once
+
+module _ (T : Table) (k : ClassId) (index : MethodIndex) (known : IsMethodIndex T index) (m : MethodId) (answer : Answer) where
+  abbrev group : ℕ → Answer
+  group g = ids_agree T k (group_at index.groups (Some g))
+
+  by_ids : name_agrees T k m ≡ ids_agree T k (all_named T (method_name_of T m))
+  unfolding name_agrees ids_agree
+  by_ids = ap (λ ms. all_answers (fitting T k ms) ms) (members_told T (own_type T k) (method_name_of T m))
+
+  by_group : (g : ℕ) → named (method_name_of T m) index.names ≡ Some g → name_agrees T k m ≡ group g
+  by_group g e = by_ids ∙ ap (ids_agree T k) (sym (known.ids (method_name_of T m)) ∙ ap (group_at index.groups) e)
+
+  pub seen_before : (seen : ℕ → Bool) (o : Option ℕ) (has : Bool) → HasSeen T k index.groups answer seen → o ≡ named (method_name_of T m) index.names → has ≡ is_marked seen o → has ≡ true → answer ≡ both answer (name_agrees T k m)
+  unfolding HasSeen
+  seen_before seen None has h e is there = cc
+  seen_before seen (Some g) has h e is there = sym (h g (sym is ∙ there)) ∙ ap (both answer) (sym (by_group g (sym e)))
+
+  kept : (x : Answer) → both answer x ≡ answer → both (both answer (name_agrees T k m)) x ≡ both answer (name_agrees T k m)
+  kept x e =
+      both_assoc answer (name_agrees T k m) x ∙ ap (both answer) (both_comm (name_agrees T k m) x) ∙ sym (both_assoc answer x (name_agrees T k m)) ∙ ap (λ a. both a (name_agrees T k m)) e
+
+  twice : both (both answer (name_agrees T k m)) (name_agrees T k m) ≡ both answer (name_agrees T k m)
+  twice = both_assoc answer (name_agrees T k m) (name_agrees T k m) ∙ ap (both answer) (both_self (name_agrees T k m))
+
+  -- the answer goes on where no group is marked but that of m
+  pub seen_more : (old new : ℕ → Bool) (o : Option ℕ) (r : Answer) → HasSeen T k index.groups answer old → o ≡ named (method_name_of T m) index.names → r ≡ both answer (name_agrees T k m)
+      → ((g : ℕ) → new g ≡ marked_with old o g) → HasSeen T k index.groups r new
+  unfolding HasSeen
+  seen_more old new o r h e is more g there = subst (λ a. both a (group g) ≡ a) (sym is) (by o e (sym (more g) ∙ there))
+    where
+      at : (j : ℕ) (b : Bool) → nat_eq j g ≡ b → Some j ≡ named (method_name_of T m) index.names → cond b true (old g) ≡ true → both (both answer (name_agrees T k m)) (group g) ≡ both answer (name_agrees T k m)
+      at j true f e t = ap (both (both answer (name_agrees T k m))) (sym (by_group g (sym e ∙ ap Some (number j g f)))) ∙ twice
+      at j false f e t = kept (group g) (h g t)
+
+      by : (o : Option ℕ) → o ≡ named (method_name_of T m) index.names → marked_with old o g ≡ true → both (both answer (name_agrees T k m)) (group g) ≡ both answer (name_agrees T k m)
+      by None e t = kept (group g) (h g t)
+      by (Some j) e t = at j (nat_eq j g) refl e t
+
+pub none_seen : (T : Table) (k : ClassId) (groups : List (List MethodId)) (answer : Answer) (seen : ℕ → Bool) → ((g : ℕ) → seen g ≡ false) → HasSeen T k groups answer seen
+unfolding HasSeen
+none_seen T k groups answer seen none g there = let e = none g in cc

@@ -1,6 +1,7 @@
 -- The least break of a class.
 use Rattle.std.proofs.lemmas.Bool.Decides.{nat_tests}
-use Rattle.std.proofs.Common.{◌≡◌, ℕ, zero, suc, ◌+◌, ◌-◌, ◌<◌, arith, Bool, true, false, ◌||◌, cond, Option, Some, None, List, [], ◌∷◌, ◌++◌, length, drop, if◌then◌else◌, add-one, refl, sym, ap, ◌∙◌}
+use Rattle.std.proofs.Common.{◌≡◌, ℕ, suc, ◌+◌, arith, Bool, true, false, not, ◌&&◌, ◌||◌, cond, Option, Some, None, List, [], ◌∷◌, ◌++◌, length, if◌then◌else◌, add-one, refl, sym, ap, ◌∙◌}
+use Rattle.std.specs.List.{list_any}
 use Rattle.jc_rules.specs.declared.rule.Place.{Place}
 use Rattle.jc_rules.specs.declared.rule.Refusal.{Refusal}
 use Rattle.jc_types.specs.declared.declarations.MethodDecl.{MethodDecl}
@@ -12,9 +13,13 @@ use Rattle.jc_types.proofs.Least.{before_trans}
 use Rattle.jc_judge.specs.declared.question.Answer.{Answer}
 use Rattle.jc_judge.specs.declared.question.Answer.TheVariants.{Yes, No, Deep}
 use Rattle.jc_judge.specs.Trees.{both}
-use Rattle.jc_header_rules.specs.Inheriting.{agreement_broken, is_left_open, leaves_open}
+use Rattle.jc_judge.specs.Views.{view}
+use Rattle.jc_overriding.specs.Overriding.{is_above, is_inheritable, is_instance, is_viewed, owner, same_class, select, is_abstract}
+use Rattle.jc_overriding.specs.Viewing.{own_type}
+use Rattle.jc_header_rules.specs.Inheriting.{agreement_broken, is_left_open, is_member_above, is_none, leaves_open}
 use Rattle.jc_header_rules.specs.Places.{broken_if}
-use Rattle.jc_class_rules.specs.Grouping.{firsts_from, is_first, no_if}
+use Rattle.jc_method_rules.specs.Owned.{ids_of, is_standing, picked, standing, stands_in}
+use Rattle.jc_class_rules.specs.Grouping.{no_if}
 
 -- a break that doesn't come first changes nothing
 later : (found : Option Refusal) (b c : Refusal) → before c b ≡ false → sooner (sooner found (Some b)) (Some c) ≡ sooner found (Some b)
@@ -40,33 +45,33 @@ agreement_least found true Yes place = refl
 agreement_least found true No place = sym (later found (at 511 place) (at 511 place) (again place))
 agreement_least found true Deep place = sym (later found (at 511 place) (at 512 place) (behind place))
 
--- one method further
-split : (i : ℕ) (ds : List MethodDecl) → i < length ds → (d : MethodDecl) × (drop i ds ≡ d ∷ drop (suc i) ds)
-split i [] lt = absurd (omega arith)
-split zero (d ∷ ds) lt = (d, refl)
-split (suc i) (d ∷ ds) lt = split i ds (omega arith)
+-- ---- methods of classes that aren't above are left open by none
 
-open_turn : (T : Table) (k : ClassId) (i : ℕ) (ds : List MethodDecl) → i < length ds → leaves_open T k i (drop i ds) ≡ (is_left_open T k (record { 0 = i }) || leaves_open T k (i + 1) (drop (i + 1) ds))
-open_turn T k i ds lt =
-    ap (leaves_open T k i) (split i ds lt).1 ∙ ap (λ n. is_left_open T k (record { 0 = i }) || leaves_open T k (i + 1) (drop n ds)) (sym (add-one i))
+none_of : (a b : Bool) → (a || b) ≡ false → (a ≡ false) × (b ≡ false)
+none_of true b e = cc
+none_of false b e = (refl, e)
 
-pub open_further : (T : Table) (k : ClassId) (i : ℕ) (ds : List MethodDecl) (whole : Bool) → i < length ds → false ≡ is_left_open T k (record { 0 = i }) → leaves_open T k i (drop i ds) ≡ whole → leaves_open T k (i + 1) (drop (i + 1) ds) ≡ whole
-open_further T k i ds whole lt e f = ap (λ b. b || leaves_open T k (i + 1) (drop (i + 1) ds)) e ∙ sym (open_turn T k i ds lt) ∙ f
+and_false : (b : Bool) → (b && false) ≡ false
+and_false true = refl
+and_false false = refl
 
-pub open_here : (T : Table) (k : ClassId) (i : ℕ) (ds : List MethodDecl) (whole : Bool) → i < length ds → true ≡ is_left_open T k (record { 0 = i }) → leaves_open T k i (drop i ds) ≡ whole → true ≡ whole
-open_here T k i ds whole lt e f = ap (λ b. b || leaves_open T k (i + 1) (drop (i + 1) ds)) e ∙ sym (open_turn T k i ds lt) ∙ f
+module _ (T : Table) (k : ClassId) where
+  not_open : (m : MethodId) → stands_in T k m ≡ false → is_left_open T k m ≡ false
+  not_open m out =
+      let apart = none_of (same_class (owner T m) k) (is_viewed (view T (owner T m) (own_type T k))) out in
+      let not_above : is_member_above T k m ≡ false =
+      ap (λ b. b || (is_above T k (owner T m) && is_inheritable T k m)) apart.0 ∙ ap (λ b. not (same_class k (owner T m)) && b && is_inheritable T k m) apart.1
+      ∙ ap (λ b. b && is_inheritable T k m) (and_false (not (same_class k (owner T m)))) in
+      ap (λ b. is_instance T m && is_abstract T m && b && is_none (select T k m)) not_above ∙ ap (λ b. b && is_none (select T k m)) (and_false (is_instance T m && is_abstract T m))
 
--- one name further
-assoc : (xs ys zs : List MethodId) → (xs ++ ys) ++ zs ≡ xs ++ (ys ++ zs)
-assoc [] ys zs = refl
-assoc (x ∷ xs) ys zs = ap (λ l. x ∷ l) (assoc xs ys zs)
+  open_from : (i : ℕ) (ds : List MethodDecl) → list_any (is_left_open T k) (ids_of (picked (is_standing T k) i (length ds))) ≡ leaves_open T k i ds
+  open_from i [] = refl
+  open_from i (d ∷ ds) = by (is_standing T k i) refl (open_from (suc i) ds ∙ ap (λ j. leaves_open T k j ds) (sym (add-one i)))
+    where
+      by : (b : Bool) → is_standing T k i ≡ b → list_any (is_left_open T k) (ids_of (picked (is_standing T k) (suc i) (length ds))) ≡ leaves_open T k (i + 1) ds
+          → list_any (is_left_open T k) (ids_of (cond b (i ∷ []) [] ++ picked (is_standing T k) (suc i) (length ds))) ≡ (is_left_open T k (record { 0 = i }) || leaves_open T k (i + 1) ds)
+      by true e r = ap (λ b. is_left_open T k (record { 0 = i }) || b) r
+      by false e r = r ∙ ap (λ b. b || leaves_open T k (i + 1) ds) (sym (not_open (record { 0 = i }) e))
 
-firsts_turn : (T : Table) (i n : ℕ) → i < n → firsts_from T i (n - i) ≡ cond (is_first T (record { 0 = i })) (record { 0 = i } ∷ []) [] ++ firsts_from T (i + 1) (n - (i + 1))
-firsts_turn T i n lt =
-    let count : n - i ≡ suc (n - (i + 1)) = omega arith in
-    ap (firsts_from T i) count ∙ ap (λ j. cond (is_first T (record { 0 = i })) (record { 0 = i } ∷ []) [] ++ firsts_from T j (n - (i + 1))) (sym (add-one i))
-
-pub first_on : (T : Table) (i n : ℕ) (out more whole : List MethodId) → i < n → more ≡ out ++ cond (is_first T (record { 0 = i })) (record { 0 = i } ∷ []) [] → out ++ firsts_from T i (n - i) ≡ whole → more ++ firsts_from T (i + 1) (n - (i + 1)) ≡ whole
-first_on T i n out more whole lt e f =
-    ap (λ l. l ++ firsts_from T (i + 1) (n - (i + 1))) e ∙ assoc out (cond (is_first T (record { 0 = i })) (record { 0 = i } ∷ []) []) (firsts_from T (i + 1) (n - (i + 1)))
-    ∙ ap (λ l. out ++ l) (sym (firsts_turn T i n lt)) ∙ f
+pub open_told : (T : Table) (k : ClassId) (all : List MethodId) (r : Bool) → all ≡ standing T k → r ≡ list_any (is_left_open T k) all → r ≡ leaves_open T k 0 T.methods
+open_told T k all r e f = f ∙ ap (list_any (is_left_open T k)) e ∙ open_from T k 0 T.methods

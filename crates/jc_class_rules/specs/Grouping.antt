@@ -1,5 +1,5 @@
 -- The members of a class, name by name: whether they agree (JLS 8.4.8.4, 9.4.1).
-use Rattle.std.specs.Prelude.{ℕ, zero, suc, ◌==◌, Bool, true, false, cond, ◌&&◌, ◌||◌, List, [], ◌∷◌, ◌++◌, length}
+use Rattle.std.specs.Prelude.{◌≡◌, ℕ, Bool, true, false, cond, ◌&&◌, ◌||◌, List, [], ◌∷◌, ◌++◌, Option, Some, None, nat_eq}
 use Rattle.std.specs.List.{list_any}
 use Rattle.jc_types.specs.declared.ids.ClassId.{ClassId}
 use Rattle.jc_types.specs.declared.ids.MethodId.{MethodId}
@@ -9,12 +9,13 @@ use Rattle.jc_judge.specs.declared.question.Answer.{Answer}
 use Rattle.jc_judge.specs.declared.question.Answer.TheVariants.{Yes, No}
 use Rattle.jc_judge.specs.Trees.{both, either}
 use Rattle.jc_overriding.specs.declared.view.MethodView.{MethodView}
-use Rattle.jc_overriding.specs.Overriding.{members, owner, same_class}
+use Rattle.jc_overriding.specs.Overriding.{has_name, members, owner, same_class}
 use Rattle.jc_overriding.specs.Viewing.{own_type}
 use Rattle.jc_header_rules.specs.Inheriting.{agreement, disagrees, meets, stands_for_all, with_body}
 use Rattle.jc_header_rules.specs.Results.{result_answer}
 use Rattle.jc_members.specs.Below.{replaces}
-use Rattle.jc_members.specs.Named.{all_named}
+use Rattle.jc_members.specs.Listing.{candidate_ids, remaining_ids, views_of}
+use Rattle.jc_members.specs.Named.{group_at}
 
 -- the answer where all of these hold
 abbrev pub all_answers : {X : Type 0} → (X → Answer) → List X → Answer
@@ -61,21 +62,28 @@ fitting T k all v = both (no_if (disagrees_some T k all v)) (agreement T k all v
 unfoldable pub name_agrees : Table → ClassId → MethodId → Answer
 name_agrees T k m = all_answers (fitting T k (members T (own_type T k) (method_name_of T m))) (members T (own_type T k) (method_name_of T m))
 
-abbrev pub first_is : MethodId → List MethodId → Bool
-first_is m [] = false
-first_is m (n ∷ ns) = n.0 == m.0
+-- of these methods those of a name
+abbrev pub with_name : Table → List ℕ → List MethodId → List MethodId
+with_name T name [] = []
+with_name T name (m ∷ ms) = cond (has_name T name m) (m ∷ []) [] ++ with_name T name ms
 
--- the first method of its name
-abbrev pub is_first : Table → MethodId → Bool
-is_first T m = first_is m (all_named T (method_name_of T m))
+-- whether the members agree that these methods of one name are in a class
+unfoldable pub ids_agree : Table → ClassId → List MethodId → Answer
+ids_agree T k ids =
+    all_answers (fitting T k (views_of T (own_type T k) (remaining_ids T (candidate_ids T (own_type T k) ids)))) (views_of T (own_type T k) (remaining_ids T (candidate_ids T (own_type T k) ids)))
 
--- of n methods from number i on those that are the first of their names
-abbrev pub firsts_from : Table → ℕ → ℕ → List MethodId
-firsts_from T i zero = []
-firsts_from T i (suc n) = cond (is_first T (record { 0 = i })) (record { 0 = i } ∷ []) [] ++ firsts_from T (suc i) n
+-- the answer has that of each group of methods that was seen
+unfoldable pub HasSeen : Table → ClassId → List (List MethodId) → Answer → (ℕ → Bool) → Type 0
+HasSeen T k groups answer seen = (g : ℕ) → seen g ≡ true → both answer (ids_agree T k (group_at groups (Some g))) ≡ answer
 
-abbrev pub firsts : Table → List MethodId
-firsts T = firsts_from T 0 (length T.methods)
+abbrev pub is_marked : (ℕ → Bool) → Option ℕ → Bool
+is_marked seen None = false
+is_marked seen (Some g) = seen g
+
+-- with a group more
+abbrev pub marked_with : (ℕ → Bool) → Option ℕ → ℕ → Bool
+marked_with seen None y = seen y
+marked_with seen (Some g) y = cond (nat_eq g y) true (seen y)
 
 -- ---- names whose inherited methods are all overridden or hidden
 

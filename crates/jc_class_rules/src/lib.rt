@@ -12,5 +12,5 @@ mod meeting;
 
 pub use classes::first_classes_break;
 pub use climbing::has_conflict;
-pub use grouping::{firsts, names_agree};
+pub use grouping::names_agree;
 pub use leaving::leaves_open;

@@ -1,23 +1,16 @@
 //! Inherited methods beside one another (JLS 8.4.8.4, 9.4.1): which of them meet, and whether their bodies, access and thrown types agree.
 ghost use Rattle.std.specs.Prelude.{◌≡◌, IfOk};
 ghost use Rattle.std.specs.List.{list_any};
-ghost use Rattle.jc_header_rules.specs.Inheriting.{bodies_meet, disagrees, fits_badly, is_abstract, meets, meets_body, with_body};
+ghost use Rattle.jc_header_rules.specs.Inheriting.{bodies_meet, disagrees, fits_badly, meets, meets_body, with_body};
 ghost use Rattle.jc_class_rules.specs.Grouping.{disagrees_some, meets_badly, meets_with_body};
 
-use jc_members::{MethodView, access_of, is_static, override_equivalent, owner, same_class};
+use jc_members::{
+    MethodView, access_of, is_abstract, is_static, override_equivalent, owner, same_class,
+};
 use jc_method_rules::{is_weaker, thrown_fits};
 use jc_rules::WantOfMemory;
-use jc_types::{ClassId, MethodId, Table, method_modifiers};
+use jc_types::{ClassId, Table};
 use std::alloc::Global;
-
-pub fn is_abstract(table: &Table, m: MethodId) -> bool
-    ensures { result ≡ is_abstract table.now m }
-{
-    match method_modifiers(table, m) {
-        Some(modifiers) => modifiers.is_abstract,
-        None => false,
-    }
-}
 
 pub fn with_body(table: &Table, v: &MethodView) -> bool
     ensures { result ≡ with_body table.now v.now }

@@ -10,7 +10,7 @@ use Rattle.jc_types.specs.declared.form.Ty.{Ty}
 use Rattle.jc_types.specs.declared.ids.ClassId.{ClassId}
 use Rattle.jc_types.specs.declared.ids.MethodId.{MethodId}
 use Rattle.jc_types.specs.declared.table.Table.{Table}
-use Rattle.jc_types.specs.Accessors.{has_body, method_name_of, method_place_of, params_of}
+use Rattle.jc_types.specs.Accessors.{method_name_of, method_place_of, params_of}
 use Rattle.jc_overriding.specs.declared.view.MethodView.{MethodView}
 use Rattle.jc_overriding.specs.Overriding.{candidates, hides, overrides, owner, remaining, same_class}
 use Rattle.jc_overriding.specs.Signatures.{same_all, subsignature}

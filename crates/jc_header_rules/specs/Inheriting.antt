@@ -5,12 +5,11 @@ use Rattle.jc_rules.specs.declared.rule.Place.{Place}
 use Rattle.jc_rules.specs.declared.rule.Refusal.{Refusal}
 use Rattle.jc_types.specs.declared.declarations.ClassDecl.{ClassDecl}
 use Rattle.jc_types.specs.declared.declarations.MethodDecl.{MethodDecl}
-use Rattle.jc_types.specs.declared.declarations.Modifiers.{Modifiers}
 use Rattle.jc_types.specs.declared.form.Ty.{Ty}
 use Rattle.jc_types.specs.declared.ids.ClassId.{ClassId}
 use Rattle.jc_types.specs.declared.ids.MethodId.{MethodId}
 use Rattle.jc_types.specs.declared.table.Table.{Table}
-use Rattle.jc_types.specs.Accessors.{class_count, class_named, has_body, is_interface, method_modifiers_of, vars_of}
+use Rattle.jc_types.specs.Accessors.{class_count, class_named, is_interface, vars_of}
 use Rattle.jc_types.specs.Sameness.{same}
 use Rattle.jc_judge.specs.declared.question.Answer.{Answer}
 use Rattle.jc_judge.specs.declared.question.Answer.TheVariants.{Yes, No, Deep}
@@ -18,7 +17,7 @@ use Rattle.jc_judge.specs.Kinds.{class_of}
 use Rattle.jc_judge.specs.Trees.{both, either}
 use Rattle.jc_judge.specs.Views.{is_class, supers}
 use Rattle.jc_overriding.specs.declared.view.MethodView.{MethodView}
-use Rattle.jc_overriding.specs.Overriding.{access_of, candidates, is_above, is_inheritable, is_instance, overrides, owner, remaining, same_class, select}
+use Rattle.jc_overriding.specs.Overriding.{access_of, candidates, is_above, is_abstract, is_inheritable, is_instance, overrides, owner, remaining, same_class, select}
 use Rattle.jc_overriding.specs.Signatures.{override_equivalent, subsignature}
 use Rattle.jc_overriding.specs.Viewing.{is_static, own_type}
 use Rattle.jc_header_rules.specs.Places.{broken_if, of_each}
@@ -59,13 +58,6 @@ has_conflict ts = list_any (λ s. list_any (conflicts s) ts) ts
 
 abbrev pub all_members : Table → ClassId → List MethodView
 all_members T k = remaining T (candidates T (λ m. true) (own_type T k))
-
-abbrev pub abstract_in : Option Modifiers → Bool
-abstract_in (Some m) = m.is_abstract
-abstract_in None = false
-
-abbrev pub is_abstract : Table → MethodId → Bool
-is_abstract T m = abstract_in (method_modifiers_of T m)
 
 -- ---- 509: a class that isn't abstract has a body for each abstract method (JLS 8.1.1.1)
 

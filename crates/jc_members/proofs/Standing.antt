@@ -6,7 +6,7 @@ use Rattle.jc_types.specs.declared.ids.MethodId.{MethodId}
 use Rattle.jc_types.specs.declared.table.Table.{Table}
 use Rattle.jc_types.specs.Accessors.{method_name_of, methods_of}
 use Rattle.jc_overriding.specs.declared.view.MethodView.{MethodView}
-use Rattle.jc_overriding.specs.Overriding.{declared_for, in_superclass, or_further, standing_within, superclass, is_inheritable, is_instance, is_member_of, owner, stands_for, subsignature_of}
+use Rattle.jc_overriding.specs.Overriding.{standing_in, in_superclass, or_further, standing_within, superclass, is_inheritable, is_instance, is_member_of, owner, stands_for, subsignature_of}
 use Rattle.jc_overriding.specs.Signatures.{is_erasure, same_signature}
 use Rattle.jc_overriding.specs.Viewing.{class_view, own_type}
 use Rattle.jc_members.proofs.Remaining.{id_of_view}
@@ -32,7 +32,7 @@ not_standing T k n m e f =
     ∙ and_false (is_instance T n && is_instance T m && is_member_of T k n && is_inheritable T (owner T n) m)
 
 -- one class further up
-pub stands_up : (T : Table) (k : ClassId) (m : MethodId) (n : ℕ) (c up : ClassId) → 0 < n → declared_for T k m (methods_of T c) ≡ None → superclass T c ≡ Some up → standing_within T (n - 1) k m up ≡ standing_within T n k m c
+pub stands_up : (T : Table) (k : ClassId) (m : MethodId) (n : ℕ) (c up : ClassId) → 0 < n → standing_in T k m (methods_of T c) ≡ None → superclass T c ≡ Some up → standing_within T (n - 1) k m up ≡ standing_within T n k m c
 unfolding standing_within
 stands_up T k m zero c up lt e f = absurd (omega arith)
 stands_up T k m (suc n) c up lt e f =

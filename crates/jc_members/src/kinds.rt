@@ -1,6 +1,6 @@
 //! What the table says of a method: whether it is one, who may inherit it, and which class declares it.
 ghost use Rattle.std.specs.Prelude.{◌≡◌, nat_lt};
-ghost use Rattle.jc_overriding.specs.Overriding.{access_of, is_instance, is_inheritable, is_method, is_open_to, kind_in, owner, same_class};
+ghost use Rattle.jc_overriding.specs.Overriding.{access_of, is_abstract, is_instance, is_inheritable, is_method, is_open_to, kind_in, owner, same_class};
 ghost use Rattle.jc_overriding.specs.Viewing.{is_static};
 
 use jc_types::{
@@ -34,6 +34,16 @@ pub fn is_instance(table: &Table, m: MethodId) -> bool
     ensures { result ≡ is_instance table.now m }
 {
     is_method(table, m) && !is_static(table, m)
+}
+
+/// Whether a method has the modifier `abstract`, or stands in an interface (JLS 8.4.3.1, 9.4).
+pub fn is_abstract(table: &Table, m: MethodId) -> bool
+    ensures { result ≡ is_abstract table.now m }
+{
+    match method_modifiers(table, m) {
+        Some(modifiers) => modifiers.is_abstract,
+        None => false,
+    }
 }
 
 pub fn access_of(table: &Table, m: MethodId) -> Access

@@ -19,7 +19,8 @@ pub use belonging::{as_super, candidate_ids, members, remaining_ids, views_of};
 pub use erasing::plain;
 pub use jc_overriding::MethodView;
 pub use kinds::{
-    access_of, is_inheritable, is_instance, is_method, is_open_to, is_static, owner, same_class,
+    access_of, is_abstract, is_inheritable, is_instance, is_method, is_open_to, is_static, owner,
+    same_class,
 };
 pub use named::{MethodIndex, method_index};
 pub use overriding::{hides, overrides, replaces, signature_below, subsignature_of};

@@ -1,17 +1,17 @@
 //! The body that a class has for a method (JLS 15.12.4.4).
 ghost use Rattle.std.specs.Prelude.{◌≡◌, ◌+◌, IfOk};
 ghost use Rattle.std.specs.Option.{option_copied};
-ghost use Rattle.jc_overriding.specs.Overriding.{declared_for, if_body, is_member_of, select, standing_within, stands_for, subsignature_of, superclass};
+ghost use Rattle.jc_overriding.specs.Overriding.{body_for, declared_for, if_body, is_member_of, select, standing_in, standing_within, stands_for, subsignature_of, superclass};
 ghost use Rattle.jc_overriding.specs.Viewing.{class_view, own_type, view_of_method};
 ghost use Rattle.jc_members.specs.Supertypes.{IsSupertypes};
 
-use crate::kinds::{is_inheritable, is_instance, owner, same_class};
+use crate::kinds::{is_abstract, is_inheritable, is_instance, owner, same_class};
 use crate::overriding::subsignature_of;
 use crate::supertypes::{Supertypes, method_in, own_supertypes};
 use jc_overriding::MethodView;
 use jc_rules::WantOfMemory;
 use jc_sub::class_of;
-use jc_types::{ClassId, MethodId, Table, class_methods, class_supers, has_body, method_name};
+use jc_types::{ClassId, MethodId, Table, class_methods, class_supers, method_name};
 use std::alloc::Global;
 
 fn superclass(table: &Table, k: ClassId) -> Option<ClassId>
@@ -99,7 +99,53 @@ fn declared_for(
     Ok(None)
 }
 
-// The first method that stands for m, from class `from` upwards.
+// The first of these methods with a body that stands for m.
+fn body_for(
+    alloc: Global,
+    table: &Table,
+    above: &Supertypes,
+    k: ClassId,
+    m: MethodId,
+    wanted: Option<&MethodView>,
+    ids: &[MethodId],
+) -> Result<Option<MethodId>, WantOfMemory>
+    requires known { IsSupertypes table.now above.now }
+    requires own { above.now.of ≡ own_type table.now k }
+    requires is { option_copied wanted ≡ class_view table.now k m }
+    ensures { IfOk result (λ r. r ≡ body_for table.now k m ids.now) }
+{
+    let mut rest = ids;
+    while let [n, more @ ..] = rest {
+        if !is_abstract(table, *n) && stands_for(alloc, table, above, k, *n, m, wanted)? {
+            return Ok(Some(*n));
+        }
+        rest = more;
+    }
+    Ok(None)
+}
+
+// The one of these methods of a class that stands for m.
+fn standing_in(
+    alloc: Global,
+    table: &Table,
+    above: &Supertypes,
+    k: ClassId,
+    m: MethodId,
+    wanted: Option<&MethodView>,
+    ids: &[MethodId],
+) -> Result<Option<MethodId>, WantOfMemory>
+    requires known { IsSupertypes table.now above.now }
+    requires own { above.now.of ≡ own_type table.now k }
+    requires is { option_copied wanted ≡ class_view table.now k m }
+    ensures { IfOk result (λ r. r ≡ standing_in table.now k m ids.now) }
+{
+    match body_for(alloc, table, above, k, m, wanted, ids)? {
+        Some(n) => Ok(Some(n)),
+        None => declared_for(alloc, table, above, k, m, wanted, ids),
+    }
+}
+
+// The method that stands for m in the nearest class that has one, from class `from` upwards.
 #[tactic(auto, unfolding(jc_overriding::specs::Overriding::standing_within))]
 fn standing_within(
     alloc: Global,
@@ -121,7 +167,7 @@ fn standing_within(
     while left > 0 {
         left -= 1;
         let ids = class_methods(table, at);
-        match declared_for(alloc, table, above, k, m, wanted, ids)? {
+        match standing_in(alloc, table, above, k, m, wanted, ids)? {
             Some(n) => return Ok(Some(n)),
             None => match superclass(table, at) {
                 None => return Ok(None),
@@ -137,7 +183,7 @@ fn if_body(table: &Table, n: Option<MethodId>) -> Option<MethodId>
 {
     match n {
         None => None,
-        Some(n) => { if has_body(table, n) { Some(n) } else { None } }
+        Some(n) => { if is_abstract(table, n) { None } else { Some(n) } }
     }
 }
 

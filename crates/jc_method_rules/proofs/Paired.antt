@@ -1,21 +1,25 @@
--- Methods of other names break nothing beside one another.
-use Rattle.std.proofs.Common.{◌≡◌, ◌≢◌, ℕ, suc, ◌+◌, Bool, true, false, ◌&&◌, ◌||◌, cond, Some, List, [], ◌∷◌, ◌++◌, length, slice_get, add-one, refl, sym, ap, subst, ◌∙◌}
+-- Methods of other names, and of classes that aren't above one another, break nothing beside one another.
+use Rattle.std.proofs.Common.{◌≡◌, ◌≢◌, ◌⊎◌, inl, inr, nat_lt, not, ℕ, suc, ◌+◌, Bool, true, false, ◌&&◌, ◌||◌, cond, Some, List, [], ◌∷◌, ◌++◌, length, slice_get, Option, add-one, refl, sym, ap, subst, ◌∙◌}
 use Rattle.std.specs.Str.{bytes_eq}
 use Rattle.std.proofs.lemmas.Slice.Eq.{bytes_eq-Decides}
 use Rattle.jc_rules.specs.declared.rule.Place.{Place}
+use Rattle.jc_rules.specs.declared.rule.Refusal.{Refusal}
 use Rattle.jc_types.specs.declared.declarations.MethodDecl.{MethodDecl}
 use Rattle.jc_types.specs.declared.ids.MethodId.{MethodId}
 use Rattle.jc_types.specs.declared.table.Table.{Table}
 use Rattle.jc_types.specs.Accessors.{method_name_in, method_name_of}
-use Rattle.jc_overriding.specs.Overriding.{has_name, hides, is_above, is_inheritable, is_instance, is_method, overrides, owner, subsignature_of}
+use Rattle.jc_types.specs.Breaks.{least}
+use Rattle.jc_judge.specs.Views.{view}
+use Rattle.jc_overriding.specs.Overriding.{has_name, hides, is_above, is_inheritable, is_instance, is_method, is_viewed, overrides, owner, same_class, subsignature_of}
 use Rattle.jc_overriding.specs.Signatures.{is_erasure, override_equivalent, same_signature, subsignature}
-use Rattle.jc_overriding.specs.Viewing.{class_view, declared_view, is_static}
-use Rattle.jc_header_rules.specs.Headers.{differ, is_before, is_same_sort, overrides_some, pair_broken, repeats, replaces, replacing_broken, statics_meet}
+use Rattle.jc_overriding.specs.Viewing.{class_view, declared_view, is_static, own_type}
+use Rattle.jc_header_rules.specs.Headers.{differ, is_before, is_same_sort, overrides_some, pair_broken, repeats, replaces, replacing_broken, says_wrongly, statics_meet}
 use Rattle.jc_header_rules.specs.Places.{broken_if, of_each}
 use Rattle.jc_members.specs.Named.{all_named, named_from}
 use Rattle.jc_members.proofs.Replacing.{own_below, overrides_told, hides_told}
 use Rattle.jc_members.proofs.Standing.{unnamed}
-use Rattle.jc_method_rules.specs.Pairs.{overrides_one, pair_breaks, pairs_breaks}
+use Rattle.jc_method_rules.specs.Owned.{ids_of, is_standing, picked, standing, stands_in}
+use Rattle.jc_method_rules.specs.Pairs.{AreEnough, overrides_one, pair_breaks, pairs_breaks}
 
 and_false : (b : Bool) → (b && false) ≡ false
 and_false true = refl
@@ -112,6 +116,12 @@ module _ (T : Table) (m n : MethodId) (other : bytes_eq (method_name_of T n) (me
       ap (λ b. broken_if b 503 place ++ broken_if (statics_meet T m n) 505 place ++ replacing_broken T m n place (replaces T m n)) not_repeated
       ∙ ap (λ b. [] ++ broken_if b 505 place ++ replacing_broken T m n place (replaces T m n)) not_meeting ∙ ap (λ b. [] ++ [] ++ replacing_broken T m n place b) not_replaced
 
+pub named_apart : (T : Table) (m n : MethodId) (place : Place) (found : Option Refusal) → bytes_eq (method_name_of T n) (method_name_of T m) ≡ false → found ≡ least found (pair_breaks T m place n)
+named_apart T m n place found e = ap (least found) (sym (nothing_broken T m n e place))
+
+pub overrides_no_other : (T : Table) (m n : MethodId) → bytes_eq (method_name_of T n) (method_name_of T m) ≡ false → overrides T m n ≡ false
+overrides_no_other T m n e = not_overridden T m n e
+
 -- ---- all of a name
 
 pairs_from : (T : Table) (m : MethodId) (place : Place) (i : ℕ) (ds : List MethodDecl) → of_each (pair_broken T m place) i ds ≡ pairs_breaks T m place (named_from T (method_name_of T m) i (length ds))
@@ -141,8 +151,76 @@ overrides_listed T m = overrides_from T m 0 T.methods
 named_at : (T : Table) (m : MethodId) (d : MethodDecl) → slice_get T.methods m.0 ≡ Some d → method_name_of T m ≡ d.name
 named_at T m d e = ap method_name_in e
 
-pub pairs_told : (T : Table) (m : MethodId) (d : MethodDecl) (place : Place) (ids : List MethodId) → slice_get T.methods m.0 ≡ Some d → ids ≡ all_named T d.name → pairs_breaks T m place ids ≡ of_each (pair_broken T m place) 0 T.methods
-pairs_told T m d place ids at e = ap (pairs_breaks T m place) (e ∙ ap (all_named T) (sym (named_at T m d at))) ∙ sym (pairs_listed T m place)
+named_enough : (T : Table) (m : MethodId) (d : MethodDecl) (ids : List MethodId) → slice_get T.methods m.0 ≡ Some d → ids ≡ all_named T d.name → AreEnough T m ids
+named_enough T m d ids at e =
+    let is : ids ≡ all_named T (method_name_of T m) = e ∙ ap (all_named T) (sym (named_at T m d at)) in
+    record { pairs = λ place. ap (pairs_breaks T m place) is ∙ sym (pairs_listed T m place); overridden = ap (overrides_one T m) is ∙ sym (overrides_listed T m) }
 
-pub some_told : (T : Table) (m : MethodId) (d : MethodDecl) (ids : List MethodId) (one : Bool) → slice_get T.methods m.0 ≡ Some d → ids ≡ all_named T d.name → one ≡ overrides_one T m ids → one ≡ overrides_some T m 0 T.methods
-some_told T m d ids one at e f = f ∙ ap (overrides_one T m) (e ∙ ap (all_named T) (sym (named_at T m d at))) ∙ sym (overrides_listed T m)
+-- ---- all of a class and of those above it
+
+none_of : (a b : Bool) → (a || b) ≡ false → (a ≡ false) × (b ≡ false)
+none_of true b e = cc
+none_of false b e = (refl, e)
+
+module _ (T : Table) (m n : MethodId) (out : stands_in T (owner T m) n ≡ false) where
+  abbrev other_class : (same_class (owner T n) (owner T m) ≡ false) × (is_viewed (view T (owner T n) (own_type T (owner T m))) ≡ false)
+  other_class = none_of (same_class (owner T n) (owner T m)) (is_viewed (view T (owner T n) (own_type T (owner T m)))) out
+
+  far_below : own_below T m n ≡ false
+  far_below =
+      ap (λ b. not (same_class (owner T m) (owner T n)) && b && is_inheritable T (owner T m) n && subsignature_of T (class_view T (owner T m) m) (class_view T (owner T m) n)) other_class.1
+      ∙ ap (λ b. b && is_inheritable T (owner T m) n && subsignature_of T (class_view T (owner T m) m) (class_view T (owner T m) n)) (and_false (not (same_class (owner T m) (owner T n))))
+
+  far_overridden : overrides T m n ≡ false
+  far_overridden = overrides_told T m n ∙ ap (λ b. is_instance T m && is_instance T n && b) far_below ∙ and_false (is_instance T m && is_instance T n)
+
+  far_hidden : hides T m n ≡ false
+  far_hidden = hides_told T m n ∙ ap (λ b. is_method T m && is_method T n && is_static T m && is_static T n && b) far_below ∙ and_false (is_method T m && is_method T n && is_static T m && is_static T n)
+
+  far_replaced : replaces T m n ≡ false
+  far_replaced = ap (λ b. b || hides T m n) far_overridden ∙ far_hidden
+
+  far_meeting : statics_meet T m n ≡ false
+  far_meeting = meet_told T m n ∙ ap (λ b. is_method T m && is_method T n && differ (is_static T m) (is_static T n) && b) far_below ∙ and_false (is_method T m && is_method T n && differ (is_static T m) (is_static T n))
+
+  far_repeated : repeats T m n ≡ false
+  far_repeated =
+      ap (λ b. nat_lt n.0 m.0 && b && is_same_sort T n m && override_equivalent T (declared_view T m) (declared_view T n)) other_class.0
+      ∙ ap (λ b. b && is_same_sort T n m && override_equivalent T (declared_view T m) (declared_view T n)) (and_false (nat_lt n.0 m.0))
+
+  far_broken : (place : Place) → pair_breaks T m place n ≡ []
+  far_broken place =
+      ap (λ b. broken_if b 503 place ++ broken_if (statics_meet T m n) 505 place ++ replacing_broken T m n place (replaces T m n)) far_repeated
+      ∙ ap (λ b. [] ++ broken_if b 505 place ++ replacing_broken T m n place (replaces T m n)) far_meeting ∙ ap (λ b. [] ++ [] ++ replacing_broken T m n place b) far_replaced
+
+pairs_stand : (T : Table) (m : MethodId) (place : Place) (i : ℕ) (ds : List MethodDecl) → of_each (pair_broken T m place) i ds ≡ pairs_breaks T m place (ids_of (picked (is_standing T (owner T m)) i (length ds)))
+pairs_stand T m place i [] = refl
+pairs_stand T m place i (d ∷ ds) = by (is_standing T (owner T m) i) refl (pairs_stand T m place (suc i) ds)
+  where
+    by : (b : Bool) → is_standing T (owner T m) i ≡ b → of_each (pair_broken T m place) (suc i) ds ≡ pairs_breaks T m place (ids_of (picked (is_standing T (owner T m)) (suc i) (length ds)))
+        → pair_breaks T m place (record { 0 = i }) ++ of_each (pair_broken T m place) (suc i) ds ≡ pairs_breaks T m place (ids_of (cond b (i ∷ []) [] ++ picked (is_standing T (owner T m)) (suc i) (length ds)))
+    by true e r = ap (λ xs. pair_breaks T m place (record { 0 = i }) ++ xs) r
+    by false e r = ap (λ xs. xs ++ of_each (pair_broken T m place) (suc i) ds) (far_broken T m (record { 0 = i }) e place) ∙ r
+
+overrides_stand : (T : Table) (m : MethodId) (i : ℕ) (ds : List MethodDecl) → overrides_some T m i ds ≡ overrides_one T m (ids_of (picked (is_standing T (owner T m)) i (length ds)))
+overrides_stand T m i [] = refl
+overrides_stand T m i (d ∷ ds) = by (is_standing T (owner T m) i) refl (ap (λ k. overrides_some T m k ds) (add-one i) ∙ overrides_stand T m (suc i) ds)
+  where
+    by : (b : Bool) → is_standing T (owner T m) i ≡ b → overrides_some T m (i + 1) ds ≡ overrides_one T m (ids_of (picked (is_standing T (owner T m)) (suc i) (length ds)))
+        → (overrides T m (record { 0 = i }) || overrides_some T m (i + 1) ds) ≡ overrides_one T m (ids_of (cond b (i ∷ []) [] ++ picked (is_standing T (owner T m)) (suc i) (length ds)))
+    by true e r = ap (λ b. overrides T m (record { 0 = i }) || b) r
+    by false e r = ap (λ b. b || overrides_some T m (i + 1) ds) (far_overridden T m (record { 0 = i }) e) ∙ r
+
+standing_enough : (T : Table) (m : MethodId) (ids : List MethodId) → ids ≡ standing T (owner T m) → AreEnough T m ids
+standing_enough T m ids e =
+    record { pairs = λ place. ap (pairs_breaks T m place) e ∙ sym (pairs_stand T m place 0 T.methods); overridden = ap (overrides_one T m) e ∙ sym (overrides_stand T m 0 T.methods) }
+
+-- the shorter one of both
+pub either_enough : (T : Table) (m : MethodId) (d : MethodDecl) (named all ids : List MethodId) → slice_get T.methods m.0 ≡ Some d → named ≡ all_named T d.name → all ≡ standing T (owner T m)
+    → (ids ≡ named) ⊎ (ids ≡ all) → AreEnough T m ids
+either_enough T m d named all ids at e f (inl is) = named_enough T m d ids at (is ∙ e)
+either_enough T m d named all ids at e f (inr is) = standing_enough T m ids (is ∙ f)
+
+-- what is said wrongly, where the methods are enough
+pub wrongly_told : (T : Table) (m : MethodId) (d : MethodDecl) (ids : List MethodId) (one : Bool) → AreEnough T m ids → d.modifiers.says_override ≡ true → one ≡ overrides_one T m ids → not one ≡ says_wrongly T m d
+wrongly_told T m d ids one enough said e = ap not (e ∙ enough.overridden) ∙ ap (λ b. b && not (overrides_some T m 0 T.methods)) (sym said)

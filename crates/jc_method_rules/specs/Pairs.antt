@@ -1,12 +1,12 @@
--- What a method breaks beside those of its name.
-use Rattle.std.specs.Prelude.{Bool, false, ◌||◌, List, [], ◌∷◌, ◌++◌}
+-- What a method breaks beside others.
+use Rattle.std.specs.Prelude.{◌≡◌, Bool, false, ◌||◌, List, [], ◌∷◌, ◌++◌}
 use Rattle.jc_rules.specs.declared.rule.Place.{Place}
 use Rattle.jc_rules.specs.declared.rule.Refusal.{Refusal}
 use Rattle.jc_types.specs.declared.ids.MethodId.{MethodId}
 use Rattle.jc_types.specs.declared.table.Table.{Table}
 use Rattle.jc_overriding.specs.Overriding.{overrides}
-use Rattle.jc_header_rules.specs.Headers.{repeats, replaces, replacing_broken, statics_meet}
-use Rattle.jc_header_rules.specs.Places.{broken_if}
+use Rattle.jc_header_rules.specs.Headers.{overrides_some, pair_broken, repeats, replaces, replacing_broken, statics_meet}
+use Rattle.jc_header_rules.specs.Places.{broken_if, of_each}
 
 -- of method m, beside method n
 abbrev pub pair_breaks : Table → MethodId → Place → MethodId → List Refusal
@@ -21,3 +21,8 @@ pairs_breaks T m place (n ∷ ns) = pair_breaks T m place n ++ pairs_breaks T m 
 abbrev pub overrides_one : Table → MethodId → List MethodId → Bool
 overrides_one T m [] = false
 overrides_one T m (n ∷ ns) = overrides T m n || overrides_one T m ns
+
+-- beside others than these method m breaks nothing, and it overrides none of them
+pub record AreEnough (T : Table) (m : MethodId) (ids : List MethodId) : Type 0 where
+  pub pairs : (place : Place) → pairs_breaks T m place ids ≡ of_each (pair_broken T m place) 0 T.methods
+  pub overridden : overrides_one T m ids ≡ overrides_some T m 0 T.methods

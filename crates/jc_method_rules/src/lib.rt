@@ -2,11 +2,13 @@
 #![tactic(auto)]
 
 mod methods;
+mod owned;
 mod pairs;
 mod results;
 mod throwing;
 
 pub use methods::first_methods_break;
+pub use owned::{OwnerIndex, owner_index, standing};
 pub use pairs::is_weaker;
 pub use results::result_answer;
 pub use throwing::{is_throwable, thrown_fits};

@@ -1,16 +1,18 @@
 //! The stage of headers at methods.
-ghost use Rattle.std.specs.Prelude.{◌≡◌, Some, None, IfOk, slice_get};
+ghost use Rattle.std.specs.Prelude.{◌≡◌, ◌⊎◌, Some, None, IfOk, slice_get};
 ghost use Rattle.std.specs.Option.{option_copied};
 ghost use Rattle.jc_types.specs.Accessors.{method_name_of};
 ghost use Rattle.jc_types.specs.Breaks.{least};
 ghost use Rattle.jc_overriding.specs.Overriding.{is_method_kind, overrides, owner};
 ghost use Rattle.jc_overriding.specs.Viewing.{class_view, declared_view, own_type};
-ghost use Rattle.jc_members.specs.Named.{IsMethodIndex, all_named};
+ghost use Rattle.jc_members.specs.Named.{IsMethodIndex};
 ghost use Rattle.jc_members.specs.Supertypes.{IsSupertypes};
 ghost use Rattle.jc_header_rules.specs.Headers.{method_breaks, pair_broken, says_wrongly, thrown_broken, wants_body};
 ghost use Rattle.jc_header_rules.specs.Places.{of_each, of_written};
-ghost use Rattle.jc_method_rules.specs.Pairs.{overrides_one, pairs_breaks};
+ghost use Rattle.jc_method_rules.specs.Owned.{IsOwnerIndex, standing};
+ghost use Rattle.jc_method_rules.specs.Pairs.{AreEnough, overrides_one, pairs_breaks};
 
+use crate::owned::{OwnerIndex, owner_index, standing};
 use crate::pairs::{differ, pair_broken};
 use crate::throwing::{is_throwable, thrown_class};
 use jc_header_rules::if_broken;
@@ -18,8 +20,8 @@ use jc_members::{
     MethodIndex, MethodView, Supertypes, declared_view, is_instance, method_in, own_supertypes,
     owner, signature_below,
 };
-use jc_rules::{Place, Refusal, Rule, WantOfMemory};
-use jc_types::{ClassId, MethodDecl, MethodId, MethodKind, Table, Ty, TypePlaces};
+use jc_rules::{Items, Place, Refusal, Rule, WantOfMemory};
+use jc_types::{ClassId, MethodDecl, MethodId, MethodKind, Table, Ty, TypePlaces, method_name};
 use std::alloc::Global;
 
 // What method m breaks beside each of these.
@@ -48,7 +50,7 @@ fn pairs_broken(
     Ok(found)
 }
 
-#[tactic(auto, using(jc_members::proofs::Replacing::replacing))]
+#[tactic(auto, using(jc_members::proofs::Replacing::replacing, crate::proofs::Paired::overrides_no_other))]
 fn overrides_in(
     alloc: Global,
     table: &Table,
@@ -62,6 +64,9 @@ fn overrides_in(
     requires is { option_copied a ≡ class_view table.now (owner table.now m) m }
     ensures { IfOk result (λ r. r ≡ overrides table.now m n) }
 {
+    if method_name(table, n) != method_name(table, m) {
+        return Ok(false);
+    }
     if !is_instance(table, m) || !is_instance(table, n) {
         return Ok(false);
     }
@@ -96,23 +101,21 @@ fn overrides_one(
 fn says_wrongly(
     alloc: Global,
     table: &Table,
-    index: &MethodIndex,
     above: &Supertypes,
     a: Option<&MethodView>,
     m: MethodId,
     method: &MethodDecl,
+    ids: &[MethodId],
 ) -> Result<bool, WantOfMemory>
-    requires index { IsMethodIndex table.now index.now }
     requires known { IsSupertypes table.now above.now }
     requires own { above.now.of ≡ own_type table.now (owner table.now m) }
     requires is { option_copied a ≡ class_view table.now (owner table.now m) m }
-    requires at { slice_get table.now.methods m.0 ≡ Some method.now }
+    requires enough { AreEnough table.now m ids.now }
     ensures { IfOk result (λ r. r ≡ says_wrongly table.now m method.now) }
 {
     if !method.modifiers.says_override {
         return Ok(false);
     }
-    let ids = index.named(method.name.str());
     let one = overrides_one(alloc, table, above, a, m, ids)?;
     Ok(!one)
 }
@@ -180,27 +183,25 @@ fn wants_body(method: &MethodDecl) -> bool
     !is_method_kind(method.kind) || !(method.modifiers.is_abstract || method.modifiers.is_native)
 }
 
-// What a method breaks, of which these are its class's supertypes, and which its class has as `a`.
+// What a method breaks, of which these are its class's supertypes, and which its class has as `a`. It is told by `ids` alone.
 fn method_broken_in(
     alloc: Global,
     table: &Table,
-    index: &MethodIndex,
     found: Option<Refusal>,
     above: &Supertypes,
     a: Option<&MethodView>,
     m: MethodId,
     method: &MethodDecl,
+    ids: &[MethodId],
 ) -> Result<Option<Refusal>, WantOfMemory>
-    requires index { IsMethodIndex table.now index.now }
     requires known { IsSupertypes table.now above.now }
     requires own { above.now.of ≡ own_type table.now (owner table.now m) }
     requires is { option_copied a ≡ class_view table.now (owner table.now m) m }
-    requires at { slice_get table.now.methods m.0 ≡ Some method.now }
+    requires enough { AreEnough table.now m ids.now }
     ensures { IfOk result (λ r. r ≡ least found (method_breaks table.now m.0 method.now)) }
 {
-    let ids = index.named(method.name.str());
     let paired = pairs_broken(alloc, table, found, method.place, above, a, m, ids)?;
-    let wrongly = says_wrongly(alloc, table, index, above, a, m, method)?;
+    let wrongly = says_wrongly(alloc, table, above, a, m, method, ids)?;
     let said = if_broken(paired, wrongly, Rule::known(510), method.place);
     let types = method.thrown.types.slice();
     let places = method.thrown.places.slice();
@@ -229,24 +230,56 @@ fn supertypes_or(
     own_supertypes(alloc, table, k)
 }
 
-// What a method breaks, of which these are its class's supertypes.
+// The methods of class k and of those above it: the last ones, where they are those of it.
+fn standing_or(
+    alloc: Global,
+    table: &Table,
+    owners: &OwnerIndex,
+    above: &Supertypes,
+    last: Items<MethodId>,
+    of: ClassId,
+    k: ClassId,
+) -> Result<Items<MethodId>, WantOfMemory>
+    requires owners { IsOwnerIndex table.now owners.now }
+    requires known { IsSupertypes table.now above.now }
+    requires own { above.now.of ≡ own_type table.now k }
+    requires last { last ≡ standing table.now of }
+    ensures { IfOk result (λ r. r ≡ standing table.now k) }
+{
+    if of.0 == k.0 {
+        return Ok(last);
+    }
+    standing(alloc, table, owners, above, k)
+}
+
+fn shorter<'a>(named: &'a [MethodId], all: &'a [MethodId]) -> &'a [MethodId]
+    ensures { (result.now ≡ named.now) ⊎ (result.now ≡ all.now) }
+{
+    if named.len() <= all.len() { named } else { all }
+}
+
+// What a method breaks, of which these are its class's supertypes, and `all` the methods of that class and of those above it.
 fn method_broken(
     alloc: Global,
     table: &Table,
     index: &MethodIndex,
     found: Option<Refusal>,
     above: &Supertypes,
+    all: &[MethodId],
     m: MethodId,
     method: &MethodDecl,
 ) -> Result<Option<Refusal>, WantOfMemory>
     requires index { IsMethodIndex table.now index.now }
     requires known { IsSupertypes table.now above.now }
     requires own { above.now.of ≡ own_type table.now (owner table.now m) }
+    requires all { all.now ≡ standing table.now (owner table.now m) }
     requires at { slice_get table.now.methods m.0 ≡ Some method.now }
     ensures { IfOk result (λ r. r ≡ least found (method_breaks table.now m.0 method.now)) }
 {
     let a = method_in(alloc, table, above, m)?;
-    method_broken_in(alloc, table, index, found, above, a.as_ref(), m, method)
+    let named = index.named(method.name.str());
+    let ids = shorter(named, all);
+    method_broken_in(alloc, table, found, above, a.as_ref(), m, method, ids)
 }
 
 /// The first rule that methods break in the stage of headers, or what was found before.
@@ -259,16 +292,20 @@ pub fn first_methods_break(
     requires { IsMethodIndex table.now index.now }
     ensures { IfOk result (λ r. r ≡ least found (of_each (method_breaks table.now) 0 table.now.methods)) }
 {
+    let owners = owner_index(alloc, table)?;
     let mut found = found;
     let mut of = ClassId(0);
     let mut above = own_supertypes(alloc, table, of)?;
+    let mut all = standing(alloc, table, &owners, &above, of)?;
     let methods = table.methods.slice();
     for number in 0..methods.len() {
         let m = MethodId(number as u64);
         let k = owner(table, m);
         above = supertypes_or(alloc, table, above, of, k)?;
+        all = standing_or(alloc, table, &owners, &above, all, of, k)?;
         of = k;
-        found = method_broken(alloc, table, index, found, &above, m, &methods[number])?;
+        let method = &methods[number];
+        found = method_broken(alloc, table, index, found, &above, all.slice(), m, method)?;
     }
     Ok(found)
 }

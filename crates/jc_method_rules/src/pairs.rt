@@ -17,7 +17,7 @@ use jc_members::{
     override_equivalent, owner, replaces, same_class, signature_below,
 };
 use jc_rules::{Place, Refusal, Rule, WantOfMemory};
-use jc_types::{Access, MethodId, Table, method_modifiers};
+use jc_types::{Access, MethodId, Table, method_modifiers, method_name};
 use std::alloc::Global;
 
 fn is_final(table: &Table, m: MethodId) -> bool
@@ -206,8 +206,8 @@ fn if_replacing_broken(
     replacing_broken(alloc, table, found, place, a, b.as_ref(), m, n)
 }
 
-/// What method m breaks beside method n. The supertypes are those of its class, `a` is m as its class has it, and `declared` as it is
-/// declared.
+/// What method m breaks beside method n: nothing, if they have other names. The supertypes are those of its class, `a` is m as its class has
+/// it, and `declared` as it is declared.
 #[tactic(auto, using(jc_header_rules::proofs::Turning::turning))]
 pub fn pair_broken(
     alloc: Global,
@@ -226,6 +226,9 @@ pub fn pair_broken(
     requires declared { declared.now ≡ declared_view table.now m }
     ensures { IfOk result (λ r. r ≡ least found (pair_breaks table.now m place n)) }
 {
+    if method_name(table, n) != method_name(table, m) {
+        return Ok(found);
+    }
     let again = repeats(alloc, table, declared, m, n)?;
     let found = if_broken(found, again, Rule::known(503), place);
     let meet = statics_meet(alloc, table, above, a, m, n)?;

@@ -12,7 +12,7 @@ use Rattle.jc_types.specs.declared.form.Ty.{Ty}
 use Rattle.jc_types.specs.declared.ids.ClassId.{ClassId}
 use Rattle.jc_types.specs.declared.ids.MethodId.{MethodId}
 use Rattle.jc_types.specs.declared.table.Table.{Table}
-use Rattle.jc_types.specs.Accessors.{class_count, package_of, supers_of, methods_of, method_owner_of, method_kind_of, method_modifiers_of, method_name_of, has_body}
+use Rattle.jc_types.specs.Accessors.{class_count, package_of, supers_of, methods_of, method_owner_of, method_kind_of, method_modifiers_of, method_name_of}
 use Rattle.jc_judge.specs.Kinds.{class_of}
 use Rattle.jc_judge.specs.Views.{is_class, view}
 use Rattle.jc_overriding.specs.declared.view.MethodView.{MethodView}
@@ -40,6 +40,13 @@ access_in None = access.Private
 
 abbrev pub access_of : Table → MethodId → Access
 access_of T m = access_in (method_modifiers_of T m)
+
+abbrev pub abstract_in : Option Modifiers → Bool
+abstract_in (Some m) = m.is_abstract
+abstract_in None = false
+
+abbrev pub is_abstract : Table → MethodId → Bool
+is_abstract T m = abstract_in (method_modifiers_of T m)
 
 abbrev pub or_object : Option ClassId → ClassId
 or_object (Some k) = k
@@ -158,23 +165,31 @@ abbrev pub declared_for : Table → ClassId → MethodId → List MethodId → O
 declared_for T k m [] = None
 declared_for T k m (n ∷ ns) = if stands_for T k n m then Some n else declared_for T k m ns
 
+abbrev pub body_for : Table → ClassId → MethodId → List MethodId → Option MethodId
+body_for T k m [] = None
+body_for T k m (n ∷ ns) = if not (is_abstract T n) && stands_for T k n m then Some n else body_for T k m ns
+
 abbrev pub or_further : Option MethodId → Option MethodId → Option MethodId
 or_further (Some n) further = Some n
 or_further None further = further
+
+-- of the methods of a class the first with a body that stands for m, and else the first that does: a body implements an abstract method beside it (JLS 8.4.8.4)
+abbrev pub standing_in : Table → ClassId → MethodId → List MethodId → Option MethodId
+standing_in T k m ns = or_further (body_for T k m ns) (declared_for T k m ns)
 
 abbrev pub in_superclass : (ClassId → Option MethodId) → Option ClassId → Option MethodId
 in_superclass f None = None
 in_superclass f (Some c) = f c
 
--- the first method that stands for m, from class c upwards through the superclasses
+-- that of the nearest class, from class c upwards through the superclasses
 unfoldable pub standing_within : Table → ℕ → ClassId → MethodId → ClassId → Option MethodId
 standing_within T zero k m c = None
-standing_within T (suc n) k m c = or_further (declared_for T k m (methods_of T c)) (in_superclass (standing_within T n k m) (superclass T c))
+standing_within T (suc n) k m c = or_further (standing_in T k m (methods_of T c)) (in_superclass (standing_within T n k m) (superclass T c))
 
 abbrev pub if_body : Table → Option MethodId → Option MethodId
 if_body T None = None
-if_body T (Some n) = cond (has_body T n) (Some n) None
+if_body T (Some n) = cond (is_abstract T n) None (Some n)
 
--- the body that class k has for a method that is called, by overriding alone; none where that is abstract, or nothing stands for it
+-- the body that class k has for a method that is called, by overriding alone; none where that is abstract, or nothing stands for it. A native method is a body
 abbrev pub select : Table → ClassId → MethodId → Option MethodId
 select T k m = if_body T (standing_within T (class_count T + 1) k m k)

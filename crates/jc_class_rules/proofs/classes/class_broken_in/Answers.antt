@@ -25,7 +25,7 @@ returns c =
     (c.if_broken-third.ensures ∙ ap (λ b. least c.if_broken-second.result (broken_if b c.known-3.result d.place)) c.in_ok-incomplete.ensures
     ∙ ap (λ r. least c.if_broken-second.result (broken_if incomplete r d.place)) c.known-3.ensures)
     (c.agreement_broken-last.ensures
-    ∙ ap (λ a. least c.if_broken-third.result (agreement_broken a d.place)) (class_joined T k c.args.ids.now c.in_ok-answer.answer c.requires.firsts c.in_ok-answer.ensures)
+    ∙ ap (λ a. least c.if_broken-third.result (agreement_broken a d.place)) (class_joined T k c.args.all.now c.in_ok-answer.answer c.requires.all c.in_ok-answer.ensures)
     ∙ agreement_least c.if_broken-third.result disagree agree d.place)
     ∙ ap (least c.args.found)
     (sym (append_assoc (broken_if generic 501 d.place ++ broken_if conflict 502 d.place ++ broken_if incomplete 509 d.place) (broken_if disagree 511 d.place) (agreement_broken agree d.place)))

@@ -1,10 +1,8 @@
 use Rattle.std.proofs.Common.{ap, ◌∙◌}
 use Rattle.jc_types.specs.Breaks.{least}
-use Rattle.jc_members.specs.Named.{ids_in}
 use Rattle.jc_header_rules.specs.Headers.{differ, pair_broken, says_wrongly, thrown_broken, wants_body}
 use Rattle.jc_header_rules.specs.Places.{broken_if, of_each, of_written}
 use Rattle.jc_header_rules.proofs.Turning.{four}
-use Rattle.jc_method_rules.proofs.Paired.{pairs_told}
 use Rattle.jc_method_rules.proofs.methods.method_broken_in.Goals as goal
 
 pub returns : goal.returns
@@ -14,8 +12,7 @@ returns c =
     let d = c.args.method.now in
     four (of_each (pair_broken T m d.place) 0 T.methods) (broken_if (says_wrongly T m d) 510 d.place) (of_written (thrown_broken T m) d.thrown.types d.thrown.places)
     (broken_if (differ (wants_body d) d.has_body) 514 d.place) c.args.found c.in_ok-paired.paired c.if_broken-said.result c.in_ok-thrown.thrown c.if_broken-last.result
-    (c.in_ok-paired.ensures
-    ∙ ap (least c.args.found) (pairs_told T m d d.place c.named-ids.result.now c.requires.at (c.named-ids.ensures ∙ ap (ids_in c.args.index.now.names c.args.index.now.groups) c.str.ensures ∙ c.requires.index.ids d.name)))
+    (c.in_ok-paired.ensures ∙ ap (least c.args.found) (c.requires.enough.pairs d.place))
     (c.if_broken-said.ensures ∙ ap (λ b. least c.in_ok-paired.paired (broken_if b c.known.result d.place)) c.in_ok-wrongly.ensures
     ∙ ap (λ r. least c.in_ok-paired.paired (broken_if (says_wrongly T m d) r d.place)) c.known.ensures)
     (c.in_ok-thrown.ensures ∙ ap (λ ts. least c.if_broken-said.result (of_written (thrown_broken T m) ts c.slice-places.result.now)) c.slice-types.ensures
