@@ -11,6 +11,8 @@ use Rattle.jc_overriding.specs.Overriding.{remaining}
 use Rattle.jc_overriding.specs.Signatures.{subsignature}
 use Rattle.jc_header_rules.specs.Places.{broken_if}
 use Rattle.jc_header_rules.specs.Clashes.{all_methods, clash_place, clashes, clashes_breaks, clashes_in, erasures_meet, is_settled, members_broken, pairs_broken}
+use Rattle.jc_clashes.specs.Stage.{HasNoClash}
+use Rattle.jc_clashes.specs.Constructors.{constructors_breaks}
 use Rattle.jc_header_laws.specs.Facts.{ErasuresStand, IsAmong, IsNumber}
 use Rattle.jc_header_laws.proofs.Lists.{each_unbroken, fore, not_broken, rear}
 
@@ -42,3 +44,7 @@ erasures_stand T e n c at v w h g names meet =
     let members : List MethodView = remaining T (all_methods T k) in
     one_of (v.id.0 == w.id.0) (bytes_eq (method_name_of T v.id) (method_name_of T w.id)) (subsignature T v w) (is_settled T k members v w) (erasures_meet T v.id w.id 0 T.methods)
     (within T k c.place members (all_methods T k) v w members (each_unbroken (clashes_in T) 0 n c T.classes e at) h g) names meet
+
+-- the clashes of methods are among those of the stage
+pub of_methods : (T : Table) → HasNoClash T → clashes_breaks T ≡ []
+of_methods T e = fore (clashes_breaks T) (constructors_breaks T) e

@@ -20,13 +20,13 @@ use Rattle.jc_judge.specs.Kinds.{class_of, is_primitive}
 use Rattle.jc_judge.specs.Views.{is_class}
 use Rattle.jc_judge_laws.proofs.Decides.{answer_right}
 use Rattle.jc_overriding.specs.declared.view.MethodView.{MethodView}
-use Rattle.jc_overriding.specs.Overriding.{access_of, is_instance, owner, select}
+use Rattle.jc_overriding.specs.Overriding.{access_of, is_instance, owner, select, is_abstract}
 use Rattle.jc_overriding.specs.Signatures.{adapted, erased_in}
 use Rattle.jc_overriding.specs.Viewing.{class_view}
 use Rattle.jc_header_rules.specs.Places.{broken_if, of_each, of_written}
 use Rattle.jc_header_rules.specs.Clashes.{headers_breaks}
 use Rattle.jc_header_rules.specs.Headers.{answer_of_views, differ, says_wrongly, thrown_broken, wants_body, is_final, is_weaker, method_breaks, pair_broken, repeats, replaces, replacing_broken, result_answer_of, result_broken, statics_meet, throws_more}
-use Rattle.jc_header_rules.specs.Inheriting.{agreement_broken, agreements, all_members, all_above, class_breaks, conflicts, has_conflict, is_abstract, is_concrete, is_generic_throwable, is_left_open, is_member_above, is_none, is_of_class, leaves_open, members_disagree}
+use Rattle.jc_header_rules.specs.Inheriting.{agreement_broken, agreements, all_members, all_above, class_breaks, conflicts, has_conflict, is_concrete, is_generic_throwable, is_left_open, is_member_above, is_none, is_of_class, leaves_open, members_disagree}
 use Rattle.jc_header_rules.specs.Results.{answer_by, converts_unchecked, reference_answer, result_answer, yes_if}
 use Rattle.jc_header_laws.specs.Facts.{AreOne, Fit, FindsBody, IsNumber, ReferenceFits, ResultFits, TypeFits}
 use Rattle.jc_header_laws.proofs.Lists.{and_rest, each_unbroken, fore, none_is, not_broken, not_false, or_false, rear}
@@ -34,22 +34,22 @@ use Rattle.jc_header_laws.proofs.Lists.{and_rest, each_unbroken, fore, none_is, 
 -- ---- at a class
 
 -- the breaks at a class, in order
-abbrev generic : Table → ClassId → ClassDecl → List Refusal
+abbrev pub generic : Table → ClassId → ClassDecl → List Refusal
 generic T k c = broken_if (is_generic_throwable T k) 501 c.place
 
-abbrev conflicting : Table → ClassId → ClassDecl → List Refusal
+abbrev pub conflicting : Table → ClassId → ClassDecl → List Refusal
 conflicting T k c = broken_if (has_conflict (all_above T k)) 502 c.place
 
-abbrev left_open : Table → ClassId → ClassDecl → List Refusal
+abbrev pub left_open : Table → ClassId → ClassDecl → List Refusal
 left_open T k c = broken_if (is_concrete T k c && leaves_open T k 0 T.methods) 509 c.place
 
-abbrev disagreeing : Table → ClassId → ClassDecl → List Refusal
+abbrev pub disagreeing : Table → ClassId → ClassDecl → List Refusal
 disagreeing T k c = broken_if (members_disagree T k (all_members T k)) 511 c.place
 
-abbrev unsettled : Table → ClassId → ClassDecl → List Refusal
+abbrev pub unsettled : Table → ClassId → ClassDecl → List Refusal
 unsettled T k c = agreement_broken (agreements T k (all_members T k) (all_members T k)) c.place
 
-of_class : (T : Table) → headers_breaks T ≡ [] → (n : ℕ) (c : ClassDecl) → IsNumber 0 n c T.classes → class_breaks T n c ≡ []
+pub of_class : (T : Table) → headers_breaks T ≡ [] → (n : ℕ) (c : ClassDecl) → IsNumber 0 n c T.classes → class_breaks T n c ≡ []
 of_class T e n c at = each_unbroken (class_breaks T) 0 n c T.classes (rear (of_each (method_breaks T) 0 T.methods) (of_each (class_breaks T) 0 T.classes) e) at
 
 first_three : (T : Table) (k : ClassId) (n : ℕ) (c : ClassDecl) → ((((generic T k c ++ conflicting T k c) ++ left_open T k c) ++ disagreeing T k c) ++ unsettled T k c) ≡ [] → (generic T k c ++ conflicting T k c) ++ left_open T k c ≡ []
@@ -103,13 +103,13 @@ finds_body T e n m c d at there concrete instance abstract member =
 -- ---- at two methods
 
 -- the breaks at a method behind those of its pairs
-abbrev overriding_none : Table → MethodId → MethodDecl → List Refusal
+abbrev pub overriding_none : Table → MethodId → MethodDecl → List Refusal
 overriding_none T m d = broken_if (says_wrongly T m d) 510 d.place
 
-abbrev throwing_others : Table → MethodId → MethodDecl → List Refusal
+abbrev pub throwing_others : Table → MethodId → MethodDecl → List Refusal
 throwing_others T m d = of_written (thrown_broken T m) d.thrown.types d.thrown.places
 
-abbrev without_body : MethodDecl → List Refusal
+abbrev pub without_body : MethodDecl → List Refusal
 without_body d = broken_if (differ (wants_body d) d.has_body) 514 d.place
 
 -- those of a pair where the one replaces the other
@@ -160,7 +160,7 @@ result_fits T a b (Some s) (Some t) e = type_fits T a b s t (is_primitive s || i
 of_views : (T : Table) (x y : Option MethodView) (a b : MethodView) → answer_of_views T x y ≡ Yes → x ≡ Some a → y ≡ Some b → result_answer T a b ≡ Yes
 of_views T x y a b e h g = ap (λ o. answer_of_views T o (Some b)) (sym h) ∙ ap (answer_of_views T x) (sym g) ∙ e
 
-first_one : (a b c d : List Refusal) → ((a ++ b) ++ c) ++ d ≡ [] → a ≡ []
+pub first_one : (a b c d : List Refusal) → ((a ++ b) ++ c) ++ d ≡ [] → a ≡ []
 first_one a b c d e = fore a b (fore (a ++ b) c (fore ((a ++ b) ++ c) d e))
 
 pub fit : (T : Table) → headers_breaks T ≡ [] → (m n : ℕ) (d e : MethodDecl) → IsNumber 0 m d T.methods → IsNumber 0 n e T.methods → Fit T (record { 0 = m }) (record { 0 = n })

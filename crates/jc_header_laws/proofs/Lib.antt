@@ -2,3 +2,9 @@ pub mod Lists
 pub mod Clashing
 pub mod Fitting
 pub mod Forming
+pub mod Constructing
+pub mod Owned
+pub mod Settled
+pub mod Standing
+pub mod Bodies
+pub mod Selecting

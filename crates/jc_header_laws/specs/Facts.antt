@@ -14,17 +14,18 @@ use Rattle.jc_types.specs.declared.ids.MethodId.{MethodId}
 use Rattle.jc_types.specs.declared.scopes.Use.{Use}
 use Rattle.jc_types.specs.declared.scopes.UseKind.TheVariants as use_kind
 use Rattle.jc_types.specs.declared.table.Table.{Table}
-use Rattle.jc_types.specs.Accessors.{method_name_of}
+use Rattle.jc_types.specs.Accessors.{has_body, method_name_of}
 use Rattle.jc_judge.specs.Kinds.{class_of, is_primitive}
 use Rattle.jc_judge.specs.Trees.{Proof}
 use Rattle.jc_overriding.specs.declared.view.MethodView.{MethodView}
-use Rattle.jc_overriding.specs.Overriding.{access_of, is_instance, owner, remaining, select}
-use Rattle.jc_overriding.specs.Signatures.{adapted, erased_in, subsignature}
-use Rattle.jc_overriding.specs.Viewing.{class_view}
-use Rattle.jc_header_rules.specs.Clashes.{all_methods, erasures_meet, is_settled}
-use Rattle.jc_header_rules.specs.Headers.{is_final, is_weaker, replaces, throws_more}
-use Rattle.jc_header_rules.specs.Inheriting.{all_above, is_abstract, is_concrete, is_member_above}
+use Rattle.jc_overriding.specs.Overriding.{access_of, is_instance, owner, remaining, same_class, select, stands_for, is_abstract}
+use Rattle.jc_overriding.specs.Signatures.{adapted, erased_in, override_equivalent, same_all, subsignature}
+use Rattle.jc_overriding.specs.Viewing.{class_view, declared_view}
+use Rattle.jc_header_rules.specs.Clashes.{all_methods, erased_params, erasures_meet, is_settled}
+use Rattle.jc_header_rules.specs.Headers.{is_final, is_same_sort, is_weaker, replaces, throws_more}
+use Rattle.jc_header_rules.specs.Inheriting.{all_above, all_members, is_concrete, is_member_above}
 use Rattle.jc_header_rules.specs.Results.{converts_unchecked}
+use Rattle.jc_clashes.specs.Constructors.{is_constructor}
 
 -- x is number n of these, counted from i
 abbrev pub IsNumber : {X : Type 0} → ℕ → ℕ → X → List X → Type 0
@@ -99,6 +100,40 @@ abbrev pub FindsBody : Table → ClassId → ClassDecl → MethodId → Type 0
 FindsBody T k c m =
     is_concrete T k c ≡ true → is_instance T m ≡ true → is_abstract T m ≡ true → is_member_above T k m ≡ true → (n : MethodId) × (select T k m ≡ Some n)
 
+-- methods, or constructors, of one class, of which one's signature is a subsignature of the other's
+abbrev pub OneDeclaration : Table → MethodId → MethodId → Type 0
+OneDeclaration T m n =
+    is_same_sort T m n ≡ true → same_class (owner T m) (owner T n) ≡ true → override_equivalent T (declared_view T m) (declared_view T n) ≡ true → m ≡ n
+
+-- a method that class k declares, or that is a member there: no other method of the class overrides or hides it
+abbrev pub IsOwnOrMember : Table → ClassId → MethodView → Type 0
+IsOwnOrMember T k v = (IsAmong v (all_methods T k) × (same_class (owner T v.id) k ≡ true)) ⊎ IsAmong v (all_members T k)
+
+-- methods with bodies of a class, which declares both or inherits both, and of which one's signature is there a subsignature of the other's
+abbrev pub OneBody : Table → ClassId → Type 0
+OneBody T k =
+    (v w : MethodView) → IsOwnOrMember T k v → IsOwnOrMember T k w → same_class (owner T v.id) k ≡ same_class (owner T w.id) k
+    → is_abstract T v.id ≡ false → is_abstract T w.id ≡ false → override_equivalent T v w ≡ true → v.id ≡ w.id
+
+-- a method as a class has it has no type parameters
+abbrev pub HasNoParameters : Option MethodView → Type 0
+HasNoParameters None = ⊥
+HasNoParameters (Some v) = v.vars ≡ []
+
+-- .. and that stand there for one method, which is one of them or has no type parameters there
+abbrev pub OneSelected : Table → ClassId → Type 0
+OneSelected T k =
+    (m : MethodId) (v w : MethodView) → IsOwnOrMember T k v → IsOwnOrMember T k w → same_class (owner T v.id) k ≡ same_class (owner T w.id) k
+    → is_abstract T v.id ≡ false → is_abstract T w.id ≡ false → stands_for T k v.id m ≡ true → stands_for T k w.id m ≡ true
+    → (v.id ≡ m) ⊎ ((w.id ≡ m) ⊎ HasNoParameters (class_view T k m)) → v.id ≡ w.id
+
+-- the body that is selected for method m, and another method of the class that stands for m
+abbrev pub OneChosen : Table → ClassId → Type 0
+OneChosen T k =
+    (m n : MethodId) (v w : MethodView) → select T k m ≡ Some n → v.id ≡ n → IsOwnOrMember T k v → IsOwnOrMember T k w
+    → same_class (owner T v.id) k ≡ same_class (owner T w.id) k → has_body T w.id ≡ true → stands_for T k w.id m ≡ true
+    → (n ≡ m) ⊎ ((w.id ≡ m) ⊎ HasNoParameters (class_view T k m)) → w.id ≡ n
+
 -- ---- clashes
 
 abbrev pub ErasuresStand : Table → ClassId → Type 0
@@ -106,3 +141,9 @@ ErasuresStand T k =
     (v w : MethodView) → IsAmong v (remaining T (all_methods T k)) → IsAmong w (all_methods T k) → bytes_eq (method_name_of T v.id) (method_name_of T w.id) ≡ true
     → erasures_meet T v.id w.id 0 T.methods ≡ true
     → ((v.id.0 == w.id.0) ≡ true) ⊎ ((subsignature T v w ≡ true) ⊎ (is_settled T k (remaining T (all_methods T k)) v w ≡ true))
+
+-- of these methods no two are constructors with parameters of the same erasures
+abbrev pub ErasuresDiffer : Table → List MethodId → Type 0
+ErasuresDiffer T [] = Unit {0}
+ErasuresDiffer T (m ∷ ms) =
+    ((n : MethodId) → IsAmong n ms → is_constructor T m ≡ true → is_constructor T n ≡ true → same_all (erased_params T n) (erased_params T m) ≡ false) × ErasuresDiffer T ms

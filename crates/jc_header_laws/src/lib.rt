@@ -1,9 +1,12 @@
-//! Laws of headers: what holds of a table that breaks no rule of types, of headers and of clashes. Each is what a function that does nothing ensures.
+//! Laws of headers: what holds of a table that the stages of types and headers, and of clashes, take. Each is what a function that does nothing ensures.
 #![tactic(auto)]
 
 mod laws;
 
 pub use laws::{
-    members_of_one_erasure_stand_for_each_other, overriding_methods_fit, selection_finds_a_body,
-    supertypes_are_exact, supertypes_of_one_class_are_one, written_types_are_well_formed,
+    bodies_of_members_are_one, bodies_that_stand_are_one, declared_signatures_differ,
+    erasures_of_constructors_differ, members_of_one_erasure_stand_for_each_other,
+    methods_have_their_bodies, overriding_methods_fit, selected_body_is_one,
+    selection_finds_a_body, supertypes_are_exact, supertypes_of_one_class_are_one,
+    written_types_are_well_formed,
 };
