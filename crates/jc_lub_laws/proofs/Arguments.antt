@@ -2,10 +2,11 @@
 use Rattle.std.proofs.Common.{◌≡◌, inl, inr, ◌+◌, ◌==◌, ◌||◌, ◌&&◌, not, ℕ, zero, suc, Bool, true, false, Option, Some, None, List, [], ◌∷◌, length, drop, slice_get, refl, sym, ap, subst, ◌∙◌, if◌then◌else◌, arith}
 use Rattle.std.proofs.lemmas.Bool.Decides.{nat_tests}
 use Rattle.jc_types.specs.declared.form.Arg.{Arg, Arg-F, out-Arg}
+use Rattle.jc_types.specs.declared.form.Arg.TheVariants.{Any, outs-Any}
 use Rattle.jc_types.specs.declared.form.Ty.{Ty}
 use Rattle.jc_types.specs.declared.ids.VarId.{VarId}
 use Rattle.jc_types.proofs.Sameness.{same_self}
-use Rattle.jc_lub.specs.Columns.{one_raw, or_any, column, all_same, upper_of, with_upper, uppers, joined_uppers, joined, joined_from}
+use Rattle.jc_lub.specs.Columns.{one_raw, or_any, column, all_same, upper_at, upper_of, with_upper, uppers, joined_uppers, joined, joined_from}
 use Rattle.jc_lub.specs.Uncaptured.{same_args, same_arg_at, args_of}
 use Rattle.jc_lub_laws.specs.Under.{IsAmong, IsIn, as_it_is, any, AllIn}
 
@@ -57,21 +58,65 @@ upper_among : (a : Arg) (cs : List Arg) (ts : List Ty) → uppers cs ≡ Some ts
 upper_among a [] ts e o = absurd o
 upper_among a (c ∷ cs) ts e o = upper_by a c cs ts (upper_of c) (uppers cs) refl refl e (λ us f m. upper_among a cs us f m) o
 
+-- an upper bound of a place is one of its arguments
+from_uppers_by : (x : Ty) (c : Arg) (cs : List Arg) (us : List Ty) (o : Option Ty) (os : Option (List Ty)) → upper_of c ≡ o → uppers cs ≡ os → with_upper o os ≡ Some us
+    → ((ws : List Ty) → uppers cs ≡ Some ws → IsAmong x ws → (a : Arg) × IsAmong a cs × (upper_of a ≡ Some x)) → IsAmong x us → (a : Arg) × IsAmong a (c ∷ cs) × (upper_of a ≡ Some x)
+from_uppers_by x c cs us None os e f g h o = cc
+from_uppers_by x c cs us (Some w) None e f g h o = cc
+from_uppers_by x c cs us (Some w) (Some ws) e f g h o =
+    elim (subst (IsAmong x) (sym (some_eq (w ∷ ws) us g)) o) [
+      | inl s ↦ (c, inl refl, e ∙ ap Some (sym s))
+      | inr m ↦ let r = h ws f m in (r.0, inr r.1, r.2)
+    ]
+
+from_uppers : (x : Ty) (cs : List Arg) (us : List Ty) → uppers cs ≡ Some us → IsAmong x us → (a : Arg) × IsAmong a cs × (upper_of a ≡ Some x)
+from_uppers x [] us e o = absurd (subst (IsAmong x) (sym (some_eq [] us e)) o)
+from_uppers x (c ∷ cs) us e o = from_uppers_by x c cs us (upper_of c) (uppers cs) refl refl e (λ ws f m. from_uppers x cs ws f m) o
+
+-- each upper bound of some arguments is such a type
+abbrev pub AreBounded : (Ty → Type 0) → List Arg → Type 0
+AreBounded P cs = (c : Arg) → IsAmong c cs → (x : Ty) → upper_of c ≡ Some x → P x
+
+any_upper : upper_of Any ≡ None
+unfolding upper_of
+any_upper = ap upper_at outs-Any
+
+no_upper : (x : Ty) → upper_of Any ≡ Some x → ⊥
+no_upper x e = let none : None ≡ Some x = sym any_upper ∙ e in cc
+
+slice_among : (xs : List Arg) (i : ℕ) (a : Arg) → slice_get xs i ≡ Some a → IsAmong a xs
+slice_among [] i a e = cc
+slice_among (x ∷ xs) zero a e = let s : a ≡ x = cc in inl s
+slice_among (x ∷ xs) (suc i) a e = inr (slice_among xs i a e)
+
+at_place : (P : Ty → Type 0) (c : Arg) (w : Ty) (i : ℕ) (o : Option Arg) → slice_get (args_of w) i ≡ o → c ≡ or_any o → AreBounded P (args_of w) → (x : Ty) → upper_of c ≡ Some x → P x
+at_place P c w i None e s h x u = absurd (no_upper x (sym (ap upper_of s) ∙ u))
+at_place P c w i (Some a) e s h x u = h a (slice_among (args_of w) i a e) x (sym (ap upper_of s) ∙ u)
+
+column_bounded : (P : Ty → Type 0) (i : ℕ) (vs : List Ty) → ((v : Ty) → IsAmong v vs → AreBounded P (args_of v)) → AreBounded P (column i vs)
+column_bounded P i [] h c o x u = absurd o
+column_bounded P i (w ∷ vs) h c (inl s) x u = at_place P c w i (slice_get (args_of w) i) refl s (h w (inl refl)) x u
+column_bounded P i (w ∷ vs) h c (inr o) x u = column_bounded P i vs (λ v m. h v (inr m)) c o x u
+
 -- ---- one place
 
-module _ (R : Ty → Ty → Type 0) (f : List Ty → Arg) (ok : (ts : List Ty) (t : Ty) (a : Arg) → IsAmong t ts → upper_of a ≡ Some t → IsIn R a (f ts)) where
-  in_uppers : (a : Arg) (cs : List Arg) (os : Option (List Ty)) → uppers cs ≡ os → IsAmong a cs → IsIn R a (joined_uppers f os)
-  in_uppers a cs None e o = any a
-  in_uppers a cs (Some ts) e o = let u : UpperAmong a ts = upper_among a cs ts e o in ok ts u.0 a u.2 u.1
+-- f joins types of P
+module _ (P : Ty → Type 0) (R : Ty → Ty → Type 0) (f : List Ty → Arg)
+    (ok : (ts : List Ty) (t : Ty) (a : Arg) → ((x : Ty) → IsAmong x ts → P x) → IsAmong t ts → upper_of a ≡ Some t → IsIn R a (f ts)) where
+  in_uppers : (a : Arg) (cs : List Arg) (os : Option (List Ty)) → AreBounded P cs → uppers cs ≡ os → IsAmong a cs → IsIn R a (joined_uppers f os)
+  in_uppers a cs None h e o = any a
+  in_uppers a cs (Some ts) h e o =
+      let u : UpperAmong a ts = upper_among a cs ts e o in
+      ok ts u.0 a (λ x m. let r = from_uppers x cs ts e m in h r.0 r.1 x r.2) u.2 u.1
 
-  in_joined_by : (a c : Arg) (cs : List Arg) (t : Bool) → all_same c cs ≡ t → IsAmong a (c ∷ cs) → IsIn R a (if t then c else joined_uppers f (uppers (c ∷ cs)))
-  in_joined_by a c cs true e (inl s) = as_it_is a c (subst (λ x. same_args x c ≡ true) (sym s) (alike_self c))
-  in_joined_by a c cs true e (inr o) = as_it_is a c (all_alike c a cs e o)
-  in_joined_by a c cs false e o = in_uppers a (c ∷ cs) (uppers (c ∷ cs)) refl o
+  in_joined_by : (a c : Arg) (cs : List Arg) (t : Bool) → AreBounded P (c ∷ cs) → all_same c cs ≡ t → IsAmong a (c ∷ cs) → IsIn R a (if t then c else joined_uppers f (uppers (c ∷ cs)))
+  in_joined_by a c cs true h e (inl s) = as_it_is a c (subst (λ x. same_args x c ≡ true) (sym s) (alike_self c))
+  in_joined_by a c cs true h e (inr o) = as_it_is a c (all_alike c a cs e o)
+  in_joined_by a c cs false h e o = in_uppers a (c ∷ cs) (uppers (c ∷ cs)) h refl o
 
-  in_joined : (a : Arg) (cs : List Arg) → IsAmong a cs → IsIn R a (joined f cs)
-  in_joined a [] o = absurd o
-  in_joined a (c ∷ cs) o = in_joined_by a c cs (all_same c cs) refl o
+  in_joined : (a : Arg) (cs : List Arg) → AreBounded P cs → IsAmong a cs → IsIn R a (joined f cs)
+  in_joined a [] h o = absurd o
+  in_joined a (c ∷ cs) h o = in_joined_by a c cs (all_same c cs) h refl o
 
   -- ---- all places of a view
 
@@ -92,19 +137,19 @@ module _ (R : Ty → Ty → Type 0) (f : List Ty → Arg) (ok : (ts : List Ty) (
   dropped_tail zero (x ∷ xs) y ys e = cc
   dropped_tail (suc i) (x ∷ xs) y ys e = dropped_tail i xs y ys e
 
-  all_from : (v : Ty) (vs : List Ty) → IsAmong v vs → (i : ℕ) (ps : List VarId) (xs : List Arg) → drop i (args_of v) ≡ xs → length xs ≡ length ps → AllIn R xs (joined_from f vs i ps)
-  all_from v vs o i [] [] d e = tt
-  all_from v vs o i [] (a ∷ xs) d e = cc
-  all_from v vs o i (p ∷ ps) [] d e = cc
-  all_from v vs o i (p ∷ ps) (a ∷ xs) d e =
+  all_from : (v : Ty) (vs : List Ty) → ((w : Ty) → IsAmong w vs → AreBounded P (args_of w)) → IsAmong v vs → (i : ℕ) (ps : List VarId) (xs : List Arg) → drop i (args_of v) ≡ xs → length xs ≡ length ps → AllIn R xs (joined_from f vs i ps)
+  all_from v vs h o i [] [] d e = tt
+  all_from v vs h o i [] (a ∷ xs) d e = cc
+  all_from v vs h o i (p ∷ ps) [] d e = cc
+  all_from v vs h o i (p ∷ ps) (a ∷ xs) d e =
       let g : slice_get (args_of v) i ≡ Some a = dropped_head i (args_of v) a xs d in
       let one : suc i ≡ i + 1 = omega arith in
       let next : drop (i + 1) (args_of v) ≡ xs = subst (λ (n : ℕ). drop n (args_of v) ≡ xs) one (dropped_tail i (args_of v) a xs d) in
       let shorter : length xs ≡ length ps = omega (arith, e) in
-      (in_joined a (column i vs) (subst (λ (x : Arg). IsAmong x (column i vs)) (ap or_any g) (in_column i v vs o)), all_from v vs o (i + 1) ps xs next shorter)
+      (in_joined a (column i vs) (column_bounded P i vs h) (subst (λ (x : Arg). IsAmong x (column i vs)) (ap or_any g) (in_column i v vs o)), all_from v vs h o (i + 1) ps xs next shorter)
 
-  pub all_in : (v : Ty) (vs : List Ty) (ps : List VarId) → IsAmong v vs → length (args_of v) ≡ length ps → AllIn R (args_of v) (joined_from f vs 0 ps)
-  all_in v vs ps o e = all_from v vs o 0 ps (args_of v) refl e
+  pub all_in : (v : Ty) (vs : List Ty) (ps : List VarId) → ((w : Ty) → IsAmong w vs → AreBounded P (args_of w)) → IsAmong v vs → length (args_of v) ≡ length ps → AllIn R (args_of v) (joined_from f vs 0 ps)
+  all_in v vs ps h o e = all_from v vs h o 0 ps (args_of v) refl e
 
 equal_of : (m n : ℕ) → (m == n) ≡ true → m ≡ n
 equal_of m n e = grind (arith, nat_tests)

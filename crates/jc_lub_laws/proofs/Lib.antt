@@ -1,3 +1,13 @@
 mod Lists
+mod Listed
 mod Arguments
+mod Beneath
 mod Joined
+mod Layers
+mod Homs
+mod Viewed
+mod Unique
+mod Closing
+mod Held
+mod Seen
+mod Fitting
