@@ -7,6 +7,8 @@ the profile lacks are left out. Then each program of programs/ runs in the tool,
 library; output and ending have to be the same. A line `// arguments: ..` or `// input: ..` at the head of a program is its command line
 or its input.
 
+The programs of large.py are too long to be kept as texts, and are written into the room where the check works.
+
 The programs of own/ show what is javag's own rule, as the numbers of identity hashes; beside each stands what the rule says.
 
 Then classes that no compiler makes (odd.py) run in the tool: where they are valid java runs them too, else the ending is the one that the
@@ -21,6 +23,7 @@ import sys
 import tempfile
 
 sys.dont_write_bytecode = True
+import large
 import odd
 from runs import compile_all, needed, ran_in_java, ran_in_tool
 from widen import short_of
@@ -89,7 +92,7 @@ def difference(wanted, given):
 class Comparison:
     def __init__(self, tool, room):
         self.tool, self.room = tool, room
-        self.classes, self.prelude = compile_all(room, [PROGRAMS, OWN])
+        self.classes, self.prelude = compile_all(room, [PROGRAMS, OWN, f"{room}/large"])
 
     def wanted(self, program):
         if program.top == OWN:
@@ -159,9 +162,10 @@ def main():
         if not shutil.which(word):
             print(f"skipped: the comparison of the machine with java needs {word}")
             return
-    chosen = [program for top in (PROGRAMS, OWN) for program in programs(top) if not names or program.name in names]
     cases = [case for case in odd.cases() if not names or case.name in names]
     with tempfile.TemporaryDirectory() as room:
+        large.write_all(f"{room}/large")
+        chosen = [program for top in (PROGRAMS, OWN, f"{room}/large") for program in programs(top) if not names or program.name in names]
         comparison = Comparison(tool, room)
         missing = PROFILE - comparison.opcodes() - set().union(*(case.opcodes() for case in odd.cases()))
         with concurrent.futures.ThreadPoolExecutor(JOBS) as pool:

@@ -12,8 +12,8 @@ fn catches(classes: &Classes, thrown: u64, row: &Handler) -> bool
     ensures { result ≡ row_catches classes.now thrown row.now.class }
 {
     match &row.class {
-        Some(name) => match class_named(classes.models(), name.slice()) {
-            Some(wanted) => classes.is_class_below(thrown, wanted as u64),
+        Some(name) => match class_named(classes.named(), name.slice()) {
+            Some(wanted) => classes.is_class_below(thrown, wanted),
             None => false,
         },
         None => true,

@@ -7,20 +7,10 @@ ghost use Rattle.jc_jvm.specs.Table.{static_method_if, static_method};
 
 use crate::frames::method_of;
 use crate::methods::{find_method, is_static};
-use jc_class_out::ClassModel;
-use jc_heap::{class_named, spells, superclass};
-
-fn numbered(class: Option<usize>) -> Option<u64>
-    ensures { result ≡ class }
-{
-    match class {
-        Some(class) => Some(class as u64),
-        None => None,
-    }
-}
+use jc_heap::{NamedClasses, class_named, spells, superclass};
 
 fn find_from(
-    classes: &[ClassModel],
+    classes: &NamedClasses,
     class: Option<u64>,
     name: &[u16],
     descriptor: &[u16],
@@ -33,10 +23,10 @@ fn find_from(
     }
 }
 
-fn static_at(classes: &[ClassModel], class: u64, method: u64) -> Option<(u64, u64)>
+fn static_at(classes: &NamedClasses, class: u64, method: u64) -> Option<(u64, u64)>
     ensures { result ≡ static_method_if classes.now (class, method) (method_at classes.now (class, method)) }
 {
-    match method_of(classes, class, method) {
+    match method_of(classes.models(), class, method) {
         Some(found) => {
             if is_static(found) {
                 Some((class, method))
@@ -50,28 +40,23 @@ fn static_at(classes: &[ClassModel], class: u64, method: u64) -> Option<(u64, u6
 
 /// The static method that a call means.
 pub fn find_static_method(
-    classes: &[ClassModel],
+    classes: &NamedClasses,
     class: &[u16],
     name: &[u16],
     descriptor: &[u16],
 ) -> Option<(u64, u64)>
     ensures { result ≡ static_method classes.now class.now name.now descriptor.now }
 {
-    match find_from(
-        classes,
-        numbered(class_named(classes, class)),
-        name,
-        descriptor,
-    ) {
+    match find_from(classes, class_named(classes, class), name, descriptor) {
         Some((declaring, method)) => static_at(classes, declaring, method),
         None => None,
     }
 }
 
-fn own_at(classes: &[ClassModel], class: u64, method: u64) -> Option<(u64, u64)>
+fn own_at(classes: &NamedClasses, class: u64, method: u64) -> Option<(u64, u64)>
     ensures { result ≡ own_method_if (class, method) (method_at classes.now (class, method)) }
 {
-    match method_of(classes, class, method) {
+    match method_of(classes.models(), class, method) {
         Some(found) => {
             if is_static(found) {
                 None
@@ -84,7 +69,7 @@ fn own_at(classes: &[ClassModel], class: u64, method: u64) -> Option<(u64, u64)>
 }
 
 // Whether a class is another one or among its superclasses.
-fn is_on_line(classes: &[ClassModel], current: u64, class: u64) -> bool
+fn is_on_line(classes: &NamedClasses, current: u64, class: u64) -> bool
     ensures { result ≡ list_any (λ k. k == class) (line_of classes.now current) }
 {
     let mut here = Some(current);
@@ -102,7 +87,7 @@ fn is_on_line(classes: &[ClassModel], current: u64, class: u64) -> bool
     false
 }
 
-fn special_from(classes: &[ClassModel], current: u64, name: &[u16], class: u64) -> Option<u64>
+fn special_from(classes: &NamedClasses, current: u64, name: &[u16], class: u64) -> Option<u64>
     ensures { result ≡ class_of_special classes.now current name.now class }
 {
     if !spells(name, "<init>") && class != current && is_on_line(classes, current, class) {
@@ -113,7 +98,7 @@ fn special_from(classes: &[ClassModel], current: u64, name: &[u16], class: u64) 
 }
 
 fn special_named(
-    classes: &[ClassModel],
+    classes: &NamedClasses,
     current: u64,
     name: &[u16],
     class: Option<u64>,
@@ -129,7 +114,7 @@ fn special_named(
 /// The method that invokespecial means in the class of number `current`: the named one from the named class upward, or, where
 /// that is a superclass and the method is no constructor, from the superclass of the current class upward.
 pub fn find_special_method(
-    classes: &[ClassModel],
+    classes: &NamedClasses,
     current: u64,
     class: &[u16],
     name: &[u16],
@@ -137,12 +122,7 @@ pub fn find_special_method(
 ) -> Option<(u64, u64)>
     ensures { result ≡ special_method classes.now current class.now name.now descriptor.now }
 {
-    let from = special_named(
-        classes,
-        current,
-        name,
-        numbered(class_named(classes, class)),
-    );
+    let from = special_named(classes, current, name, class_named(classes, class));
     match find_from(classes, from, name, descriptor) {
         Some((declaring, method)) => own_at(classes, declaring, method),
         None => None,

@@ -3,7 +3,7 @@ ghost use Rattle.std.specs.Prelude.{◌≡◌, ◌&&◌, position};
 ghost use Rattle.jc_jvm.specs.Classes.{is_method, is_selectable, is_static_method, methods_of, method_of as method_by_name, selected, initialiser_of};
 
 use jc_class_out::{ClassModel, MethodModel};
-use jc_heap::{Classes, has_flag, spells, superclass};
+use jc_heap::{Classes, NamedClasses, has_flag, spells, superclass};
 
 fn is_named(name: &[u16], descriptor: &[u16], method: &MethodModel) -> bool
     ensures { result ≡ is_method name.now descriptor.now method.now }
@@ -50,7 +50,7 @@ fn place_selected(methods: &[MethodModel], name: &[u16], descriptor: &[u16]) -> 
 
 /// The method of that name and descriptor in a class or else in its superclasses, by the numbers of the class and of the method.
 pub fn find_method(
-    classes: &[ClassModel],
+    classes: &NamedClasses,
     class: u64,
     name: &[u16],
     descriptor: &[u16],
@@ -60,7 +60,11 @@ pub fn find_method(
     let mut here = Some(class);
     for done in 0..classes.len() {
         match here {
-            Some(number) => match place_named(methods_in(classes, number), name, descriptor) {
+            Some(number) => match place_named(
+                methods_in(classes.models(), number),
+                name,
+                descriptor,
+            ) {
                 Some(place) => return Some((number, place as u64)),
                 None => here = superclass(classes, number),
             },

@@ -7,17 +7,17 @@ ghost use Rattle.std.specs.Str.{chars};
 ghost use Rattle.jc_jvm.specs.Start.{slash, spelling, is_main as main_by, main_of as main_by_name, units_of_text, with_strings, arguments_cell, main_waits, begins, started, start_of};
 ghost use Rattle.jc_waiting.specs.Onwards.{state_of};
 ghost use Rattle.jc_core.specs.States.{classes_of, state_in};
+ghost use Rattle.jc_jvm.specs.Classes.{class_named as class_by_name};
 ghost use Rattle.jc_jvm.specs.Types.{zero_of_field};
 ghost use Rattle.jc_jvm.specs.Worlds.{first_world, string_class};
 
 use crate::Core;
 use jc_calls::{frame_for, is_static, methods_in};
 use jc_class_out::{ClassModel, FieldModel, MethodModel};
-use jc_heap::{
-    Classes, class_named, class_spelled, field_sort, has_flag, make_string, spells, zero,
-};
+use jc_heap::{Classes, class_spelled, field_sort, has_flag, make_string, spells, zero};
 use jc_jvm::{
-    Base, Cell, Cells, ClassState, Ending, Frame, Shape, Slots, Statics, Value, Waiting, World,
+    Base, Cell, Cells, ClassState, Ending, Frame, Literals, Shape, Slots, Statics, Value, Waiting,
+    World,
 };
 use jc_rows::Program;
 use jc_rules::{Items, NoMain, Stop, Text, WantOfMemory};
@@ -84,6 +84,12 @@ fn main_in(methods: &[MethodModel]) -> Option<usize>
     methods.iter().position(is_main)
 }
 
+fn place_named(classes: &[ClassModel], name: &[u16]) -> Option<usize>
+    ensures { result ≡ class_by_name classes.now name.now }
+{
+    classes.iter().position(|class| class.name.slice() == name)
+}
+
 fn main_of(
     alloc: Global,
     classes: &[ClassModel],
@@ -92,7 +98,7 @@ fn main_of(
     ensures { IfOk result (λ place. place ≡ main_by_name classes.now name.now) }
 {
     let spelled = spell(alloc, name)?;
-    match class_named(classes, spelled.slice()) {
+    match place_named(classes, spelled.slice()) {
         Some(class) => match main_in(methods_in(classes, class as u64)) {
             Some(method) => Ok(Some((class as u64, method as u64))),
             None => Ok(None),
@@ -144,7 +150,7 @@ fn world_of(alloc: Global, classes: &[ClassModel]) -> Result<World, WantOfMemory
         heap: Cells::new(alloc),
         states: states_of(alloc, classes)?,
         statics: statics_of(alloc, classes)?,
-        interned: Items::new(alloc),
+        interned: Literals::new(alloc),
     })
 }
 

@@ -4,3 +4,4 @@ pub mod FieldLayouts
 pub mod StringPlaces
 pub mod Walks
 pub mod Closed
+pub mod Numbering

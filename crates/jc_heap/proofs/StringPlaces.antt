@@ -4,7 +4,8 @@ use Rattle.std.specs.Option.{option_map}
 use Rattle.std.specs.declared.option.Option.{Option}
 use Rattle.std.specs.declared.option.Option.TheVariants.{Some, None}
 use Rattle.jc_class_out.specs.declared.model.ClassModel.{ClassModel}
-use Rattle.jc_jvm.specs.Worlds.{string_class, chars_slot, string_cell, chars_cell, with_cell, with_string, next_address}
+use Rattle.jc_jvm.specs.Worlds.{string_class, chars_slot, string_cell, chars_cell, with_cell, with_string, next_address, interned_in}
+use Rattle.jc_jvm.specs.declared.world.Interned.{Interned}
 use Rattle.jc_jvm.specs.declared.world.World.{World}
 use Rattle.jc_heap.specs.declared.places.StringPlace.{StringPlace}
 use Rattle.jc_heap.specs.Strings.{place_by, string_place, StringMade}
@@ -41,3 +42,21 @@ pub no_string : (classes : List ClassModel) (text : List ℕ) (before : World) �
 no_string classes text before e =
     with_string_by classes text before
     ∙ ap (λ (found : Option StringPlace). option_map (λ (p : StringPlace). with_cell (string_cell classes p.class p.slot (next_address before)) (with_cell (chars_cell text) before)) found) e
+
+-- a new String is no literal
+pub as_interned : (classes : List ClassModel) (text : List ℕ) (before after : World) → with_string classes text before ≡ Some after → after.interned ≡ before.interned
+as_interned classes text before after e = by (string_class classes) e
+  where
+    at_slot : (k : ℕ) (slot : Option ℕ) → option_map (λ (s : ℕ). with_cell (string_cell classes k s (next_address before)) (with_cell (chars_cell text) before)) slot ≡ Some after → after.interned ≡ before.interned
+    at_slot k (Some s) e = let same : with_cell (string_cell classes k s (next_address before)) (with_cell (chars_cell text) before) ≡ after = cc in ap (λ (w : World). w.interned) (sym same)
+    at_slot k None e = cc
+
+    by : (class : Option ℕ) → option_and_then (λ (k : ℕ). option_map (λ (s : ℕ). with_cell (string_cell classes k s (next_address before)) (with_cell (chars_cell text) before)) (chars_slot classes k)) class ≡ Some after →
+        after.interned ≡ before.interned
+    by (Some k) e = at_slot k (chars_slot classes k) e
+    by None e = cc
+
+pub not_interned : (classes : List ClassModel) (text : List ℕ) (before after : World) → with_string classes text before ≡ Some after → interned_in before.interned text ≡ None → interned_in after.interned text ≡ None
+not_interned classes text before after e none = ap (λ (is : List Interned). interned_in is text) (as_interned classes text before after e) ∙ none
+
+pub ruleset new_literal = (not_interned)

@@ -2,3 +2,4 @@ pub mod Layouts
 pub mod Strings
 pub mod Supers
 pub mod Above
+pub mod Named

@@ -7,6 +7,7 @@ ghost use Rattle.jc_heap.specs.Strings.{string_place};
 use crate::StringPlace;
 use crate::above::above_all;
 use crate::layouts::{find_string, zeros_of_all};
+use crate::named::NamedClasses;
 use crate::names::class_spelled;
 use crate::supers::{parents_of_all, supers_of_all};
 use jc_class_out::ClassModel;
@@ -16,9 +17,9 @@ use std::alloc::Global;
 use std::marker::Model;
 
 /// Classes, whose supertypes and fields are looked up once. Contracts see the list of the classes.
-#[derive(Debug, Drop)]
+#[derive(Drop)]
 pub struct Classes {
-    models: Items<ClassModel>,
+    named: NamedClasses,
     parents: Items<Option<u64>>,
     above: Items<Items<u64>>,
     zeros: Items<Items<Value>>,
@@ -37,9 +38,9 @@ impl Model for Classes {
 
     ghost Value = { List ClassModel };
 
-    ghost view = { λ c. c.models };
+    ghost view = { λ c. c.named };
 
-    ghost invariant = { λ c. (c.parents ≡ all_parents c.models) × AllAbove (all_supers c.models) c.above × (c.zeros ≡ all_fields c.models) × (c.object ≡ class_named c.models (codes "java/lang/Object")) × (c.string ≡ string_place c.models) };
+    ghost invariant = { λ c. (c.parents ≡ all_parents c.named) × AllAbove (all_supers c.named) c.above × (c.zeros ≡ all_fields c.named) × (c.object ≡ class_named c.named (codes "java/lang/Object")) × (c.string ≡ string_place c.named) };
 }
 
 impl Classes {
@@ -48,14 +49,15 @@ impl Classes {
     pub fn of(alloc: Global, models: Items<ClassModel>) -> Result<Classes, WantOfMemory>
         ensures { IfOk result (λ c. c ≡ models) }
     {
-        let parents = parents_of_all(alloc, models.slice())?;
-        let supers = supers_of_all(alloc, models.slice())?;
+        let named = NamedClasses::of(alloc, models)?;
+        let parents = parents_of_all(alloc, &named)?;
+        let supers = supers_of_all(alloc, &named)?;
         let above = above_all(alloc, supers.slice())?;
-        let zeros = zeros_of_all(alloc, models.slice())?;
-        let object = object_in(models.slice());
-        let string = find_string(alloc, models.slice())?;
+        let zeros = zeros_of_all(alloc, &named)?;
+        let object = object_in(named.models());
+        let string = find_string(alloc, &named)?;
         Ok(Classes {
-            models,
+            named,
             parents,
             above,
             zeros,
@@ -67,7 +69,14 @@ impl Classes {
     pub fn models(&self) -> &[ClassModel]
         ensures { result.now ≡ self.now }
     {
-        self.models.slice()
+        self.named.models()
+    }
+
+    /// The classes, which are found by their names.
+    pub fn named(&self) -> &NamedClasses
+        ensures { result.now ≡ self.now }
+    {
+        &self.named
     }
 
     /// The superclass of a class, where the classes have it.
@@ -88,7 +97,7 @@ impl Classes {
     {
         match self.above.get(class as usize) {
             Some(above) => above.slice().contains(&wanted),
-            None => self.models.len() > 0 && class == wanted,
+            None => self.named.len() > 0 && class == wanted,
         }
     }
 

@@ -1,6 +1,6 @@
 //! The fields of objects.
 ghost use Rattle.std.specs.Prelude.{◌≡◌, ◌++◌, reverse, position, IfOk, OnOk};
-ghost use Rattle.jc_jvm.specs.Classes.{super_of, line_of, fields_of, is_static_field};
+ghost use Rattle.jc_jvm.specs.Classes.{super_of, line_of, fields_of, is_static_field as static_by};
 ghost use Rattle.jc_jvm.specs.Types.{zero_of_field, new_fields};
 ghost use Rattle.jc_jvm.specs.Worlds.{chars_slot};
 ghost use Rattle.jc_heap.specs.Layouts.{own_zeros, all_fields};
@@ -9,14 +9,16 @@ ghost use Rattle.std.specs.List.{flat_map};
 
 use crate::StringPlace;
 use crate::arrays::zero;
-use crate::names::{class_named, class_spelled, field_sort, has_flag, spells};
-use jc_class_out::{ClassModel, FieldModel};
+use crate::named::{NamedClasses, class_named};
+use crate::names::{class_spelled, field_sort, has_flag, spells};
+use jc_class_out::FieldModel;
 use jc_jvm::Value;
 use jc_rules::{Items, WantOfMemory};
 use std::alloc::Global;
 
-fn is_static(field: &FieldModel) -> bool
-    ensures { result ≡ is_static_field field.now }
+/// Whether a field is static.
+pub fn is_static_field(field: &FieldModel) -> bool
+    ensures { result ≡ static_by field.now }
 {
     has_flag(8, field.flags)
 }
@@ -28,22 +30,19 @@ fn field_zero(field: &FieldModel) -> Value
 }
 
 /// The superclass of a class, where the classes have it.
-pub fn superclass(classes: &[ClassModel], class: u64) -> Option<u64>
+pub fn superclass(classes: &NamedClasses, class: u64) -> Option<u64>
     ensures { result ≡ super_of classes.now class }
 {
     let model = classes.get(class as usize)?;
     let Some(name) = &model.superclass else {
         return None;
     };
-    match class_named(classes, name.slice()) {
-        Some(number) => Some(number as u64),
-        None => None,
-    }
+    class_named(classes, name.slice())
 }
 
 // A class and its superclasses, itself first.
 #[tactic(auto, using(crate::proofs::FieldLayouts::line_rules))]
-fn line(alloc: Global, classes: &[ClassModel], class: u64) -> Result<Items<u64>, WantOfMemory>
+fn line(alloc: Global, classes: &NamedClasses, class: u64) -> Result<Items<u64>, WantOfMemory>
     ensures { IfOk result (λ found. found ≡ line_of classes.now class) }
 {
     let mut found = Items::new(alloc);
@@ -60,9 +59,10 @@ fn line(alloc: Global, classes: &[ClassModel], class: u64) -> Result<Items<u64>,
     Ok(found)
 }
 
-fn reversed_line(
+/// A class and its superclasses, itself last.
+pub fn reversed_line(
     alloc: Global,
-    classes: &[ClassModel],
+    classes: &NamedClasses,
     class: u64,
 ) -> Result<Items<u64>, WantOfMemory>
     ensures { IfOk result (λ found. found ≡ reverse (line_of classes.now class)) }
@@ -76,14 +76,15 @@ fn add_zeros(found: &mut Items<Value>, fields: &[FieldModel]) -> Result<(), Want
     ensures { OnOk result (found.new ≡ found.old ++ own_zeros fields.now) }
 {
     for field in fields {
-        if !is_static(field) {
+        if !is_static_field(field) {
             found.push(field_zero(field))?;
         }
     }
     Ok(())
 }
 
-fn fields_in(classes: &[ClassModel], class: u64) -> &[FieldModel]
+/// The fields of a class.
+pub fn fields_in(classes: &NamedClasses, class: u64) -> &[FieldModel]
     ensures { result.now ≡ fields_of classes.now class }
 {
     match classes.get(class as usize) {
@@ -94,7 +95,7 @@ fn fields_in(classes: &[ClassModel], class: u64) -> &[FieldModel]
 
 fn class_zeros(
     alloc: Global,
-    classes: &[ClassModel],
+    classes: &NamedClasses,
     class: u64,
 ) -> Result<Items<Value>, WantOfMemory>
     ensures { IfOk result (λ found. found ≡ new_fields classes.now class) }
@@ -111,7 +112,7 @@ fn class_zeros(
 #[tactic(auto, using(crate::proofs::FieldLayouts::ranges_more), unfolding(crate::specs::Layouts::all_fields))]
 pub fn zeros_of_all(
     alloc: Global,
-    classes: &[ClassModel],
+    classes: &NamedClasses,
 ) -> Result<Items<Items<Value>>, WantOfMemory>
     ensures { IfOk result (λ found. found ≡ all_fields classes.now) }
 {
@@ -132,14 +133,14 @@ fn add_marks(found: &mut Items<bool>, fields: &[FieldModel]) -> Result<(), WantO
     ensures { OnOk result (found.new ≡ found.old ++ own_marks fields.now) }
 {
     for field in fields {
-        if !is_static(field) {
+        if !is_static_field(field) {
             found.push(may_hold_chars(field))?;
         }
     }
     Ok(())
 }
 
-fn marks(alloc: Global, classes: &[ClassModel], class: u64) -> Result<Items<bool>, WantOfMemory>
+fn marks(alloc: Global, classes: &NamedClasses, class: u64) -> Result<Items<bool>, WantOfMemory>
     ensures { IfOk result (λ found. found ≡ flat_map (λ k. own_marks (fields_of classes.now k)) (reverse (line_of classes.now class))) }
 {
     let line = reversed_line(alloc, classes, class)?;
@@ -152,7 +153,7 @@ fn marks(alloc: Global, classes: &[ClassModel], class: u64) -> Result<Items<bool
 
 fn slot_for_chars(
     alloc: Global,
-    classes: &[ClassModel],
+    classes: &NamedClasses,
     class: u64,
 ) -> Result<Option<usize>, WantOfMemory>
     ensures { IfOk result (λ slot. slot ≡ chars_slot classes.now class) }
@@ -161,7 +162,8 @@ fn slot_for_chars(
     Ok(first_mark(marks.slice()))
 }
 
-fn first_mark(marks: &[bool]) -> Option<usize>
+/// The first mark that is set.
+pub fn first_mark(marks: &[bool]) -> Option<usize>
     ensures { result ≡ position (λ b. b) marks.now }
 {
     marks.iter().position(|mark| *mark)
@@ -171,11 +173,11 @@ fn first_mark(marks: &[bool]) -> Option<usize>
 #[tactic(auto, unfolding(crate::specs::Strings::string_place))]
 pub fn find_string(
     alloc: Global,
-    classes: &[ClassModel],
+    classes: &NamedClasses,
 ) -> Result<Option<StringPlace>, WantOfMemory>
     ensures { IfOk result (λ place. place ≡ string_place classes.now) }
 {
-    let Some(class) = class_spelled(classes, "java/lang/String") else {
+    let Some(class) = class_spelled(classes.models(), "java/lang/String") else {
         return Ok(None);
     };
     let class = class as u64;

@@ -14,13 +14,6 @@ pub fn has_flag(flag: u16, flags: u16) -> bool
     flags & flag != 0
 }
 
-/// The first class of a name.
-pub fn class_named(classes: &[ClassModel], name: &[u16]) -> Option<usize>
-    ensures { result ≡ class_by_name classes.now name.now }
-{
-    classes.iter().position(|class| class.name.slice() == name)
-}
-
 /// Whether units spell a text of ASCII.
 pub fn spells(units: &[u16], text: &str) -> bool
     ensures { result ≡ bytes_eq units.now text.now }

@@ -1,5 +1,5 @@
 //! Strings, and those of literals.
-ghost use Rattle.std.specs.Prelude.{◌≡◌, IfOk};
+ghost use Rattle.std.specs.Prelude.{◌≡◌, IfOk, None};
 ghost use Rattle.jc_jvm.specs.Objects.{literal_made, literal_by, literal_pushed};
 ghost use Rattle.jc_jvm.specs.Worlds.{with_cell, with_string, string_cell, string_address, chars_cell, next_address, interned_in};
 ghost use Rattle.jc_plain.specs.Acted.{acted};
@@ -72,14 +72,11 @@ pub fn make_string(
 pub fn interned(world: &World, text: &[u16]) -> Option<u64>
     ensures { result ≡ interned_in world.now.interned text.now }
 {
-    for before in world.interned.slice() {
-        if before.text.slice() == text {
-            return Some(before.address);
-        }
-    }
-    None
+    world.interned.find(text)
 }
 
+// A string of the constant pool that wasn't used before.
+#[tactic(auto, using(crate::proofs::StringPlaces::new_literal))]
 fn make_literal(
     alloc: Global,
     classes: &Classes,
@@ -88,11 +85,12 @@ fn make_literal(
     next: u32,
     now: &mut Frame,
 ) -> Result<Act, WantOfMemory>
+    requires { interned_in world.old.interned text.now ≡ None }
     ensures { IfOk result (λ act. literal_made text.now world.old next now.old (with_string classes.now text.now world.old) ≡ (world.new, acted act now.new)) }
 {
     match make_string(alloc, classes, text.slice(), world)? {
         Some(address) => {
-            world.interned.push(Interned {
+            world.interned.add(Interned {
                 text: text.clone()?,
                 address,
             })?;

@@ -4,27 +4,27 @@ ghost use Rattle.std.specs.List.{filter_map};
 ghost use Rattle.jc_jvm.specs.Classes.{class_named as class_by_name, listed};
 ghost use Rattle.jc_heap.specs.Supers.{supers_in, all_supers, all_parents};
 
-use crate::names::class_named;
+use crate::named::{NamedClasses, class_named};
 use jc_class_out::ClassModel;
 use jc_rules::{Items, WantOfMemory};
 use std::alloc::Global;
 
 fn add_named(
     found: &mut Items<u64>,
-    classes: &[ClassModel],
+    classes: &NamedClasses,
     name: &[u16],
 ) -> Result<(), WantOfMemory>
     ensures { OnOk result (found.new ≡ found.old ++ listed (class_by_name classes.now name.now)) }
 {
     match class_named(classes, name) {
-        Some(number) => found.push(number as u64),
+        Some(number) => found.push(number),
         None => Ok(()),
     }
 }
 
 fn add_super(
     found: &mut Items<u64>,
-    classes: &[ClassModel],
+    classes: &NamedClasses,
     class: &ClassModel,
 ) -> Result<(), WantOfMemory>
     ensures { OnOk result (found.new ≡ found.old ++ listed (option_and_then (class_by_name classes.now) class.now.superclass)) }
@@ -38,7 +38,7 @@ fn add_super(
 #[tactic(auto, using(crate::proofs::Below::filter_map_more))]
 fn add_interfaces(
     found: &mut Items<u64>,
-    classes: &[ClassModel],
+    classes: &NamedClasses,
     class: &ClassModel,
 ) -> Result<(), WantOfMemory>
     ensures { OnOk result (found.new ≡ found.old ++ filter_map (class_by_name classes.now) class.now.interfaces) }
@@ -51,7 +51,7 @@ fn add_interfaces(
 
 fn supers_of(
     alloc: Global,
-    classes: &[ClassModel],
+    classes: &NamedClasses,
     class: &ClassModel,
 ) -> Result<Items<u64>, WantOfMemory>
     ensures { IfOk result (λ found. found ≡ supers_in classes.now class.now) }
@@ -66,39 +66,36 @@ fn supers_of(
 #[tactic(auto, unfolding(crate::specs::Supers::all_supers))]
 pub fn supers_of_all(
     alloc: Global,
-    classes: &[ClassModel],
+    classes: &NamedClasses,
 ) -> Result<Items<Items<u64>>, WantOfMemory>
     ensures { IfOk result (λ found. found ≡ all_supers classes.now) }
 {
     let mut found = Items::new(alloc);
-    for class in classes {
+    for class in classes.models() {
         found.push(supers_of(alloc, classes, class)?)?;
     }
     Ok(found)
 }
 
-fn parent_of(classes: &[ClassModel], class: &ClassModel) -> Option<u64>
+fn parent_of(classes: &NamedClasses, class: &ClassModel) -> Option<u64>
     ensures { result ≡ option_and_then (class_by_name classes.now) class.now.superclass }
 {
     let Some(name) = &class.superclass else {
         return None;
     };
-    match class_named(classes, name.slice()) {
-        Some(number) => Some(number as u64),
-        None => None,
-    }
+    class_named(classes, name.slice())
 }
 
 /// The superclass of each class, where the classes have it.
 #[tactic(auto, unfolding(crate::specs::Supers::all_parents))]
 pub fn parents_of_all(
     alloc: Global,
-    classes: &[ClassModel],
+    classes: &NamedClasses,
 ) -> Result<Items<Option<u64>>, WantOfMemory>
     ensures { IfOk result (λ found. found ≡ all_parents classes.now) }
 {
     let mut found = Items::new(alloc);
-    for class in classes {
+    for class in classes.models() {
         found.push(parent_of(classes, class))?;
     }
     Ok(found)

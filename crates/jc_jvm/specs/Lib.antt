@@ -12,3 +12,4 @@ pub mod Calls
 pub mod Table
 pub mod Start
 pub mod Runs
+pub mod Numbered

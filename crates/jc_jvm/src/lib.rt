@@ -5,9 +5,11 @@
 mod cells;
 mod frame;
 mod groups;
+mod literals;
 mod operands;
 mod slots;
 mod statics;
+mod texts;
 mod value;
 mod world;
 
@@ -17,8 +19,10 @@ pub use groups::{
     Comparison, Division, Element, Group, IntConversion, LongConversion, Operator, Plain, Shift,
     Width,
 };
+pub use literals::Literals;
 pub use operands::{Operands, Sort, sort_of};
 pub use slots::Slots;
 pub use statics::Statics;
+pub use texts::Texts;
 pub use value::{Base, Shape, Value};
 pub use world::{ClassState, Ending, Fault, Interned, Native, World};

@@ -1,5 +1,5 @@
 //! What all frames share.
-use crate::{Cells, Slots, Statics};
+use crate::{Cells, Literals, Slots, Statics};
 use jc_rules::Items;
 
 /// How far the initialisation of a class has come (JVMS 5.5).
@@ -20,12 +20,12 @@ pub struct Interned {
 
 /// What all frames share: the heap, of each class its state and a value for each of its fields, of which only the static ones count,
 /// and the String of each literal that was used.
-#[derive(Debug, Drop)]
+#[derive(Drop)]
 pub struct World {
     pub heap: Cells,
     pub states: Slots<ClassState>,
     pub statics: Statics,
-    pub interned: Items<Interned>,
+    pub interned: Literals,
 }
 
 /// An exception that the machine makes (JVMS 2.10, 6.5).

@@ -10,11 +10,11 @@ use Rattle.jc_class_out.specs.declared.model.ClassModel.{ClassModel}
 use Rattle.jc_jvm.specs.Classes.{class_named, or_else, listed, first_some, is_field, fields_of, interfaces_of, super_of, field_on}
 use Rattle.jc_lookups.specs.Interfaces.{interface_names, among_names}
 
-or_else-assoc : {A : Type 0} (x y z : Option A) → or_else (or_else x y) z ≡ or_else x (or_else y z)
+pub or_else-assoc : {A : Type 0} (x y z : Option A) → or_else (or_else x y) z ≡ or_else x (or_else y z)
 or_else-assoc (Some a) y z = refl
 or_else-assoc None y z = refl
 
-or_else-none : {A : Type 0} (x : Option A) → or_else x None ≡ x
+pub or_else-none : {A : Type 0} (x : Option A) → or_else x None ≡ x
 or_else-none (Some a) = refl
 or_else-none None = refl
 
@@ -42,7 +42,7 @@ abbrev pub above_on : List ClassModel → List ℕ → List ℕ → ℕ → ℕ 
 above_on classes name descriptor n k =
     or_else (among_names (field_on classes name descriptor n) (class_named classes) (interface_names classes k)) (option_and_then (field_on classes name descriptor n) (super_of classes k))
 
-field_on-suc : (classes : List ClassModel) (name descriptor : List ℕ) (n k : ℕ) →
+pub field_on-suc : (classes : List ClassModel) (name descriptor : List ℕ) (n k : ℕ) →
     field_on classes name descriptor (suc n) k ≡ or_else (option_map (λ (i : ℕ). (k, i)) (position (is_field name descriptor) (fields_of classes k))) (above_on classes name descriptor n k)
 unfolding field_on
 field_on-suc classes name descriptor n k =
@@ -78,41 +78,3 @@ own_field classes name descriptor n k i some e =
 pub no_own_field : (classes : List ClassModel) (name descriptor : List ℕ) (n k : ℕ) → 0 < n → position (is_field name descriptor) (fields_of classes k) ≡ None → field_on classes name descriptor n k ≡ above_on classes name descriptor (n - 1) k
 no_own_field classes name descriptor n k some e =
     field_more classes name descriptor n k some ∙ ap (λ (o : Option ℕ). or_else (option_map (λ (x : ℕ). (k, x)) o) (above_on classes name descriptor (n - 1) k)) e
-
--- an interface has it
-pub field_above : (classes : List ClassModel) (name descriptor : List ℕ) (n k : ℕ) (names : List (List ℕ)) (i : ℕ) (d : List ℕ) (number : ℕ) (found : ℕ × ℕ) → 0 < n →
-    position (is_field name descriptor) (fields_of classes k) ≡ None → names ≡ interface_names classes k → i < length names →
-    class_named classes (get_or names i d) ≡ Some number → field_on classes name descriptor (n - 1) number ≡ Some found →
-    among_names (field_on classes name descriptor (n - 1)) (class_named classes) (drop i names) ≡ among_names (field_on classes name descriptor (n - 1)) (class_named classes) names →
-    Some found ≡ field_on classes name descriptor n k
-field_above classes name descriptor n k names i d number found some none is inside named has same =
-    let f : ℕ → Option (ℕ × ℕ) = field_on classes name descriptor (n - 1) in
-    let rest : Option (ℕ × ℕ) = among_names f (class_named classes) (drop (suc i) names) in
-    let here : among_names f (class_named classes) names ≡ Some found =
-    sym same ∙ name_more f (class_named classes) names i d inside
-    ∙ ap (λ (o : Option ℕ). or_else (option_and_then f o) rest) named ∙ ap (λ (o : Option (ℕ × ℕ)). or_else o rest) has in
-    sym (no_own_field classes name descriptor n k some none
-    ∙ ap (λ (ns : List (List ℕ)). or_else (among_names f (class_named classes) ns) (option_and_then f (super_of classes k))) (sym is)
-    ∙ ap (λ (o : Option (ℕ × ℕ)). or_else o (option_and_then f (super_of classes k))) here)
-
--- an interface hasn't
-pub not_by_name : {A : Type 0} (f : ℕ → Option A) (named : List ℕ → Option ℕ) (names : List (List ℕ)) (i : ℕ) (d : List ℕ) (whole : Option A) → i < length names →
-    option_and_then f (named (get_or names i d)) ≡ None → among_names f named (drop i names) ≡ whole → among_names f named (drop (i + 1) names) ≡ whole
-not_by_name {A = A} f named names i d whole inside none e =
-    let next : i + 1 ≡ suc i = omega arith in
-    ap (λ (j : ℕ). among_names f named (drop j names)) next
-    ∙ ap (λ (o : Option A). or_else o (among_names f named (drop (suc i) names))) (sym none)
-    ∙ sym (name_more f named names i d inside)
-    ∙ e
-
--- no interface has it
-pub field_of_super : (classes : List ClassModel) (name descriptor : List ℕ) (n k : ℕ) (names : List (List ℕ)) (i : ℕ) (found : Option (ℕ × ℕ)) → 0 < n →
-    position (is_field name descriptor) (fields_of classes k) ≡ None → names ≡ interface_names classes k → length names ≤ i →
-    among_names (field_on classes name descriptor (n - 1)) (class_named classes) (drop i names) ≡ among_names (field_on classes name descriptor (n - 1)) (class_named classes) names →
-    found ≡ option_and_then (field_on classes name descriptor (n - 1)) (super_of classes k) → found ≡ field_on classes name descriptor n k
-field_of_super classes name descriptor n k names i found some none is all same e =
-    let f : ℕ → Option (ℕ × ℕ) = field_on classes name descriptor (n - 1) in
-    let gone : among_names f (class_named classes) names ≡ None = sym same ∙ ap (λ (ns : List (List ℕ)). among_names f (class_named classes) ns) (drop_all i names all) in
-    e ∙ sym (no_own_field classes name descriptor n k some none
-    ∙ ap (λ (ns : List (List ℕ)). or_else (among_names f (class_named classes) ns) (option_and_then f (super_of classes k))) (sym is)
-    ∙ ap (λ (o : Option (ℕ × ℕ)). or_else o (option_and_then f (super_of classes k))) gone)

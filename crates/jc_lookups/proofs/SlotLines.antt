@@ -1,4 +1,4 @@
--- Lists of classes and marks of their fields, as loops make them.
+-- Marks of instance fields, as loops make them.
 use Rattle.std.proofs.Common.{◌≡◌, ℕ, zero, suc, ◌+◌, ◌-◌, ◌<◌, ◌==◌, ◌&&◌, List, [], ◌∷◌, ◌++◌, Bool, cond, nat_lt, map, filter, position, length, not, refl, sym, ap, ◌∙◌, arith, append_assoc}
 use Rattle.std.proofs.lemmas.List.{append-nil, length-map}
 use Rattle.std.specs.List.{flat_map, position_or_len}
@@ -8,41 +8,6 @@ use Rattle.jc_class_out.specs.declared.model.ClassModel.{ClassModel}
 use Rattle.jc_class_out.specs.declared.model.FieldModel.{FieldModel}
 use Rattle.jc_jvm.specs.Classes.{line_on, super_of, own_fields, fields_of, is_field, is_static_field}
 use Rattle.jc_lookups.specs.FieldMarks.{own_marks}
-
-line_on-none : (classes : List ClassModel) (n : ℕ) → line_on classes n None ≡ []
-unfolding line_on
-line_on-none classes zero = refl
-line_on-none classes (suc n) = refl
-
-line_on-zero : (classes : List ClassModel) (here : Option ℕ) → line_on classes 0 here ≡ []
-unfolding line_on
-line_on-zero classes None = refl
-line_on-zero classes (Some k) = refl
-
-line_on-suc : (classes : List ClassModel) (n k : ℕ) → line_on classes (suc n) (Some k) ≡ k ∷ line_on classes n (super_of classes k)
-unfolding line_on
-line_on-suc classes n k = refl
-
-line_on-at : (classes : List ClassModel) (m n k : ℕ) → m ≡ suc n → line_on classes m (Some k) ≡ k ∷ line_on classes n (super_of classes k)
-line_on-at classes m n k e = rw e (line_on-suc classes n k)
-
--- one class more of a line
-pub line_on-more : (classes : List ClassModel) (found : List ℕ) (n i k : ℕ) → i < n → (found ++ k ∷ []) ++ line_on classes (n - (i + 1)) (super_of classes k) ≡ found ++ line_on classes (n - i) (Some k)
-line_on-more classes found n i k below =
-    rw append_assoc (ap (λ rest. found ++ rest) (sym (line_on-at classes (n - i) (n - (i + 1)) k (omega arith))))
-
-pub ruleset line_rules = (line_on-more)
-
--- where a line ends
-pub line_done : (classes : List ClassModel) (found whole : List ℕ) (m : ℕ) (here : Option ℕ) → here ≡ None → found ++ line_on classes m here ≡ whole → found ≡ whole
-line_done classes found whole m here none e =
-    sym (append-nil found) ∙ ap (λ (rest : List ℕ). found ++ rest) (sym (line_on-none classes m)) ∙ ap (λ (h : Option ℕ). found ++ line_on classes m h) (sym none) ∙ e
-
-pub line_over : (classes : List ClassModel) (found whole : List ℕ) (m : ℕ) (here : Option ℕ) → m ≡ 0 → found ++ line_on classes m here ≡ whole → found ≡ whole
-line_over classes found whole m here none e =
-    sym (append-nil found) ∙ ap (λ (rest : List ℕ). found ++ rest) (sym (line_on-zero classes here)) ∙ ap (λ (n : ℕ). found ++ line_on classes n here) (sym none) ∙ e
-
--- ---- marks of instance fields
 
 own-marks : (class : ℕ) (name descriptor : List ℕ) (k : ℕ) (fields : List FieldModel) (rest : List (ℕ × FieldModel)) →
     map (λ (s : ℕ × FieldModel). (s.0 == class) && is_field name descriptor s.1) (map (λ (f : FieldModel). (k, f)) fields ++ rest)

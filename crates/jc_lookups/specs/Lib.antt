@@ -1,3 +1,4 @@
 pub mod Deepened
 pub mod FieldMarks
 pub mod Interfaces
+pub mod Searched

@@ -5,6 +5,7 @@ mod calls;
 mod fields;
 mod names;
 mod natives;
+mod seeking;
 mod shapes;
 mod slots;
 mod sorts;

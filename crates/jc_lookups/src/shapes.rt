@@ -6,8 +6,7 @@ ghost use Rattle.jc_jvm.specs.Types.{primitive_of, shape_of_class, based, shape_
 ghost use Rattle.jc_jvm.specs.Table.{type_of_code};
 ghost use Rattle.jc_lookups.specs.Deepened.{deepened, bare_shape};
 
-use jc_class_out::ClassModel;
-use jc_heap::class_named;
+use jc_heap::{NamedClasses, class_named};
 use jc_jvm::{Base, Shape};
 
 fn primitive(unit: u16) -> Option<Base>
@@ -40,13 +39,13 @@ fn plain_shape(base: Option<Base>) -> Option<Shape>
     }
 }
 
-fn class_shape(classes: &[ClassModel], name: &[u16]) -> Option<Shape>
+fn class_shape(classes: &NamedClasses, name: &[u16]) -> Option<Shape>
     ensures dims { IfSome result (λ s. s.dims ≡ 0) }
     ensures value { result ≡ option_map shape_of_class (class_by_name classes.now name.now) }
 {
     match class_named(classes, name) {
         Some(class) => Some(Shape {
-            base: Base::Class(class as u64),
+            base: Base::Class(class),
             dims: 0,
         }),
         None => None,
@@ -78,7 +77,7 @@ fn without_last(units: &[u16]) -> &[u16]
 }
 
 // The type of a descriptor that is no array's: its first unit, and what is behind.
-fn shape_without_dims(classes: &[ClassModel], unit: u16, rest: &[u16]) -> Option<Shape>
+fn shape_without_dims(classes: &NamedClasses, unit: u16, rest: &[u16]) -> Option<Shape>
     ensures value { result ≡ bare_shape classes.now unit rest.now }
     ensures dims { IfSome result (λ s. s.dims ≡ 0) }
 {
@@ -91,7 +90,7 @@ fn shape_without_dims(classes: &[ClassModel], unit: u16, rest: &[u16]) -> Option
 
 /// The type of a field descriptor, where the classes have its class.
 #[tactic(auto, using(crate::proofs::Depths::begins, crate::proofs::Depths::one_deeper, crate::proofs::Depths::bare_at, crate::proofs::Depths::no_element))]
-pub fn shape_by_descriptor(classes: &[ClassModel], descriptor: &[u16]) -> Option<Shape>
+pub fn shape_by_descriptor(classes: &NamedClasses, descriptor: &[u16]) -> Option<Shape>
     ensures { result ≡ shape_of_descriptor classes.now descriptor.now }
 {
     for dims in 0..descriptor.len() {
@@ -107,7 +106,7 @@ pub fn shape_by_descriptor(classes: &[ClassModel], descriptor: &[u16]) -> Option
 }
 
 /// The class or array type that a name in an instruction means: arrays stand as descriptors.
-pub fn shape_by_name(classes: &[ClassModel], name: &[u16]) -> Option<Shape>
+pub fn shape_by_name(classes: &NamedClasses, name: &[u16]) -> Option<Shape>
     ensures { result ≡ shape_named classes.now name.now }
 {
     match name {

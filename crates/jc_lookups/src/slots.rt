@@ -1,52 +1,15 @@
 //! Where a field stands in objects.
 ghost use Rattle.std.specs.Prelude.{◌≡◌, ◌==◌, ◌++◌, ◌&&◌, reverse, position, IfOk, OnOk};
 ghost use Rattle.std.specs.List.{flat_map};
-ghost use Rattle.jc_jvm.specs.Classes.{fields_of, is_field, is_static_field, line_of, slot_of};
+ghost use Rattle.jc_jvm.specs.Classes.{fields_of, is_field, line_of, slot_of};
 ghost use Rattle.jc_jvm.specs.Table.{instance_slot};
 ghost use Rattle.jc_lookups.specs.FieldMarks.{own_marks};
 
-use crate::fields::{fields_in, find_field, is_named};
-use jc_class_out::{ClassModel, FieldModel};
-use jc_heap::{has_flag, superclass};
+use crate::fields::{find_field, is_named};
+use jc_class_out::FieldModel;
+use jc_heap::{NamedClasses, fields_in, first_mark, is_static_field, reversed_line};
 use jc_rules::{Items, WantOfMemory};
 use std::alloc::Global;
-
-// A class and its superclasses, itself first.
-#[tactic(auto, using(crate::proofs::SlotLines::line_rules))]
-fn line(alloc: Global, classes: &[ClassModel], class: u64) -> Result<Items<u64>, WantOfMemory>
-    ensures { IfOk result (λ found. found ≡ line_of classes.now class) }
-{
-    let mut found = Items::new(alloc);
-    let mut here = Some(class);
-    for done in 0..classes.len() {
-        match here {
-            Some(number) => {
-                found.push(number)?;
-                here = superclass(classes, number);
-            }
-            None => return Ok(found),
-        }
-    }
-    Ok(found)
-}
-
-fn reversed_line(
-    alloc: Global,
-    classes: &[ClassModel],
-    class: u64,
-) -> Result<Items<u64>, WantOfMemory>
-    ensures { IfOk result (λ found. found ≡ reverse (line_of classes.now class)) }
-{
-    let mut found = line(alloc, classes, class)?.into_vec();
-    found.reverse();
-    Ok(Items::of(found))
-}
-
-fn is_static(field: &FieldModel) -> bool
-    ensures { result ≡ is_static_field field.now }
-{
-    has_flag(8, field.flags)
-}
 
 fn add_marks(
     found: &mut Items<bool>,
@@ -58,7 +21,7 @@ fn add_marks(
     ensures { OnOk result (found.new ≡ found.old ++ own_marks here name.now descriptor.now fields.now) }
 {
     for field in fields {
-        if !is_static(field) {
+        if !is_static_field(field) {
             found.push(here && is_named(name, descriptor, field))?;
         }
     }
@@ -68,7 +31,7 @@ fn add_marks(
 // Of each instance field of a class, its superclasses' first, whether it is the one that is looked for.
 fn marks(
     alloc: Global,
-    classes: &[ClassModel],
+    classes: &NamedClasses,
     class: u64,
     name: &[u16],
     descriptor: &[u16],
@@ -89,15 +52,9 @@ fn marks(
     Ok(found)
 }
 
-fn first_mark(marks: &[bool]) -> Option<usize>
-    ensures { result ≡ position (λ b. b) marks.now }
-{
-    marks.iter().position(|mark| *mark)
-}
-
 fn slot_in(
     alloc: Global,
-    classes: &[ClassModel],
+    classes: &NamedClasses,
     class: u64,
     name: &[u16],
     descriptor: &[u16],
@@ -111,14 +68,14 @@ fn slot_in(
 /// The slot of an instance field in objects.
 pub fn find_slot(
     alloc: Global,
-    classes: &[ClassModel],
+    classes: &NamedClasses,
     class: &[u16],
     name: &[u16],
     descriptor: &[u16],
 ) -> Result<Option<usize>, WantOfMemory>
     ensures { IfOk result (λ slot. slot ≡ instance_slot classes.now class.now name.now descriptor.now) }
 {
-    match find_field(classes, class, name, descriptor) {
+    match find_field(alloc, classes, class, name, descriptor)? {
         Some((declaring, _)) => slot_in(alloc, classes, declaring, name, descriptor),
         None => Ok(None),
     }

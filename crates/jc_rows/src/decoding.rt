@@ -9,7 +9,8 @@ ghost use Rattle.jc_rows.specs.Decoded.{return_row, row_without_operand, row_of_
 use crate::Row;
 use crate::members::{make_array, read_class, read_dims, read_member};
 use jc_calls::method_of;
-use jc_class_out::{ClassModel, Ins, Loaded, Operand, SwitchCase};
+use jc_class_out::{Ins, Loaded, Operand, SwitchCase};
+use jc_heap::NamedClasses;
 use jc_jvm::{Group, Shape, Sort};
 use jc_lookups::{result_sort_of, shape_by_code};
 use jc_opcodes::{Opcode, by_number};
@@ -17,10 +18,10 @@ use jc_plain::{group_of, plain_of};
 use jc_rules::{Items, WantOfMemory};
 use std::alloc::Global;
 
-fn give_back(classes: &[ClassModel], class: u64, method: u64, wanted: Option<Sort>) -> Row
+fn give_back(classes: &NamedClasses, class: u64, method: u64, wanted: Option<Sort>) -> Row
     ensures { result ≡ return_row wanted (method_at classes.now (class, method)) }
 {
-    match method_of(classes, class, method) {
+    match method_of(classes.models(), class, method) {
         Some(model) => Row::Return {
             wanted,
             given: result_sort_of(model.descriptor.slice()),
@@ -29,7 +30,7 @@ fn give_back(classes: &[ClassModel], class: u64, method: u64, wanted: Option<Sor
     }
 }
 
-fn without_operand(classes: &[ClassModel], class: u64, method: u64, group: Group) -> Row
+fn without_operand(classes: &NamedClasses, class: u64, method: u64, group: Group) -> Row
     ensures { result ≡ row_without_operand classes.now (class, method) group }
 {
     match group {
@@ -74,7 +75,7 @@ fn of_switch(group: Group, otherwise: u32, cases: &Items<SwitchCase>) -> Result<
 
 fn by_operand(
     alloc: Global,
-    classes: &[ClassModel],
+    classes: &NamedClasses,
     class: u64,
     method: u64,
     group: Group,
@@ -100,7 +101,7 @@ fn by_operand(
 
 fn by_code(
     alloc: Global,
-    classes: &[ClassModel],
+    classes: &NamedClasses,
     class: u64,
     method: u64,
     code: Opcode,
@@ -118,7 +119,7 @@ fn by_code(
 /// What an instruction of the method of that number in the class of that number does.
 pub fn read_row(
     alloc: Global,
-    classes: &[ClassModel],
+    classes: &NamedClasses,
     class: u64,
     method: u64,
     ins: &Ins,

@@ -6,8 +6,7 @@ ghost use Rattle.jc_rows.specs.Decoded.{static_load_row, static_store_row, field
 
 use crate::Row;
 use jc_calls::{find_special_method, find_static_method};
-use jc_class_out::ClassModel;
-use jc_heap::{class_named, field_sort, has_flag};
+use jc_heap::{NamedClasses, class_named, field_sort, has_flag};
 use jc_jvm::{Group, Shape, Sort};
 use jc_lookups::{
     find_slot, find_static_field, shape_by_name, sorts_of_object_call, sorts_of_static_call,
@@ -82,7 +81,7 @@ fn call_virtual(
 /// The row of an instruction that names a field or a method, in the class of number `current`.
 pub fn read_member(
     alloc: Global,
-    classes: &[ClassModel],
+    classes: &NamedClasses,
     current: u64,
     class: &Items<u16>,
     name: &Items<u16>,
@@ -97,11 +96,11 @@ pub fn read_member(
     match group {
         Group::StaticLoads => Ok(load_static(
             field_sort(typed),
-            find_static_field(classes, of, named, typed),
+            find_static_field(alloc, classes, of, named, typed)?,
         )),
         Group::StaticStores => Ok(store_static(
             field_sort(typed),
-            find_static_field(classes, of, named, typed),
+            find_static_field(alloc, classes, of, named, typed)?,
         )),
         Group::FieldLoads => {
             let slot = find_slot(alloc, classes, of, named, typed)?;
@@ -125,7 +124,7 @@ pub fn read_member(
     }
 }
 
-fn class_has_flag(classes: &[ClassModel], flag: u16, class: u64) -> bool
+fn class_has_flag(classes: &NamedClasses, flag: u16, class: u64) -> bool
     ensures { result ≡ has_class_flag classes.now flag class }
 {
     match classes.get(class as usize) {
@@ -135,15 +134,15 @@ fn class_has_flag(classes: &[ClassModel], flag: u16, class: u64) -> bool
 }
 
 // 1,536 are the flags of interfaces and of abstract classes.
-fn make(classes: &[ClassModel], class: Option<usize>) -> Row
+fn make(classes: &NamedClasses, class: Option<u64>) -> Row
     ensures { result ≡ new_row classes.now class }
 {
     match class {
         Some(class) => {
-            if class_has_flag(classes, 1536, class as u64) {
+            if class_has_flag(classes, 1536, class) {
                 Row::Nothing
             } else {
-                Row::New(class as u64)
+                Row::New(class)
             }
         }
         None => Row::Nothing,
@@ -161,7 +160,7 @@ pub fn make_array(of: Option<Shape>) -> Row
 }
 
 /// The row of an instruction that names a class or an array type.
-pub fn read_class(classes: &[ClassModel], name: &[u16], group: Group) -> Row
+pub fn read_class(classes: &NamedClasses, name: &[u16], group: Group) -> Row
     ensures { result ≡ row_of_class classes.now name.now group }
 {
     match group {
@@ -183,7 +182,7 @@ fn make_nest(dims: u8, shape: Option<Shape>) -> Row
 }
 
 /// The row of multianewarray.
-pub fn read_dims(classes: &[ClassModel], name: &[u16], dims: u8, group: Group) -> Row
+pub fn read_dims(classes: &NamedClasses, name: &[u16], dims: u8, group: Group) -> Row
     ensures { result ≡ row_of_dims classes.now name.now dims group }
 {
     match group {

@@ -4,7 +4,8 @@ ghost use Rattle.jc_class_out.specs.Instructions.{ins_size};
 ghost use Rattle.jc_rows.specs.Laid.{placed_as, places_of};
 
 use crate::{Placed, read_row};
-use jc_class_out::{ClassModel, Ins};
+use jc_class_out::Ins;
+use jc_heap::NamedClasses;
 use jc_rules::{Items, WantOfMemory};
 use jc_sizes::ins_bytes;
 use std::alloc::Global;
@@ -36,7 +37,7 @@ fn skip(places: &mut CodePlaces, count: u32) -> Result<(), WantOfMemory>
 fn add_place(
     alloc: Global,
     found: &mut CodePlaces,
-    classes: &[ClassModel],
+    classes: &NamedClasses,
     class: u64,
     method: u64,
     at: u32,
@@ -55,7 +56,7 @@ fn add_place(
 /// The rows of these instructions.
 pub fn places(
     alloc: Global,
-    classes: &[ClassModel],
+    classes: &NamedClasses,
     class: u64,
     method: u64,
     instructions: &[Ins],

@@ -8,7 +8,7 @@ use crate::Placed;
 use crate::places::{CodePlaces, places};
 use jc_calls::{code_of, methods_in};
 use jc_class_out::ClassModel;
-use jc_heap::Classes;
+use jc_heap::{Classes, NamedClasses};
 use jc_rules::{Items, WantOfMemory};
 use std::alloc::Global;
 use std::marker::Model;
@@ -34,13 +34,13 @@ impl Model for Program {
 
 fn method_rows(
     alloc: Global,
-    classes: &[ClassModel],
+    classes: &NamedClasses,
     class: u64,
     method: u64,
 ) -> Result<CodePlaces, WantOfMemory>
     ensures { IfOk result (λ found. found ≡ rows_of_method classes.now class method) }
 {
-    match code_of(classes, class, method) {
+    match code_of(classes.models(), class, method) {
         Some(code) => places(alloc, classes, class, method, code.ins.slice()),
         None => Ok(Items::new(alloc)),
     }
@@ -49,20 +49,20 @@ fn method_rows(
 #[tactic(auto, using(crate::proofs::Ranges::method_rows_more))]
 fn class_rows(
     alloc: Global,
-    classes: &[ClassModel],
+    classes: &NamedClasses,
     class: u64,
 ) -> Result<Items<CodePlaces>, WantOfMemory>
     ensures { IfOk result (λ found. found ≡ rows_of_class classes.now class) }
 {
     let mut found = Items::new(alloc);
-    for method in 0..methods_in(classes, class).len() {
+    for method in 0..methods_in(classes.models(), class).len() {
         found.push(method_rows(alloc, classes, class, method as u64)?)?;
     }
     Ok(found)
 }
 
 #[tactic(auto, using(crate::proofs::Ranges::class_rows_more), unfolding(crate::specs::Laid::all_rows))]
-fn all_rows(alloc: Global, classes: &[ClassModel]) -> Result<Items<Items<CodePlaces>>, WantOfMemory>
+fn all_rows(alloc: Global, classes: &NamedClasses) -> Result<Items<Items<CodePlaces>>, WantOfMemory>
     ensures { IfOk result (λ found. found ≡ rows_of_all classes.now) }
 {
     let mut found = Items::new(alloc);
@@ -78,7 +78,7 @@ impl Program {
         ensures { IfOk result (λ p. p ≡ models) }
     {
         let classes = Classes::of(alloc, models)?;
-        let rows = all_rows(alloc, classes.models())?;
+        let rows = all_rows(alloc, classes.named())?;
         Ok(Program { classes, rows })
     }
 

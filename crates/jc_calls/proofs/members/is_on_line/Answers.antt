@@ -11,11 +11,11 @@ returns-in-None c = on_end c.args.classes.now c.args.class (length c.args.classe
 
 pub returns-then-number-class : goal.returns-then-number-class
 returns-then-number-class c =
-    on_found c.args.classes.now c.args.class (length c.args.classes.now) c.loop-done.done c.in-Some.number _ c.loop-done-test.true c.if-number-class.true
+    on_found c.args.classes.now c.args.class (length c.args.classes.now) c.loop-done.done c.in-Some.number _ (omega (arith, c.loop-done-test.true, c.len-done-end.ensures)) c.if-number-class.true
     (ap (λ (here : Option ℕ). is_on c.args.classes.now c.args.class (length c.args.classes.now - c.loop-done.done) here) (sym c.in-Some.is) ∙ c.loop-done.invariant)
 
 pub loop-done-preserved : goal.loop-done-preserved
 loop-done-preserved c =
     ap (λ (here : Option ℕ). is_on c.args.classes.now c.args.class (length c.args.classes.now - (c.loop-done.done + 1)) here) c.superclass-here.ensures
-    ∙ on_more c.args.classes.now c.args.class (length c.args.classes.now) c.loop-done.done c.in-Some.number _ c.loop-done-test.true c.if-number-class.false
+    ∙ on_more c.args.classes.now c.args.class (length c.args.classes.now) c.loop-done.done c.in-Some.number _ (omega (arith, c.loop-done-test.true, c.len-done-end.ensures)) c.if-number-class.false
     (ap (λ (here : Option ℕ). is_on c.args.classes.now c.args.class (length c.args.classes.now - c.loop-done.done) here) (sym c.in-Some.is) ∙ c.loop-done.invariant)
