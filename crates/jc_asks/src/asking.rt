@@ -1,11 +1,12 @@
 //! Questions about the types of a table, and their answers in words.
 use crate::calling::meant;
 use crate::conversions::{constant_of, conversion_words};
+use crate::having::{hiding_words, member_words, override_words, selected_words};
 use crate::heads::{class_of_name, scope_of, table_of};
 use crate::inferring::inferred;
 use crate::names::Scope;
 use crate::types::{read_argument, read_type};
-use crate::words::{put_bounds, put_erased, put_type};
+use crate::words::{put_bounds, put_erased, put_type, yes_or_no};
 use crate::{Read, Unreadable};
 use jc_convert::{assignment, cast, invocation};
 use jc_lub::{lub, provably_distinct};
@@ -75,6 +76,10 @@ impl Asker {
             "cast" => self.cast(alloc, first, second),
             "infer" => self.infer(alloc, line),
             "call" => self.call(alloc, line),
+            "members" => member_words(alloc, &self.scope, &self.table, first, second),
+            "overrides" => override_words(alloc, &self.scope, &self.table, first, second),
+            "hides" => hiding_words(alloc, &self.scope, &self.table, first, second),
+            "select" => selected_words(alloc, &self.scope, &self.table, first, second),
             _ => Err(Stop::Refused(Unreadable)),
         }
     }
@@ -286,10 +291,6 @@ impl Asker {
         let count = types.len();
         Ok(format!(in alloc; "{count}")?)
     }
-}
-
-fn yes_or_no(holds: bool) -> &'static str {
-    if holds { "Yes" } else { "No" }
 }
 
 /// The number of the rule that a fault breaks, and the number of the argument if it is one's.

@@ -1,12 +1,12 @@
 //! Calls in words, and the member that each means.
 use crate::inferring::{method_of, types_in};
 use crate::names::Scope;
-use crate::words::put_type;
+use crate::words::{put_result, put_type};
 use crate::{Read, Unreadable};
 use jc_members::MethodView;
 use jc_resolve::{CallSite, Choice, resolve};
 use jc_rules::{Items, Stop};
-use jc_types::{Env, MethodId, Phase, Table, Ty};
+use jc_types::{Env, MethodId, Phase, Table};
 use std::alloc::Global;
 
 /// The member that words spell: `fixed` or `variable`, its type parameters, and behind a colon its result and its parameters. Its number is its id.
@@ -94,12 +94,4 @@ fn choice_words(alloc: Global, table: &Table, choice: Choice) -> Read<String> {
         }
         Choice::Deep => Ok(String::from_str(alloc, "Deep")?),
     }
-}
-
-fn put_result(alloc: Global, out: &mut String, table: &Table, returned: Option<&Ty>) -> Read<()> {
-    match returned {
-        Some(ty) => put_type(alloc, out, table, ty)?,
-        None => out.push_str("void")?,
-    }
-    Ok(())
 }

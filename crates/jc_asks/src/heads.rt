@@ -1,22 +1,27 @@
 //! Tables from their head lines, which are read twice: for the names, and then for what the heads say of them.
+use crate::methods::{add_method, method_decl};
 use crate::names::{Named, Scope};
 use crate::types::{read_bounds, read_type};
 use crate::{Read, Unreadable};
 use jc_rules::{Items, Place, Stop, Text, WantOfMemory};
 use jc_tables::{empty_table, push_class, push_method, push_scope, push_variable};
 use jc_types::{
-    Access, ClassDecl, ClassId, Kind, MethodDecl, MethodKind, Modifiers, Names, Owner, ScopeId,
-    ScopeOf, Table, Ty, TypePlaces, VarId, VariableDecl, WrittenTypes,
+    Access, ClassDecl, ClassId, Kind, MethodId, Modifiers, Names, Owner, ScopeId, ScopeOf, Table,
+    Ty, TypePlaces, VarId, VariableDecl, WrittenTypes,
 };
 use std::alloc::Global;
 
-const NOWHERE: Place = Place { file: 0, at: 0 };
+pub const NOWHERE: Place = Place { file: 0, at: 0 };
 
 /// Whether a line is a head, and no question.
 pub fn is_head(line: &str) -> bool {
     match line.split_whitespace().next() {
         Some(word) => {
-            word == "class" || word == "final" || word == "interface" || word == "variable"
+            word == "class"
+                || word == "final"
+                || word == "interface"
+                || word == "variable"
+                || word == "method"
         }
         None => false,
     }
@@ -41,10 +46,16 @@ pub fn scope_of(alloc: Global, lines: &[&str]) -> Read<Scope> {
     Ok(scope)
 }
 
-fn add_names(alloc: Global, scope: &mut Scope, line: &str) -> Result<(), WantOfMemory> {
+fn add_names(alloc: Global, scope: &mut Scope, line: &str) -> Read<()> {
+    if line.starts_with("method ") {
+        return add_method_names(alloc, scope, line);
+    }
     let mut class = None;
     let mut generic = false;
     let is_variable = line.starts_with("variable ");
+    if is_variable {
+        scope.add_label(alloc, "")?;
+    }
     for (i, word) in line.split_whitespace().enumerate() {
         if word == ":" {
             break;
@@ -56,10 +67,32 @@ fn add_names(alloc: Global, scope: &mut Scope, line: &str) -> Result<(), WantOfM
             scope.add_variable(alloc, parts_of_parameter(word).0)?;
         }
     }
-    match class {
-        Some(name) => scope.add_class(alloc, name, generic),
-        None => Ok(()),
+    if let Some(name) = class {
+        scope.add_class(alloc, name, generic)?;
     }
+    Ok(())
+}
+
+/// A method's label and its type parameters, which stand between `fixed` or `variable` and the colon.
+fn add_method_names(alloc: Global, scope: &mut Scope, line: &str) -> Read<()> {
+    let mut words = line.split_whitespace();
+    let _head = words.next();
+    let label = words.next().unwrap_or("");
+    let class = class_of_name(scope, words.next().unwrap_or(""))?;
+    let _name = words.next();
+    scope.add_method(alloc, label, class)?;
+    let mut is_parameter = false;
+    for word in words {
+        if word == ":" {
+            break;
+        }
+        if is_parameter {
+            scope.add_variable(alloc, parts_of_parameter(word).0)?;
+        } else {
+            is_parameter = word == "fixed" || word == "variable";
+        }
+    }
+    Ok(())
 }
 
 /// The table that the lines declare.
@@ -73,6 +106,7 @@ pub fn table_of(alloc: Global, scope: &Scope, lines: &[&str]) -> Read<Table> {
         Kind::Class,
         Items::new(alloc),
         Items::new(alloc),
+        scope.members_of(alloc, ClassId(0))?,
     )?;
     push_class(alloc, &mut table, object)?;
     for line in lines {
@@ -88,11 +122,13 @@ fn add_head(alloc: Global, scope: &Scope, table: &mut Table, line: &str) -> Read
     let head = words.next().unwrap_or("");
     let kind = match head {
         "variable" => return add_variables(alloc, scope, table, line),
+        "method" => return add_method(alloc, scope, table, line),
         "interface" => Kind::Interface,
         _ => Kind::Class,
     };
     let name = words.next().unwrap_or("");
-    let owner = Owner::Class(ClassId(table.classes.len() as u64));
+    let id = ClassId(table.classes.len() as u64);
+    let owner = Owner::Class(id);
     let mut vars = Items::new(alloc);
     let mut supers = Items::new(alloc);
     let mut is_behind = false;
@@ -106,14 +142,16 @@ fn add_head(alloc: Global, scope: &Scope, table: &mut Table, line: &str) -> Read
         }
     }
     let modifiers = modifiers_of(head == "final");
-    let class = class_decl(alloc, name, modifiers, kind, vars, supers)?;
+    let members = scope.members_of(alloc, id)?;
+    let class = class_decl(alloc, name, modifiers, kind, vars, supers, members)?;
     push_class(alloc, table, class)?;
     Ok(())
 }
 
 /// Type variables of a method.
 fn add_variables(alloc: Global, scope: &Scope, table: &mut Table, line: &str) -> Read<()> {
-    let owner = Owner::Method(push_method(table, method_decl(alloc))?);
+    let method = method_decl(alloc, ClassId(0), "")?;
+    let owner = Owner::Method(push_method(table, method)?);
     for (i, word) in line.split_whitespace().enumerate() {
         if i > 0 {
             add_variable(alloc, scope, table, owner, word)?;
@@ -122,7 +160,7 @@ fn add_variables(alloc: Global, scope: &Scope, table: &mut Table, line: &str) ->
     Ok(())
 }
 
-fn add_variable(
+pub fn add_variable(
     alloc: Global,
     scope: &Scope,
     table: &mut Table,
@@ -152,7 +190,7 @@ fn implied(alloc: Global, types: Items<Ty>) -> Result<WrittenTypes, WantOfMemory
     Ok(WrittenTypes { types, places })
 }
 
-const MODIFIERS: Modifiers = Modifiers {
+pub const MODIFIERS: Modifiers = Modifiers {
     access: Access::Public,
     is_abstract: false,
     is_static: false,
@@ -182,32 +220,6 @@ fn only_scope(alloc: Global) -> jc_types::Scope {
     }
 }
 
-/// A method of `Object`, for the variables of methods.
-fn method_decl(alloc: Global) -> MethodDecl {
-    MethodDecl {
-        place: NOWHERE,
-        class: ClassId(0),
-        name: Text::of(String::new(alloc)),
-        kind: MethodKind::Method,
-        modifiers: MODIFIERS,
-        scope: ScopeId(0),
-        vars: Items::new(alloc),
-        params: nothing(alloc),
-        param_names: Items::new(alloc),
-        result: None,
-        thrown: nothing(alloc),
-        is_variable_arity: false,
-        has_body: true,
-    }
-}
-
-fn nothing(alloc: Global) -> WrittenTypes {
-    WrittenTypes {
-        types: Items::new(alloc),
-        places: Items::new(alloc),
-    }
-}
-
 fn class_decl(
     alloc: Global,
     name: &str,
@@ -215,6 +227,7 @@ fn class_decl(
     kind: Kind,
     vars: Items<VarId>,
     supers: Items<Ty>,
+    methods: Items<MethodId>,
 ) -> Result<ClassDecl, WantOfMemory> {
     Ok(ClassDecl {
         place: NOWHERE,
@@ -228,7 +241,7 @@ fn class_decl(
         kind,
         vars,
         supers: implied(alloc, supers)?,
-        methods: Items::new(alloc),
+        methods,
         fields: Items::new(alloc),
     })
 }

@@ -7,10 +7,13 @@
 //!     final NAME PARAMETER .. : SUPERTYPE ..
 //!     interface NAME PARAMETER .. : SUPERTYPE ..
 //!     variable PARAMETER
+//!     method LABEL CLASS NAME MODIFIER .. fixed PARAMETER .. : RESULT TYPE ..
 //!
 //! A parameter is a name that no other line declares, with its bound behind a colon if it has one, as `E:Number`. The
 //! superclass comes first, and is Object for an interface. A final class is one that none extends. A variable is one of a
-//! method. Each line after them asks:
+//! method. A method has a label that questions name it by, stands behind its class, and takes as many arguments as it has
+//! parameters, or with `variable` for `fixed` any number; of its modifiers public, protected, private, abstract and static
+//! are known. Each line after them asks:
 //!
 //!     below TYPE TYPE        contained ARGUMENT ARGUMENT      view TYPE CLASS
 //!     capture TYPE           glb TYPE ..                      erasure TYPE
@@ -21,19 +24,23 @@
 //!     invoke TYPE TYPE       cast TYPE TYPE
 //!     infer PHASE VARIABLE .. : RESULT PARAMETER .. : ARGUMENT .. : TARGET
 //!     call EXPLICIT .. : ARGUMENT .. : TARGET | MEMBER | ..
+//!     members TYPE NAME      overrides LABEL LABEL            hides LABEL LABEL
+//!     select CLASS LABEL
 //!
 //! Types have no spaces. `+T` is `? extends T`, `-T` is `? super T`, `{A&B}` an intersection, `#0` the first variable that a
 //! capture of this table made, and `null` the null type. A phase is `subtyping`, `invocation` or `variable`, a result a type
 //! or `void`; a target may be left out. The type arguments that a call writes stand before its arguments. A member is `fixed`
 //! or `variable`, as it takes as many arguments as parameters or any number, then `VARIABLE .. : RESULT PARAMETER ..`; its
-//! number is counted from 0.
+//! number is counted from 0. The members of a type are told by their labels, type parameters, results and parameters.
 #![tactic(auto)]
 
 mod asking;
 mod calling;
 mod conversions;
+mod having;
 mod heads;
 mod inferring;
+mod methods;
 mod names;
 mod types;
 mod words;

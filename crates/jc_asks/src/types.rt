@@ -232,6 +232,7 @@ fn named_type(alloc: Global, scope: &Scope, name: &str) -> Read<Ty> {
     match scope.find(name) {
         Some(Named::Class { number, generic }) => Ok(class_type(alloc, number, generic)),
         Some(Named::Variable { number }) => Ok(Ty::Variable(VarId(number))),
+        Some(Named::Method { .. }) => Err(Stop::Refused(Unreadable)),
         None => {
             if name == "null" {
                 Ok(Ty::NullTy)

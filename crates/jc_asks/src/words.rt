@@ -4,6 +4,10 @@ use jc_types::{
 };
 use std::alloc::{AllocError, Global};
 
+pub fn yes_or_no(holds: bool) -> &'static str {
+    if holds { "Yes" } else { "No" }
+}
+
 fn put_number(alloc: Global, out: &mut String, number: u64) -> Result<(), AllocError> {
     let digits = format!(in alloc; "{number}")?;
     out.push_str(digits.as_str())
@@ -16,7 +20,7 @@ fn put_class(out: &mut String, table: &Table, id: ClassId) -> Result<(), AllocEr
     }
 }
 
-fn put_variable(out: &mut String, table: &Table, id: VarId) -> Result<(), AllocError> {
+pub fn put_variable(out: &mut String, table: &Table, id: VarId) -> Result<(), AllocError> {
     match variable_at(table, id) {
         Some(variable) => out.push_str(variable.name.str()),
         None => out.push_str("NoVariable"),
@@ -62,6 +66,19 @@ pub fn put_type(alloc: Global, out: &mut String, table: &Table, ty: &Ty) -> Resu
         }
         Ty::Meet { parts } => put_parts(alloc, out, table, parts.slice()),
         Ty::NullTy => out.push_str("null"),
+    }
+}
+
+/// The result of a method, `void` where it has none.
+pub fn put_result(
+    alloc: Global,
+    out: &mut String,
+    table: &Table,
+    returned: Option<&Ty>,
+) -> Result<(), AllocError> {
+    match returned {
+        Some(ty) => put_type(alloc, out, table, ty),
+        None => out.push_str("void"),
     }
 }
 
