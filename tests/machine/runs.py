@@ -49,6 +49,12 @@ def compile_all(room, folders):
     return classes, [f"{room}/prelude/{name}.class" for name in order]
 
 
+def element_class(name):
+    """The class that a name in the pool means, which is that of the elements where it is an array's descriptor."""
+    of_array = re.fullmatch(r"\[+L(.*);", name)
+    return of_array.group(1) if of_array else name
+
+
 def needed(classes, main):
     """The program's classes that a class names, itself among them, and what these name."""
     found, wait = [], [main]
@@ -57,7 +63,7 @@ def needed(classes, main):
         if name in found or name not in classes or name.startswith("java/"):
             continue
         found.append(name)
-        wait += sorted(part for text in classes[name].pool.class_names() for part in re.findall(r"[\w/$]+", text.lstrip("[").lstrip("L")))
+        wait += sorted(map(element_class, classes[name].pool.class_names()))
     return found
 
 
