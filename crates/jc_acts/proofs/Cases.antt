@@ -1,5 +1,5 @@
 -- The cases of a `switch` don't depend on the program that is run.
-use Rattle.std.proofs.Common.{◌≡◌, ℕ, ℤ, Bool, List, [], ◌∷◌, Option, Some, None, refl, ap, if◌then◌else◌}
+use Rattle.std.proofs.Common.{◌≡◌, ℕ, ℤ, List, [], ◌∷◌, Option, Some, None, refl}
 use Rattle.jc_running.specs.declared.value.Completion.{Completion}
 use Rattle.jc_typed.specs.declared.lists.Case.{Case}
 use Rattle.jc_typed.specs.declared.program.TypedProgram.{TypedProgram}

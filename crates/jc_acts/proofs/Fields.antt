@@ -1,5 +1,5 @@
 -- The values of a program's static fields, one after the other.
-use Rattle.std.proofs.Common.{◌≡◌, ℕ, zero, suc, ◌+◌, ◌-◌, ◌<◌, List, [], ◌∷◌, ◌++◌, refl, arith, append_assoc, sym}
+use Rattle.std.proofs.Common.{◌≡◌, ℕ, zero, suc, ◌+◌, ◌-◌, ◌<◌, List, [], ◌∷◌, ◌++◌, refl, arith, append_assoc}
 use Rattle.jc_types.specs.declared.table.Table.{Table}
 use Rattle.jc_running.specs.declared.value.Value.{Value}
 use Rattle.jc_heaps.specs.Layout.{default_of}

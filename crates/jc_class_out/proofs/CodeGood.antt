@@ -1,6 +1,5 @@
 -- What holds of code and of its exception table that were read.
 use Rattle.std.proofs.Common.{◌≡◌, ◌<◌, ◌≤◌, ◌^◌, ℕ, zero, suc, ◌+◌, ◌-◌, ◌*◌, Bool, true, eqb, List, [], ◌∷◌, ◌++◌, length, Option, refl, ap, subst, arith}
-use lib.Dec.{leb}
 use Rattle.std.specs.Prelude.{◌&&◌, not, nat_lt, nat_le}
 use Rattle.std.specs.Int.{w16, w32}
 use Rattle.std.specs.List.{flat_map, list_all, AllByRecursion}

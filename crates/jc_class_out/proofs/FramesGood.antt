@@ -1,6 +1,5 @@
 -- What holds of frames that were read: in no form do they take fewer bytes, or name fewer constants, than in the shortest.
 use Rattle.std.proofs.Common.{◌≡◌, ◌<◌, ◌≤◌, ℕ, zero, suc, ◌+◌, ◌-◌, Bool, true, false, cond, eqb, List, [], ◌∷◌, ◌++◌, length, take, drop, Option, Some, None, Ok, refl, sym, ap, subst, arith}
-use lib.Dec.{leb}
 use Rattle.std.specs.Prelude.{nat_lt, nat_le, codes}
 use Rattle.std.specs.Int.{w16}
 use Rattle.std.specs.List.{flat_map, list_all}

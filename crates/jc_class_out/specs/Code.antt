@@ -1,10 +1,10 @@
 -- The attribute Code (JVMS 4.7.3).
-use Rattle.std.specs.Prelude.{ℕ, zero, suc, ◌+◌, ◌-◌, ◌*◌, ◌^◌, Bool, true, false, not, ◌||◌, ◌&&◌, ◌==◌, List, [], ◌∷◌, ◌++◌, length, codes, replicate, Option, Some, None, Result, Ok, Err, nat_lt, nat_le, if◌then◌else◌}
+use Rattle.std.specs.Prelude.{ℕ, zero, suc, ◌+◌, ◌-◌, Bool, true, false, not, ◌||◌, ◌&&◌, ◌==◌, List, [], ◌∷◌, ◌++◌, length, codes, replicate, Result, Ok, Err, nat_lt, nat_le, if◌then◌else◌}
 use Rattle.std.specs.Int.{w16, w32}
 use Rattle.std.specs.Str.{bytes_eq}
 use Rattle.jc_class_out.specs.declared.format.Slot.{Slot}
 use Rattle.jc_class_out.specs.declared.format.Flaw.{Flaw}
-use Rattle.jc_class_out.specs.declared.format.Flaw.TheVariants.{Tag, Index}
+use Rattle.jc_class_out.specs.declared.format.Flaw.TheVariants.{Tag}
 use Rattle.jc_class_out.specs.declared.model.CodeModel.{CodeModel}
 use Rattle.jc_class_out.specs.declared.model.Frame.{Frame}
 use Rattle.jc_class_out.specs.declared.model.Handler.{Handler}
@@ -13,7 +13,7 @@ use Rattle.jc_class_out.specs.declared.model.Item.{Item}
 use Rattle.jc_class_out.specs.declared.model.SwitchCase.{SwitchCase}
 use Rattle.jc_class_out.specs.declared.model.Operand.{Operand}
 use Rattle.jc_class_out.specs.declared.model.Operand.TheVariants as op
-use Rattle.jc_class_out.specs.Reading.{◌>>=◌, wants, u8_at, number_at, listed}
+use Rattle.jc_class_out.specs.Reading.{◌>>=◌, wants, number_at, listed}
 use Rattle.jc_class_out.specs.Pool.{named_at, class_or_none_at}
 use Rattle.jc_class_out.specs.Instructions.{padding, ins_at, ins_size}
 use Rattle.jc_class_out.specs.Frames.{begins, table_at}

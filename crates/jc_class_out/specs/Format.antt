@@ -1,10 +1,10 @@
 -- The class file (JVMS 4.1): which bytes are the file of which class.
-use Rattle.std.specs.Prelude.{◌≡◌, ◌<◌, ℕ, zero, suc, ◌+◌, ◌-◌, ◌/◌, ◌%◌, ◌^◌, Bool, true, false, not, ◌||◌, ◌&&◌, ◌==◌, List, [], ◌∷◌, length, codes, Option, Some, None, Result, Ok, Err, if◌then◌else◌}
+use Rattle.std.specs.Prelude.{◌≡◌, ◌<◌, ℕ, ◌-◌, ◌/◌, ◌%◌, Bool, not, ◌||◌, ◌==◌, List, [], length, codes, Option, Some, None, Result, Ok, Err, if◌then◌else◌}
 use Rattle.std.specs.Int.{w16, w32}
 use Rattle.std.specs.List.{All}
 use Rattle.jc_class_out.specs.declared.format.Slot.{Slot}
 use Rattle.jc_class_out.specs.declared.format.Flaw.{Flaw}
-use Rattle.jc_class_out.specs.declared.format.Flaw.TheVariants.{Magic, Version, Tag, Index, Trailing}
+use Rattle.jc_class_out.specs.declared.format.Flaw.TheVariants.{Magic, Version, Trailing}
 use Rattle.jc_class_out.specs.declared.model.ClassModel.{ClassModel}
 use Rattle.jc_class_out.specs.declared.model.CodeModel.{CodeModel}
 use Rattle.jc_class_out.specs.declared.model.FieldModel.{FieldModel}

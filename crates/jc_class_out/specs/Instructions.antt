@@ -1,5 +1,5 @@
 -- Instructions (JVMS 6.5): which of them the profile has, and what stands behind an opcode.
-use Rattle.std.specs.Prelude.{ℕ, zero, suc, ◌+◌, ◌-◌, ◌*◌, ◌^◌, ◌%◌, ℤ, pos, Bool, true, false, not, ◌||◌, ◌&&◌, ◌==◌, int_lt, List, [], ◌∷◌, length, take, drop, Option, Some, None, Result, Ok, Err, nat_lt, nat_le, if◌then◌else◌}
+use Rattle.std.specs.Prelude.{ℕ, zero, suc, ◌+◌, ◌-◌, ◌*◌, ◌^◌, ◌%◌, ℤ, pos, Bool, true, false, not, ◌||◌, ◌&&◌, ◌==◌, int_lt, List, [], ◌∷◌, length, Option, Some, None, Result, Ok, Err, nat_lt, nat_le, if◌then◌else◌}
 use Rattle.std.specs.Int.{w8, w16, w32, cast_signed}
 use Rattle.jc_class_out.specs.declared.format.Slot.{Slot}
 use Rattle.jc_class_out.specs.declared.format.Flaw.{Flaw}
@@ -12,9 +12,9 @@ use Rattle.jc_class_out.specs.declared.model.Loaded.TheVariants.{Whole as Loaded
 use Rattle.jc_class_out.specs.declared.model.SwitchCase.{SwitchCase}
 use Rattle.jc_class_out.specs.declared.model.Operand.{Operand}
 use Rattle.jc_class_out.specs.declared.model.Operand.TheVariants as op
-use Rattle.jc_class_out.specs.Reading.{◌>>=◌, or_flaw, wants, u8_at, number_at}
+use Rattle.jc_class_out.specs.Reading.{◌>>=◌, wants, u8_at, number_at}
 use Rattle.jc_class_out.specs.Descriptors.{parameter_units, or_zero}
-use Rattle.jc_class_out.specs.Pool.{Known, KnownText, KnownWhole, KnownLong, KnownBehind, KnownClass, KnownLiteral, KnownField, KnownMethod, KnownInterface, KnownPair, known_of, class_named_at}
+use Rattle.jc_class_out.specs.Pool.{Known, KnownWhole, KnownLong, KnownLiteral, KnownField, KnownMethod, KnownInterface, known_of, class_named_at}
 
 -- ---- opcodes
 

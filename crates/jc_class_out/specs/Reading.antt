@@ -1,6 +1,6 @@
 -- Reading bytes from left to right. What is read comes with the bytes behind it; the first field that isn't whole or breaks
 -- its rule is the flaw.
-use Rattle.std.specs.Prelude.{ℕ, zero, suc, ◌-◌, Bool, List, [], ◌∷◌, length, take, drop, Option, Some, None, Result, Ok, Err, nat_lt, ◌==◌, if◌then◌else◌}
+use Rattle.std.specs.Prelude.{ℕ, zero, suc, Bool, List, [], ◌∷◌, length, take, drop, Option, Some, None, Result, Ok, Err, nat_lt, if◌then◌else◌}
 use Rattle.std.specs.Int.{Width, w16, byte_len, from_be_bytes}
 use Rattle.jc_class_out.specs.declared.format.Flaw.{Flaw}
 use Rattle.jc_class_out.specs.declared.format.Flaw.TheVariants.{Short, Index}

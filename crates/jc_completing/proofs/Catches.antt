@@ -1,5 +1,5 @@
 -- Catch clauses as a list from the first one on.
-use Rattle.std.proofs.Common.{◌≡◌, ℕ, List, [], ◌∷◌, Bool, true, false, Option, Some, refl, ap, ◌∙◌, if◌then◌else◌}
+use Rattle.std.proofs.Common.{◌≡◌, ℕ, List, ◌∷◌, Bool, true, false, Option, Some, refl, ap, ◌∙◌, if◌then◌else◌}
 use Rattle.jc_types.specs.declared.erased.Erased.{Erased}
 use Rattle.jc_running.specs.declared.value.Completion.{Completion}
 use Rattle.jc_running.specs.declared.value.Value.TheVariants.{Address}
@@ -12,7 +12,6 @@ use Rattle.jc_meaning.specs.Statements as s
 use Rattle.jc_values.specs.Idle.{idle}
 use Rattle.jc_places.specs.Sorts.{Catch, catches_before}
 use Rattle.jc_pending.specs.Level.{inner, run}
-use Rattle.jc_pending.proofs.Idles.{any_idle}
 use Rattle.jc_completing.specs.Catching.{first_catch, taken}
 
 one : (P : TypedProgram) (d a : ℕ) (b : Bool) (c : Catch) (more : Option Catch)

@@ -1,5 +1,5 @@
 -- What constraints imply, line by line as the language has them (JLS 15.12.2.7, 15.12.2.8).
-use Rattle.std.specs.Prelude.{◌≡◌, ◌⊎◌, true, false, List, [], ◌∷◌, Some}
+use Rattle.std.specs.Prelude.{◌≡◌, ◌⊎◌, true, List, [], ◌∷◌, Some}
 use Rattle.jc_types.specs.declared.environment.Bounds.{Bounds}
 use Rattle.jc_types.specs.declared.form.Arg.{Arg, out-Arg}
 use Rattle.jc_types.specs.declared.form.Ty.{Ty}

@@ -1,16 +1,14 @@
 -- The steps of each row of the tables lead from the one type to the other.
-use Rattle.std.proofs.Common.{◌≡◌, ◌⊎◌, ◌==◌, ◌&&◌, ℕ, Bool, true, false, Option, Some, None, List, [], ◌∷◌, if◌then◌else◌, inl, inr, refl, sym, ap, subst, ◌∙◌}
+use Rattle.std.proofs.Common.{◌≡◌, ◌⊎◌, ◌==◌, ◌&&◌, Bool, true, false, Option, Some, None, List, [], ◌∷◌, if◌then◌else◌, inl, inr, refl, sym, ap, subst, ◌∙◌}
 use Rattle.jc_types.specs.declared.constant.Constant.{Constant}
 use Rattle.jc_types.specs.declared.constant.Constant.TheVariants.{Whole, Text}
 use Rattle.jc_types.specs.declared.conversion.Conversion.{Conversion}
-use Rattle.jc_types.specs.declared.conversion.Step.{Step}
 use Rattle.jc_types.specs.declared.conversion.Step.TheVariants.{Widen, Narrow, BoxUp, Unbox, Up, Check}
 use Rattle.jc_types.specs.declared.environment.Bounds.{Bounds}
 use Rattle.jc_types.specs.declared.form.Primitive.{Primitive}
 use Rattle.jc_types.specs.declared.form.Primitive.TheVariants.{Boolean, Byte, Short, Char, Int, Long}
 use Rattle.jc_types.specs.declared.form.Ty.{Ty, Ty-F, out-Ty, roll-Ty, roll-out-Ty}
 use Rattle.jc_types.specs.declared.form.Ty.TheVariants.{Prim, rolls-Prim}
-use Rattle.jc_types.specs.declared.form.Arg.{Arg}
 use Rattle.jc_types.specs.declared.table.Table.{Table}
 use Rattle.jc_types.specs.Sameness.{same, prim_number}
 use Rattle.jc_types.proofs.Sameness.{same_told}
@@ -20,10 +18,10 @@ use Rattle.jc_judge.specs.Deciding.{answer_of}
 use Rattle.jc_judge.specs.Kinds.{Layer, primitive_below}
 use Rattle.jc_convert.specs.declared.answer.Converts.{Converts}
 use Rattle.jc_convert.specs.declared.answer.Converts.TheVariants as converts
-use Rattle.jc_convert.specs.Rows.{Row, row, plain_row, checked, unchecked, truth, decided, first_row}
-use Rattle.jc_convert.specs.Converting.{box, up_unless_same, unboxes, first_unboxed, unboxed, unboxing, is_small, is_value, constant_fits, narrows, narrows_to_box, converts_unchecked, primitive_rows, reference_rows, constant_rows, boxing_rows, unboxing_rows, rows_from_primitive, rows_from_reference, rows_at, rows, assignment}
-use Rattle.jc_convert.specs.Casting.{is_numeric, bound_of, is_legal, primitive_casts, narrowing_casts, reference_casts, unboxing_check, unboxing_casts, casts_from_primitive, casts_from_reference, casts_at, cast_rows, cast}
-use Rattle.jc_convert.specs.Steps.{IsBetween, IsBoxed, IsBoxAbove, IsBoxBelow, MayGoUp, MayCheck, IsStep, Lead, AssignmentsLead, CastsLead}
+use Rattle.jc_convert.specs.Rows.{Row, checked, unchecked, truth, decided, first_row}
+use Rattle.jc_convert.specs.Converting.{box, up_unless_same, unboxes, first_unboxed, unboxed, unboxing, is_small, constant_fits, narrows, narrows_to_box, converts_unchecked, primitive_rows, reference_rows, boxing_rows, unboxing_rows, rows_from_primitive, rows_from_reference, rows_at, rows}
+use Rattle.jc_convert.specs.Casting.{is_numeric, bound_of, is_legal, primitive_casts, reference_casts, unboxing_casts, casts_from_primitive, casts_from_reference, casts_at, cast_rows}
+use Rattle.jc_convert.specs.Steps.{IsBoxed, Lead, AssignmentsLead, CastsLead}
 
 -- ---- the row that decides
 

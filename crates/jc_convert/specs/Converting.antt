@@ -5,7 +5,6 @@ use Rattle.jc_types.specs.declared.constant.Constant.TheVariants.{Whole, Text}
 use Rattle.jc_types.specs.declared.conversion.Step.{Step}
 use Rattle.jc_types.specs.declared.conversion.Step.TheVariants.{Widen, Narrow, BoxUp, Unbox, Up}
 use Rattle.jc_types.specs.declared.environment.Bounds.{Bounds}
-use Rattle.jc_types.specs.declared.form.Arg.{Arg}
 use Rattle.jc_types.specs.declared.form.Primitive.{Primitive}
 use Rattle.jc_types.specs.declared.form.Primitive.TheVariants.{Boolean, Byte, Short, Char, Int, Long}
 use Rattle.jc_types.specs.declared.form.Ty.{Ty, Ty-F, out-Ty}

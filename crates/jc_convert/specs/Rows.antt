@@ -1,5 +1,5 @@
 -- Tables of conversions: the first row whose premise isn't refuted decides.
-use Rattle.std.specs.Prelude.{Bool, true, false, List, [], ◌∷◌, if◌then◌else◌}
+use Rattle.std.specs.Prelude.{Bool, true, false, List, [], ◌∷◌}
 use Rattle.jc_types.specs.declared.conversion.Conversion.{Conversion}
 use Rattle.jc_types.specs.declared.conversion.Step.{Step}
 use Rattle.jc_judge.specs.declared.question.Answer.{Answer}

@@ -1,35 +1,32 @@
 -- The units of sources that break no rule are those of a job, and what their table is.
-use Rattle.std.proofs.Common.{◌≡◌, ◌<◌, ◌≤◌, ◌+◌, ℕ, zero, suc, Bool, true, false, List, [], ◌∷◌, ◌++◌, length, Result, Ok, Err, if◌then◌else◌, arith, refl, sym, ap, subst, ◌∙◌}
+use Rattle.std.proofs.Common.{◌≡◌, ◌<◌, ◌≤◌, ◌+◌, ℕ, suc, Bool, true, false, List, [], ◌∷◌, ◌++◌, length, Result, Ok, Err, if◌then◌else◌, arith, refl, sym, subst}
 use Rattle.std.specs.Prelude.{nat_lt}
 use Rattle.jc_rules.specs.declared.rule.Refusal.{Refusal}
 use Rattle.jc_lexer.specs.declared.fault.LexFault.{LexFault}
 use Rattle.jc_lexer.specs.declared.token.Token.{Token}
 use Rattle.jc_lexer.specs.declared.files.TheConstants.{MOST_BYTES}
-use Rattle.jc_lexer.specs.Files.{refusal, file_result, lexed_file, with_list, then_files, lexed_files}
+use Rattle.jc_lexer.specs.Files.{refusal, file_result, lexed_file, then_files, lexed_files}
 use Rattle.jc_lexer.specs.Lexing.{lexed}
-use Rattle.jc_lexer_laws.specs.TokensAreTold.{EndsBefore, AreInOrder}
+use Rattle.jc_lexer_laws.specs.TokensAreTold.{AreInOrder}
 use Rattle.jc_lexer_laws.proofs.Telling.{tokens_are_told}
 use Rattle.jc_tree.specs.declared.statement.SourceFile.{SourceFile}
 use Rattle.jc_types.specs.declared.table.Table.{Table}
 use Rattle.jc_types.specs.Accessors.{supers_of}
 use Rattle.jc_types.specs.Tables.{IsTable}
 use Rattle.jc_judge.specs.Supers.{HasNoCycle}
-use Rattle.jc_unit_laws.specs.UnitAnswers.{UnitStands}
 use Rattle.jc_syntax.specs.Stage.{HaveUnits}
 use Rattle.jc_prelude.specs.Texts.{texts as library_texts}
 use Rattle.jc_declares.specs.declared.unit.SourceUnit.{SourceUnit}
-use Rattle.jc_declares.specs.Making.{table_of}
 use Rattle.jc_declares.specs.Sites.{sites_of}
-use Rattle.jc_names.specs.Stage.{IsNamed}
-use Rattle.jc_order_laws.specs.Order.{Ascend, IsRead, next_file, AreJob, IdsAscend}
+use Rattle.jc_order_laws.specs.Order.{Ascend, next_file, AreJob, IdsAscend}
 use Rattle.jc_order_laws.proofs.Ascending.{ids_ascend}
 use Rattle.jc_table_laws.proofs.Acyclic.{acyclic}
 use Rattle.jc_table_laws.proofs.IdsFit.{ids_are}
 use Rattle.jc_table_laws.proofs.Indexed.{indexed}
 use Rattle.jc_table_laws.proofs.PlacesFit.{places_are}
 use Rattle.jc_front.specs.declared.reading.Sources.{Sources}
-use Rattle.jc_front.specs.Library.{AreUnitsOf, AreLibrary}
-use Rattle.jc_front.specs.Stages.{HaveTokens, numbered_from, HaveTrees, AreSources}
+use Rattle.jc_front.specs.Library.{AreUnitsOf}
+use Rattle.jc_front.specs.Stages.{numbered_from, HaveTrees, AreSources}
 
 -- ---- tokens of sources come in their order
 

@@ -6,7 +6,7 @@ use Rattle.jc_lexer.specs.declared.token.Sign.TheVariants as sign_of
 use Rattle.jc_tree.specs.declared.types.BaseTree.{BaseTree, BaseTree-F, fold-roll-BaseTree, ind-BaseTree, map-BaseTree, roll-BaseTree}
 use Rattle.jc_tree.specs.declared.types.ClassTree.{ClassTree, ClassTree-F, fold-roll-ClassTree, ind-ClassTree, map-ClassTree, roll-ClassTree}
 use Rattle.jc_tree.specs.declared.types.TypeArg.{TypeArg, TypeArg-F, fold-roll-TypeArg, ind-TypeArg, map-TypeArg, roll-TypeArg}
-use Rattle.jc_tree.specs.declared.types.TypePart.{TypePart, TypePart-F, fold-roll-TypePart, ind-TypePart, map-TypePart, roll-TypePart}
+use Rattle.jc_tree.specs.declared.types.TypePart.{TypePart, TypePart-F, fold-roll-TypePart, map-TypePart, roll-TypePart}
 use Rattle.jc_tree.specs.declared.types.TypeTree.{TypeTree, TypeTree-F, fold-roll-TypeTree, ind-TypeTree, map-TypeTree, roll-TypeTree}
 use Rattle.jc_grammar.proofs.Framed.{Frames, after_dots_frames, all_frame, all_given, angled_frames, brackets_frame, frames_along, seq, token}
 use Rattle.jc_grammar.specs.Told.{Spelled, ident, key, key_at, sign_at}

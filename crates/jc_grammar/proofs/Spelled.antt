@@ -1,9 +1,8 @@
 -- Tokens that are told, part by part.
-use Rattle.std.proofs.Common.{◌≡◌, ℕ, Bool, ◌&&◌, List, [], ◌∷◌, ◌++◌, length, suc, refl, ap, sym, subst}
+use Rattle.std.proofs.Common.{◌≡◌, ℕ, Bool, ◌&&◌, List, [], ◌∷◌, ◌++◌, length, suc, refl, ap}
 use Rattle.jc_lexer.specs.declared.token.Token.{Token}
-use Rattle.jc_grammar.specs.Told.{Told, Spelled}
+use Rattle.jc_grammar.specs.Told.{Told}
 use Rattle.jc_grammar.specs.Spelling.{AreTold, is_greater}
-use Rattle.jc_grammar.proofs.Framed.{Frames}
 
 -- whether a `>` at the end of tokens touches what follows them
 abbrev pub touch_after : Bool → List Token → Bool

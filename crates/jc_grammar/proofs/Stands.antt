@@ -1,8 +1,7 @@
 -- Where expressions may stand.
 use Rattle.std.proofs.Common.{◌≡◌, ℕ, ◌≤◌, Bool, true, false, ◌&&◌, nat_le, refl, arith}
 use Rattle.std.proofs.lemmas.Bool.Decides.{nat_tests}
-use Rattle.jc_tree.specs.declared.expression.Expr.{Expr}
-use Rattle.jc_grammar.specs.Shapes.{Shape, stands, expr_shape, is_expr}
+use Rattle.jc_grammar.specs.Shapes.{Shape, stands}
 
 pub and_true : (a b : Bool) → a ≡ true → b ≡ true → (a && b) ≡ true
 and_true true b e f = f

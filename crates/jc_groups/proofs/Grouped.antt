@@ -4,7 +4,7 @@ use Rattle.std.specs.Prelude.{cond, ◌==◌}
 use Rattle.std.proofs.lemmas.Grind.{common_steps}
 use Rattle.std.proofs.lemmas.List.{get_or-set_same}
 use Rattle.std.proofs.lemmas.Option.{slice_get-get_or}
-use Rattle.jc_groups.specs.Groups.{or_empty, group_in, padded, grouped_in, grouped, grouped_as, grouped_all, picked_as, picked}
+use Rattle.jc_groups.specs.Groups.{or_empty, group_in, padded, grouped_in, grouped_as, grouped_all, picked_as, picked}
 
 abbrev nothing : List ℕ
 nothing = []

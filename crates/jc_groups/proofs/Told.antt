@@ -1,5 +1,5 @@
 -- What is grouped is what classes, units and methods declare.
-use Rattle.std.proofs.Common.{◌≡◌, ℕ, suc, Bool, true, false, List, [], ◌∷◌, ◌++◌, map, Option, Some, None, refl, sym, ap, ◌∙◌, arith}
+use Rattle.std.proofs.Common.{◌≡◌, ℕ, suc, Bool, true, false, List, [], ◌∷◌, ◌++◌, map, Option, refl, sym, ap, ◌∙◌, arith}
 use Rattle.std.specs.Prelude.{cond, ◌==◌, ◌&&◌}
 use Rattle.std.proofs.lemmas.Bool.Decides.{nat_tests}
 use Rattle.jc_types.specs.declared.declarations.Owner.{Owner}
@@ -11,7 +11,7 @@ use Rattle.jc_declares.specs.declared.heads.FieldHead.{FieldHead}
 use Rattle.jc_declares.specs.declared.heads.Heads.{Heads}
 use Rattle.jc_declares.specs.declared.heads.MethodPlace.{MethodPlace}
 use Rattle.jc_declares.specs.declared.heads.VariableHead.{VariableHead}
-use Rattle.jc_declares.specs.Heads.{Named, named_classes, named_variables, is_inside, is_top, same_owner, declared_of, types_of_unit, class_variables, method_variables}
+use Rattle.jc_declares.specs.Heads.{Named, named_classes, named_variables, is_inside, is_top, same_owner, class_variables, method_variables}
 use Rattle.jc_declares.specs.Making.{numbers, methods_from, fields_from}
 use Rattle.jc_groups.specs.declared.members.Members.{Members}
 use Rattle.jc_groups.specs.Groups.{group_in, picked, picked_as, grouped_all}

@@ -18,7 +18,6 @@ use Rattle.jc_overriding.specs.Viewing.{own_type, plain}
 use Rattle.jc_header_rules.specs.Places.{broken_if, of_each}
 use Rattle.jc_header_rules.specs.Headers.{method_breaks}
 use Rattle.jc_header_rules.specs.Inheriting.{class_breaks, with_body}
-use Rattle.jc_header_rules.specs.Types.{types_breaks}
 
 -- ---- the erasures of a method's parameters, and of those that it overrides or hides (JLS 4.6)
 

@@ -1,6 +1,5 @@
 -- The stage of headers at methods: same signatures, overriding and hiding, thrown types, bodies (JLS 8.4, 9.4, 9.6.3.4).
-use Rattle.std.specs.Prelude.{ℕ, ◌==◌, nat_lt, ◌+◌, Bool, true, false, not, ◌&&◌, ◌||◌, List, [], ◌∷◌, ◌++◌, Option, Some, None}
-use Rattle.std.specs.Str.{bytes_eq}
+use Rattle.std.specs.Prelude.{ℕ, nat_lt, ◌+◌, Bool, true, false, not, ◌&&◌, ◌||◌, List, [], ◌∷◌, ◌++◌, Option, Some, None}
 use Rattle.jc_rules.specs.declared.rule.Place.{Place}
 use Rattle.jc_rules.specs.declared.rule.Refusal.{Refusal}
 use Rattle.jc_types.specs.declared.declarations.Access.{Access}

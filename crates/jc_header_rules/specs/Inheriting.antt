@@ -1,6 +1,6 @@
 -- The stage of headers at classes: Throwable, one view of each class, methods left open, and inherited methods that agree (JLS 8.1.1.1, 8.1.2, 8.1.5, 8.4.8.4, 9.4.1).
-use Rattle.std.specs.Prelude.{ℕ, zero, suc, ◌+◌, ◌==◌, Bool, true, false, not, cond, ◌&&◌, ◌||◌, List, [], ◌∷◌, ◌++◌, codes, Option, Some, None}
-use Rattle.std.specs.List.{list_any, list_all}
+use Rattle.std.specs.Prelude.{ℕ, zero, suc, ◌+◌, ◌==◌, Bool, true, false, not, cond, ◌&&◌, ◌||◌, List, [], ◌∷◌, ◌++◌, Option, Some, None}
+use Rattle.std.specs.List.{list_any}
 use Rattle.jc_rules.specs.declared.rule.Place.{Place}
 use Rattle.jc_rules.specs.declared.rule.Refusal.{Refusal}
 use Rattle.jc_types.specs.declared.declarations.ClassDecl.{ClassDecl}
@@ -9,7 +9,7 @@ use Rattle.jc_types.specs.declared.form.Ty.{Ty}
 use Rattle.jc_types.specs.declared.ids.ClassId.{ClassId}
 use Rattle.jc_types.specs.declared.ids.MethodId.{MethodId}
 use Rattle.jc_types.specs.declared.table.Table.{Table}
-use Rattle.jc_types.specs.Accessors.{class_count, class_named, is_interface, vars_of}
+use Rattle.jc_types.specs.Accessors.{class_count, is_interface, vars_of}
 use Rattle.jc_types.specs.Sameness.{same}
 use Rattle.jc_judge.specs.declared.question.Answer.{Answer}
 use Rattle.jc_judge.specs.declared.question.Answer.TheVariants.{Yes, No, Deep}
@@ -17,11 +17,11 @@ use Rattle.jc_judge.specs.Kinds.{class_of}
 use Rattle.jc_judge.specs.Trees.{both, either}
 use Rattle.jc_judge.specs.Views.{is_class, supers}
 use Rattle.jc_overriding.specs.declared.view.MethodView.{MethodView}
-use Rattle.jc_overriding.specs.Overriding.{access_of, candidates, is_above, is_abstract, is_inheritable, is_instance, overrides, owner, remaining, same_class, select}
-use Rattle.jc_overriding.specs.Signatures.{override_equivalent, subsignature}
+use Rattle.jc_overriding.specs.Overriding.{access_of, candidates, is_above, is_abstract, is_inheritable, is_instance, owner, remaining, same_class, select}
+use Rattle.jc_overriding.specs.Signatures.{override_equivalent}
 use Rattle.jc_overriding.specs.Viewing.{is_static, own_type}
-use Rattle.jc_header_rules.specs.Places.{broken_if, of_each}
-use Rattle.jc_header_rules.specs.Headers.{differ, is_weaker}
+use Rattle.jc_header_rules.specs.Places.{broken_if}
+use Rattle.jc_header_rules.specs.Headers.{is_weaker}
 use Rattle.jc_header_rules.specs.Results.{has_parameters, is_throwable, result_answer, thrown_fits}
 
 -- ---- 501: a generic class isn't below Throwable (JLS 8.1.2)

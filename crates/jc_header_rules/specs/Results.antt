@@ -1,5 +1,5 @@
 -- Whether the result and the thrown types of a method fit those of one that it overrides or hides (JLS 8.4.5, 8.4.6, 8.4.8.3).
-use Rattle.std.specs.Prelude.{ℕ, ◌==◌, Bool, true, false, not, ◌&&◌, ◌||◌, List, [], ◌∷◌, codes, Option, Some, None, if◌then◌else◌}
+use Rattle.std.specs.Prelude.{ℕ, ◌==◌, Bool, true, false, ◌&&◌, ◌||◌, List, [], ◌∷◌, codes, Option, Some, None, if◌then◌else◌}
 use Rattle.std.specs.List.{list_any, list_all}
 use Rattle.jc_types.specs.declared.erased.Base.{Base}
 use Rattle.jc_types.specs.declared.erased.Base.TheVariants as base
@@ -12,7 +12,7 @@ use Rattle.jc_types.specs.Accessors.{class_named, vars_of}
 use Rattle.jc_types.specs.Erasing.{erasure}
 use Rattle.jc_types.specs.Sameness.{same}
 use Rattle.jc_judge.specs.declared.question.Answer.{Answer}
-use Rattle.jc_judge.specs.declared.question.Answer.TheVariants.{Yes, No, Deep}
+use Rattle.jc_judge.specs.declared.question.Answer.TheVariants.{Yes, No}
 use Rattle.jc_judge.specs.Deciding.{answer_of}
 use Rattle.jc_judge.specs.Kinds.{is_primitive}
 use Rattle.jc_judge.specs.Views.{view}

@@ -6,7 +6,7 @@ use Rattle.jc_types.specs.Breaks.{IsOf, LeastOf, least}
 use Rattle.jc_types.proofs.Least.{least_of}
 use Rattle.jc_header_rules.specs.Clashes.{headers_breaks}
 use Rattle.jc_header_rules.specs.Types.{types_breaks}
-use Rattle.jc_headers.specs.Stages.{IsFirst, IsLeastOf}
+use Rattle.jc_headers.specs.Stages.{IsFirst}
 
 least_told : (bs : List Refusal) (r : Option Refusal) → r ≡ least None bs → LeastOf (λ b. IsOf b bs) r
 least_told bs r e = subst (LeastOf (λ b. IsOf b bs)) (sym e) (least_of bs)

@@ -1,9 +1,9 @@
 -- Steps of a walk over direct supertypes, and what it finds.
 use Rattle.std.proofs.lemmas.Grind.{common_steps}
 use Rattle.std.proofs.lemmas.Bool.Decides.{nat_tests}
-use Rattle.std.proofs.Common.{take, drop, slice_index_or, ◌-◌, arith, ◌≡◌, ◌≢◌, ◌⊎◌, inl, inr, ℕ, zero, suc, ◌+◌, ◌<◌, ◌≤◌, ◌||◌, ◌==◌, Bool, true, false, Option, Some, None, List, [], ◌∷◌, ◌++◌, append_assoc, length, slice_get, slice_set, replicate, refl, sym, ap, subst, ◌∙◌}
+use Rattle.std.proofs.Common.{take, drop, slice_index_or, ◌-◌, arith, ◌≡◌, ◌≢◌, ◌⊎◌, inl, inr, ℕ, zero, suc, ◌+◌, ◌<◌, ◌≤◌, ◌||◌, ◌==◌, Bool, true, false, Option, Some, None, List, [], ◌∷◌, ◌++◌, append_assoc, length, slice_get, slice_set, refl, sym, ap, subst, ◌∙◌}
 use Rattle.std.specs.List.{list_any}
-use Rattle.jc_heap.specs.Above.{Added, AllAbove, AreAbove, Cleared, Filled, Grown, IsBlank, IsClosed, IsIn, IsMarked, Put, Searching, SoFar, Walk, opens, put_by}
+use Rattle.jc_heap.specs.Above.{Added, AreAbove, Cleared, Filled, Grown, IsBlank, IsIn, IsMarked, Put, Searching, Walk, opens, put_by}
 use Rattle.jc_heap.specs.Supers.{below_by, supers_at}
 use Rattle.jc_heap.proofs.Below.{below_by-none, below_by-suc}
 

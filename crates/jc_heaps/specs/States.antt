@@ -3,7 +3,6 @@ use Rattle.std.specs.Prelude.{ℕ, List, Option, Some, None, slice_get, slice_se
 use Rattle.jc_running.specs.declared.value.Value.{Value}
 use Rattle.jc_running.specs.declared.seen.Shown.{Shown}
 use Rattle.jc_heaps.specs.declared.state.Object.{Object}
-use Rattle.jc_heaps.specs.declared.state.Interned.{Interned}
 use Rattle.jc_heaps.specs.declared.state.State.{State}
 use Rattle.jc_running.specs.Outcomes.{Out, Val, Thrown, Exited, Going, Wrong, Run, give, wrong}
 

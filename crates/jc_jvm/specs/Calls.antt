@@ -1,5 +1,5 @@
 -- Calls and returns (JVMS 2.6, 6.5), and the native methods of the library.
-use Rattle.std.specs.Prelude.{ℕ, zero, suc, ◌+◌, ◌-◌, ◌%◌, ◌^◌, ◌==◌, Bool, true, false, not, ◌&&◌, ◌||◌, List, [], ◌∷◌, ◌++◌, length, take, drop, reverse, slice_get, option_and_then, ℤ, pos, negsuc, codes, if◌then◌else◌}
+use Rattle.std.specs.Prelude.{ℕ, ◌%◌, ◌^◌, ◌==◌, Bool, true, false, not, ◌&&◌, List, [], ◌∷◌, length, take, drop, reverse, slice_get, option_and_then, pos, negsuc, codes, if◌then◌else◌}
 use Rattle.std.specs.Int.{w32, cast_unsigned}
 use Rattle.std.specs.List.{list_any}
 use Rattle.std.specs.Option.{option_map}
@@ -7,7 +7,6 @@ use Rattle.std.specs.Str.{bytes_eq}
 use Rattle.std.specs.declared.option.Option.{Option}
 use Rattle.std.specs.declared.option.Option.TheVariants.{Some, None}
 use Rattle.jc_class_out.specs.declared.model.ClassModel.{ClassModel}
-use Rattle.jc_class_out.specs.declared.model.CodeModel.{CodeModel}
 use Rattle.jc_class_out.specs.declared.model.MethodModel.{MethodModel}
 use Rattle.jc_jvm.specs.Classes.{class_named, name_of, super_of, line_of, selected, method_of, method_at, is_static_method, has_flag, placed_at}
 use Rattle.jc_jvm.specs.Frames.{Act, Goes, Throws, Fails, throws, pushes, leaves, with_values, frame_of}
@@ -21,9 +20,9 @@ use Rattle.jc_jvm.specs.declared.frame.Frame.{Frame}
 use Rattle.jc_jvm.specs.declared.frame.Waiting.{Waiting}
 use Rattle.jc_jvm.specs.declared.frame.Waiting.TheVariants.{Caller, Prepared, Initialising}
 use Rattle.jc_jvm.specs.declared.operands.Sort.{Sort}
-use Rattle.jc_jvm.specs.declared.operands.Sort.TheVariants.{WholeSort, LongSort, ReferenceSort}
+use Rattle.jc_jvm.specs.declared.operands.Sort.TheVariants.{ReferenceSort}
 use Rattle.jc_jvm.specs.declared.value.Value.{Value}
-use Rattle.jc_jvm.specs.declared.value.Value.TheVariants.{Whole, Long, Address, NullValue}
+use Rattle.jc_jvm.specs.declared.value.Value.TheVariants.{Whole, Address, NullValue}
 use Rattle.jc_jvm.specs.declared.world.Ending.TheVariants.{Ended, Exited, Stuck}
 use Rattle.jc_jvm.specs.declared.world.Fault.TheVariants.{NullPointer}
 use Rattle.jc_jvm.specs.declared.world.Native.{Native}

@@ -1,5 +1,5 @@
 -- Classes, their members and their code, by name and by number. A name means the first class of that name.
-use Rattle.std.specs.Prelude.{ℕ, zero, suc, ◌+◌, ◌==◌, Bool, true, false, not, ◌&&◌, ◌||◌, List, [], ◌∷◌, ◌++◌, map, filter, position, reverse, length, slice_get, option_and_then, bit_and, codes, if◌then◌else◌}
+use Rattle.std.specs.Prelude.{ℕ, zero, suc, ◌+◌, ◌==◌, Bool, false, not, ◌&&◌, ◌||◌, List, [], ◌∷◌, ◌++◌, map, filter, position, reverse, length, slice_get, option_and_then, bit_and, codes, if◌then◌else◌}
 use Rattle.std.specs.List.{list_any, filter_map, flat_map}
 use Rattle.std.specs.Option.{option_map}
 use Rattle.std.specs.Str.{bytes_eq}

@@ -1,5 +1,5 @@
 -- What instructions do to a frame: its stack and its locals (JVMS 2.6).
-use Rattle.std.specs.Prelude.{ℕ, ◌+◌, ◌-◌, ◌==◌, Bool, true, false, ◌&&◌, nat_lt, nat_le, List, [], ◌∷◌, ◌++◌, length, take, drop, reverse, replicate, slice_get, slice_set, option_and_then, if◌then◌else◌}
+use Rattle.std.specs.Prelude.{ℕ, ◌+◌, ◌-◌, Bool, true, false, ◌&&◌, nat_lt, nat_le, List, [], ◌∷◌, ◌++◌, length, replicate, slice_get, slice_set, option_and_then, if◌then◌else◌}
 use Rattle.std.specs.Option.{option_map}
 use Rattle.std.specs.declared.option.Option.{Option}
 use Rattle.std.specs.declared.option.Option.TheVariants.{Some, None}
@@ -11,7 +11,7 @@ use Rattle.jc_jvm.specs.Types.{is_of_sort}
 use Rattle.jc_jvm.specs.declared.frame.Frame.{Frame}
 use Rattle.jc_jvm.specs.declared.operands.Sort.{Sort}
 use Rattle.jc_jvm.specs.declared.value.Value.{Value}
-use Rattle.jc_jvm.specs.declared.value.Value.TheVariants.{Whole, Long, Address, NullValue}
+use Rattle.jc_jvm.specs.declared.value.Value.TheVariants.{Long}
 use Rattle.jc_jvm.specs.declared.world.Fault.{Fault}
 
 -- What an instruction does to its frame: the frame goes on, its stack empty an exception of the machine comes up at its place, or the

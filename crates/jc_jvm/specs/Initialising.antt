@@ -1,5 +1,5 @@
 -- The initialisation of classes (JVMS 5.5).
-use Rattle.std.specs.Prelude.{ℕ, zero, suc, ◌+◌, Bool, true, false, List, [], ◌∷◌, length, slice_get, option_and_then, if◌then◌else◌}
+use Rattle.std.specs.Prelude.{ℕ, zero, suc, List, [], ◌∷◌, length, if◌then◌else◌}
 use Rattle.std.specs.declared.option.Option.{Option}
 use Rattle.std.specs.declared.option.Option.TheVariants.{Some, None}
 use Rattle.jc_class_out.specs.declared.model.ClassModel.{ClassModel}
@@ -10,7 +10,6 @@ use Rattle.jc_jvm.specs.Worlds.{state_of_class, with_state}
 use Rattle.jc_jvm.specs.declared.frame.Frame.{Frame}
 use Rattle.jc_jvm.specs.declared.frame.Waiting.{Waiting}
 use Rattle.jc_jvm.specs.declared.frame.Waiting.TheVariants.{Caller, Prepared, Initialising}
-use Rattle.jc_jvm.specs.declared.world.ClassState.{ClassState}
 use Rattle.jc_jvm.specs.declared.world.ClassState.TheVariants.{Untouched, InProgress, Ready, Failed}
 use Rattle.jc_jvm.specs.declared.world.Ending.TheVariants.{Ended, Stuck}
 use Rattle.jc_jvm.specs.declared.world.Fault.TheVariants.{NoClassDefFound}

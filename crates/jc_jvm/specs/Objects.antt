@@ -1,15 +1,14 @@
 -- The instructions on objects, arrays and static fields (JVMS 6.5) that run no other code.
-use Rattle.std.specs.Prelude.{ℕ, zero, suc, ◌+◌, ◌-◌, ◌*◌, ◌%◌, ◌^◌, ◌==◌, Bool, true, false, ◌&&◌, ◌||◌, nat_lt, nat_le, List, [], ◌∷◌, ◌++◌, length, map, reverse, slice_get, slice_set, option_and_then, ℤ, pos, negsuc, int_lt, if◌then◌else◌}
+use Rattle.std.specs.Prelude.{ℕ, zero, suc, ◌+◌, ◌*◌, ◌%◌, ◌^◌, ◌==◌, Bool, true, false, ◌&&◌, nat_lt, nat_le, List, [], ◌∷◌, ◌++◌, length, slice_get, option_and_then, ℤ, pos, negsuc, if◌then◌else◌}
 use Rattle.std.specs.Int.{w8, w16, w32, cast_signed, cast_unsigned}
 use Rattle.std.specs.Option.{option_map}
 use Rattle.std.specs.declared.option.Option.{Option}
 use Rattle.std.specs.declared.option.Option.TheVariants.{Some, None}
 use Rattle.jc_class_out.specs.declared.model.ClassModel.{ClassModel}
-use Rattle.jc_class_out.specs.declared.model.FieldModel.{FieldModel}
-use Rattle.jc_jvm.specs.Frames.{Act, Goes, Throws, Fails, throws, pushes, leaves}
-use Rattle.jc_jvm.specs.Slotted.{heap_with, slots_of}
-use Rattle.jc_jvm.specs.Types.{is_of_sort, sort_of_shape, sort_of_descriptor, shallower, fits, is_shape_below}
-use Rattle.jc_jvm.specs.Worlds.{with_heap, with_array, with_object, with_string, string_address, with_interned, interned_in, next_address, zeros, with_cell}
+use Rattle.jc_jvm.specs.Frames.{Act, Fails, throws, pushes, leaves}
+use Rattle.jc_jvm.specs.Slotted.{heap_with}
+use Rattle.jc_jvm.specs.Types.{is_of_sort, sort_of_shape, shallower, fits}
+use Rattle.jc_jvm.specs.Worlds.{with_heap, with_array, with_object, with_string, string_address, with_interned, interned_in, next_address, zeros}
 use Rattle.jc_jvm.specs.declared.cells.Cell.{Cell}
 use Rattle.jc_jvm.specs.declared.cells.Cell.TheVariants.{Instance, Array}
 use Rattle.jc_jvm.specs.declared.frame.Frame.{Frame}

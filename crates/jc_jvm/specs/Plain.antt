@@ -1,14 +1,9 @@
 -- The instructions that touch their frame alone (JVMS 6.5): constants, locals, the stack, arithmetic, conversions, jumps.
-use Rattle.std.specs.Prelude.{ℕ, ◌+◌, ◌-◌, ◌*◌, ◌/◌, ◌%◌, ◌^◌, ◌==◌, Bool, true, false, not, ◌&&◌, nat_lt, List, [], ◌∷◌, find, slice_get, option_and_then, ℤ, pos, negsuc, ◌+ℤ◌, int_lt, int_le, int_rem, if◌then◌else◌}
+use Rattle.std.specs.Prelude.{ℕ, ◌/◌, ◌%◌, ◌^◌, ◌==◌, Bool, true, false, not, ◌&&◌, List, [], ◌∷◌, ℤ, pos, negsuc, int_lt, int_le, int_rem, if◌then◌else◌}
 use Rattle.std.specs.Int.{w8, w16, w32, w64, cast_signed, cast_unsigned, int_wrapping_add, int_wrapping_sub, int_wrapping_mul, int_wrapping_div, int_wrapping_neg, int_shl, int_shr, int_bit_and, int_bit_or, int_bit_xor}
-use Rattle.std.specs.Option.{option_map}
 use Rattle.std.specs.Ordering.{int_eq}
 use Rattle.std.specs.declared.option.Option.{Option}
 use Rattle.std.specs.declared.option.Option.TheVariants.{Some, None}
-use Rattle.jc_class_out.specs.declared.model.SwitchCase.{SwitchCase}
-use Rattle.jc_jvm.specs.Frames.{Act, Goes, Fails, throws, pushes, leaves, with_local, local_of_sort}
-use Rattle.jc_jvm.specs.Types.{is_of_sort}
-use Rattle.jc_jvm.specs.declared.frame.Frame.{Frame}
 use Rattle.jc_jvm.specs.declared.groups.Operator.{Operator}
 use Rattle.jc_jvm.specs.declared.groups.Operator.TheVariants.{Add, Subtract, Multiply, And, Or, Xor}
 use Rattle.jc_jvm.specs.declared.groups.Shift.{Shift}
@@ -23,11 +18,8 @@ use Rattle.jc_jvm.specs.declared.groups.Comparison.{Comparison}
 use Rattle.jc_jvm.specs.declared.groups.Comparison.TheVariants.{Equal, Unequal, Less, NotLess, Greater, NotGreater}
 use Rattle.jc_jvm.specs.declared.groups.Width.{Width}
 use Rattle.jc_jvm.specs.declared.groups.Width.TheVariants.{NoUnit, OneUnit, TwoUnits}
-use Rattle.jc_jvm.specs.declared.operands.Sort.{Sort}
-use Rattle.jc_jvm.specs.declared.operands.Sort.TheVariants.{WholeSort, LongSort, ReferenceSort}
 use Rattle.jc_jvm.specs.declared.value.Value.{Value}
 use Rattle.jc_jvm.specs.declared.value.Value.TheVariants.{Whole, Long, Address, NullValue}
-use Rattle.jc_jvm.specs.declared.world.Fault.TheVariants.{Arithmetic}
 
 -- ---- the stack
 

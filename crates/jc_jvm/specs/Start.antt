@@ -11,7 +11,7 @@ use Rattle.jc_class_out.specs.declared.model.MethodModel.{MethodModel}
 use Rattle.jc_jvm.specs.Classes.{class_named, methods_of, has_flag, is_static_method}
 use Rattle.jc_jvm.specs.Frames.{frame_of}
 use Rattle.jc_jvm.specs.Initialising.{initialised}
-use Rattle.jc_jvm.specs.Thrown.{State, Going, Over}
+use Rattle.jc_jvm.specs.Thrown.{State, Over}
 use Rattle.jc_jvm.specs.Types.{shape_of_class}
 use Rattle.jc_jvm.specs.Worlds.{first_world, with_string, string_address, string_class, with_cell, next_address}
 use Rattle.jc_jvm.specs.declared.cells.Cell.{Cell}

@@ -1,5 +1,5 @@
 -- The instruction table (JVMS 6.5): what each instruction does, and one step of the machine.
-use Rattle.std.specs.Prelude.{ℕ, ◌+◌, ◌-◌, ◌==◌, Bool, true, false, not, ◌&&◌, ◌||◌, List, [], ◌∷◌, ◌++◌, length, find, slice_get, option_and_then, ℤ, pos, negsuc, int_le, nat_le, if◌then◌else◌}
+use Rattle.std.specs.Prelude.{ℕ, ◌+◌, ◌==◌, Bool, true, false, not, ◌&&◌, List, [], ◌∷◌, ◌++◌, slice_get, option_and_then, ℤ, pos, negsuc, int_le, nat_le, if◌then◌else◌}
 use Rattle.std.specs.Int.{w32, int_wrapping_add}
 use Rattle.std.specs.Option.{option_map}
 use Rattle.std.specs.declared.option.Option.{Option}
@@ -16,15 +16,15 @@ use Rattle.jc_class_out.specs.declared.model.SwitchCase.{SwitchCase}
 use Rattle.jc_opcodes.specs.Opcodes.{opcode_of}
 use Rattle.jc_opcodes.specs.declared.opcode.Opcode.{Opcode}
 use Rattle.jc_opcodes.specs.declared.opcode.Opcode.TheVariants as is
-use Rattle.jc_jvm.specs.Calls.{Step, Moves as MovesTo, Asks, Shown, Quiet, stuck, acts, settled, arguments_of, sorts_of_call, called_virtually, called_specially, called_statically, special_method, null_pointer, returned}
+use Rattle.jc_jvm.specs.Calls.{Step, Moves as MovesTo, Quiet, stuck, acts, arguments_of, sorts_of_call, called_virtually, called_specially, called_statically, special_method, null_pointer, returned}
 use Rattle.jc_jvm.specs.Classes.{class_named, class_has_flag, field_of, field_at, is_static_field, slot_of, method_of, method_at, is_static_method, placed_at}
-use Rattle.jc_jvm.specs.Frames.{Act, Goes, Fails, throws, go_on, pushes, leaves, with_local, local_of_sort}
+use Rattle.jc_jvm.specs.Frames.{Act, Fails, throws, pushes, leaves, with_local, local_of_sort}
 use Rattle.jc_jvm.specs.Initialising.{initialised}
 use Rattle.jc_jvm.specs.Objects.{Act_in, element_loaded, element_stored, array_length, array_made, arrays_made, object_made, field_pushed, field_loaded, field_stored, cast_to, truth, literal_pushed}
 use Rattle.jc_jvm.specs.Plain.{is_both_one_unit, units_taken, compared, int_of_two, long_of_two, int_shifted, long_shifted, is_zero, int_quotient, long_quotient, of_int, of_long, holds, same_reference, is_null}
-use Rattle.jc_jvm.specs.Stacked.{Stacked, units_in}
+use Rattle.jc_jvm.specs.Stacked.{units_in}
 use Rattle.jc_jvm.specs.Thrown.{State, Going, Over, fault_thrown, thrown}
-use Rattle.jc_jvm.specs.Types.{is_of_sort, fits, result_sort, sort_of_descriptor, shape_named, based, deeper}
+use Rattle.jc_jvm.specs.Types.{is_of_sort, fits, result_sort, sort_of_descriptor, shape_named, based}
 use Rattle.jc_jvm.specs.Worlds.{state_of_class, statics_at, with_static}
 use Rattle.jc_jvm.specs.declared.frame.Frame.{Frame}
 use Rattle.jc_jvm.specs.declared.frame.Waiting.{Waiting}
@@ -32,7 +32,6 @@ use Rattle.jc_jvm.specs.declared.groups.Comparison.{Comparison}
 use Rattle.jc_jvm.specs.declared.groups.Comparison.TheVariants as compare
 use Rattle.jc_jvm.specs.declared.groups.Division.{Division}
 use Rattle.jc_jvm.specs.declared.groups.Division.TheVariants as division
-use Rattle.jc_jvm.specs.declared.groups.Element.{Element}
 use Rattle.jc_jvm.specs.declared.groups.Element.TheVariants.{OfInt, OfLong, OfReference, OfByte, OfChar, OfShort}
 use Rattle.jc_jvm.specs.declared.groups.Group.{Group}
 use Rattle.jc_jvm.specs.declared.groups.Group.TheVariants.{Alone, Numbers, Literals, Longs, Loads, Stores, Steps, ElementLoads, ElementStores, IntJumps, IntPairJumps, PairJumps, NullJumps, Jumps, Switches, Returns, StaticLoads, StaticStores, FieldLoads, FieldStores, VirtualCalls, SpecialCalls, StaticCalls, News, NewArrays, NewReferenceArrays, NewNests, Lengths, Throws, Casts, Tests}
@@ -58,8 +57,6 @@ use Rattle.jc_jvm.specs.declared.value.Value.{Value}
 use Rattle.jc_jvm.specs.declared.value.Value.TheVariants.{Whole, Long, Address, NullValue}
 use Rattle.jc_jvm.specs.declared.world.ClassState.{ClassState}
 use Rattle.jc_jvm.specs.declared.world.ClassState.TheVariants.{Untouched, InProgress, Ready, Failed}
-use Rattle.jc_jvm.specs.declared.world.Ending.{Ending}
-use Rattle.jc_jvm.specs.declared.world.Ending.TheVariants.{Stuck}
 use Rattle.jc_jvm.specs.declared.world.Fault.TheVariants.{Arithmetic, NoClassDefFound}
 use Rattle.jc_jvm.specs.declared.world.World.{World}
 

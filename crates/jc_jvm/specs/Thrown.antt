@@ -1,5 +1,5 @@
 -- Exceptions (JVMS 2.10): which handler catches one, and what is left on its way there.
-use Rattle.std.specs.Prelude.{ℕ, ◌==◌, Bool, true, false, ◌&&◌, nat_lt, nat_le, List, [], ◌∷◌, find, slice_get, option_and_then, codes, if◌then◌else◌}
+use Rattle.std.specs.Prelude.{ℕ, Bool, true, false, ◌&&◌, nat_lt, nat_le, List, [], ◌∷◌, find, slice_get, option_and_then, codes, if◌then◌else◌}
 use Rattle.std.specs.Option.{option_map}
 use Rattle.std.specs.declared.option.Option.{Option}
 use Rattle.std.specs.declared.option.Option.TheVariants.{Some, None}
@@ -10,7 +10,7 @@ use Rattle.jc_jvm.specs.Classes.{class_named, is_class_below, code_at}
 use Rattle.jc_jvm.specs.Stacked.{Stacked, pushed}
 use Rattle.jc_jvm.specs.Worlds.{with_object, with_state, next_address}
 use Rattle.jc_jvm.specs.declared.cells.Cell.{Cell}
-use Rattle.jc_jvm.specs.declared.cells.Cell.TheVariants.{Instance, Array}
+use Rattle.jc_jvm.specs.declared.cells.Cell.TheVariants.{Instance}
 use Rattle.jc_jvm.specs.declared.frame.Frame.{Frame}
 use Rattle.jc_jvm.specs.declared.frame.Waiting.{Waiting}
 use Rattle.jc_jvm.specs.declared.frame.Waiting.TheVariants.{Caller, Prepared, Initialising}

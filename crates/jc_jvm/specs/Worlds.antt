@@ -1,5 +1,5 @@
 -- What frames share: the heap, class states, static fields, interned strings (JVMS 2.5).
-use Rattle.std.specs.Prelude.{ℕ, ◌+◌, ◌==◌, List, [], ◌∷◌, ◌++◌, map, length, position, replicate, slice_get, slice_set, option_and_then, pos, codes, if◌then◌else◌}
+use Rattle.std.specs.Prelude.{ℕ, ◌+◌, List, [], ◌∷◌, ◌++◌, map, length, position, replicate, slice_get, slice_set, option_and_then, pos, codes, if◌then◌else◌}
 use Rattle.std.specs.Option.{option_map}
 use Rattle.std.specs.Str.{bytes_eq}
 use Rattle.std.specs.declared.option.Option.{Option}
@@ -8,7 +8,7 @@ use Rattle.jc_class_out.specs.declared.model.ClassModel.{ClassModel}
 use Rattle.jc_class_out.specs.declared.model.FieldModel.{FieldModel}
 use Rattle.jc_jvm.specs.Classes.{class_named, instance_fields}
 use Rattle.jc_jvm.specs.Slotted.{static_in, statics_with}
-use Rattle.jc_jvm.specs.Types.{new_fields, shape_of_class, based, sort_of_shape, zero_of, zero_of_field}
+use Rattle.jc_jvm.specs.Types.{new_fields, based, sort_of_shape, zero_of, zero_of_field}
 use Rattle.jc_jvm.specs.declared.cells.Cell.{Cell}
 use Rattle.jc_jvm.specs.declared.cells.Cell.TheVariants.{Instance, Array}
 use Rattle.jc_jvm.specs.declared.value.Base.TheVariants as base

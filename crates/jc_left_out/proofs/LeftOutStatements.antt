@@ -19,7 +19,7 @@ use Rattle.jc_tree.specs.declared.statement.Stmt.{Stmt}
 use Rattle.jc_tree.specs.declared.statement.Stmt.TheVariants as stmt_of
 use Rattle.jc_tree.specs.Offsets.{first_offset_of_declaration, first_offset_of_head}
 use Rattle.jc_tree.proofs.OffsetsOfStatements.{first_offset_of_declaration-parts}
-use Rattle.jc_left_out.specs.LeftOut.{Membered, Declared, Standing, Anywhere, InnerClass, Initialiser, counted, misplaced, standing_of_method, forms_of_clause, forms_of_declaration, forms_of_member, forms_of_stmt, head_forms, in_each, in_some_of, is_class, is_inner, joined_all, left_out_of_clause_head, left_out_of_declaration, left_out_of_expr, left_out_of_for, left_out_of_locals, left_out_of_member, left_out_of_method, left_out_of_resources, left_out_of_value, only_if, value_forms}
+use Rattle.jc_left_out.specs.LeftOut.{Declared, Anywhere, InnerClass, Initialiser, counted, misplaced, standing_of_method, forms_of_clause, forms_of_declaration, forms_of_member, forms_of_stmt, head_forms, in_each, in_some_of, is_class, is_inner, joined_all, left_out_of_clause_head, left_out_of_declaration, left_out_of_expr, left_out_of_for, left_out_of_locals, left_out_of_member, left_out_of_method, left_out_of_resources, left_out_of_value, only_if, value_forms}
 use Rattle.jc_left_out.proofs.LeftOutForms.{forms_of_clause-out, forms_of_declaration-out, forms_of_member-at, forms_of_stmt-at, left_out_of_value-out}
 
 value-at : (node : AnnotationValue) (l : AnnotationValue-F AnnotationValue) → out-AnnotationValue node ≡ l → left_out_of_value node ≡ value_forms (map-AnnotationValue AnnotationValue (List ℕ) left_out_of_value l)

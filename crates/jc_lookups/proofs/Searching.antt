@@ -1,12 +1,12 @@
 -- Turns of a search for a field.
-use Rattle.std.proofs.Common.{◌≡◌, ◌≢◌, ◌⊎◌, inl, inr, ◌<◌, ◌≤◌, ◌+◌, ◌-◌, ◌∙◌, ◌++◌, ◌∷◌, [], ℕ, zero, suc, List, length, drop, get_or, set, position, option_and_then, replicate, reverse, refl, sym, ap, subst, arith, get_or-set_same, get_or-set_other}
+use Rattle.std.proofs.Common.{◌≡◌, ◌⊎◌, inl, inr, ◌<◌, ◌≤◌, ◌+◌, ◌-◌, ◌∙◌, ◌++◌, ◌∷◌, [], ℕ, zero, suc, List, length, drop, get_or, set, position, option_and_then, replicate, reverse, refl, sym, ap, subst, arith}
 use Rattle.std.proofs.lemmas.List.{drop_all, reverse-append}
 use Rattle.std.specs.Option.{option_map}
 use Rattle.std.specs.declared.option.Option.{Option}
 use Rattle.std.specs.declared.option.Option.TheVariants.{Some, None}
 use Rattle.jc_class_out.specs.declared.model.ClassModel.{ClassModel}
 use Rattle.jc_jvm.specs.Classes.{class_named, field_on, fields_of, first_some, interfaces_of, is_field, listed, or_else, super_of}
-use Rattle.jc_lookups.proofs.FieldLines.{field_none, field_on-suc, name_more, no_own_field, or_else-assoc, or_else-none, own_field}
+use Rattle.jc_lookups.proofs.FieldLines.{field_none, name_more, no_own_field, or_else-assoc, or_else-none, own_field}
 use Rattle.jc_lookups.specs.Interfaces.{among_names, interface_names}
 use Rattle.jc_lookups.specs.Searched.{AllSay, AreWithout, Says, Stands, Turn, found_above, has_turned, task_finds, tasks_find}
 use Rattle.jc_lookups.specs.declared.seeking.Task.{Task}

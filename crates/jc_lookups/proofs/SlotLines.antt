@@ -1,12 +1,11 @@
 -- Marks of instance fields, as loops make them.
-use Rattle.std.proofs.Common.{◌≡◌, ℕ, zero, suc, ◌+◌, ◌-◌, ◌<◌, ◌==◌, ◌&&◌, List, [], ◌∷◌, ◌++◌, Bool, cond, nat_lt, map, filter, position, length, not, refl, sym, ap, ◌∙◌, arith, append_assoc}
-use Rattle.std.proofs.lemmas.List.{append-nil, length-map}
+use Rattle.std.proofs.Common.{◌≡◌, ℕ, ◌+◌, ◌-◌, ◌==◌, ◌&&◌, List, [], ◌∷◌, ◌++◌, Bool, cond, nat_lt, map, filter, position, length, not, refl, sym, ap, ◌∙◌, arith}
+use Rattle.std.proofs.lemmas.List.{length-map}
 use Rattle.std.specs.List.{flat_map, position_or_len}
-use Rattle.std.specs.declared.option.Option.{Option}
 use Rattle.std.specs.declared.option.Option.TheVariants.{Some, None}
 use Rattle.jc_class_out.specs.declared.model.ClassModel.{ClassModel}
 use Rattle.jc_class_out.specs.declared.model.FieldModel.{FieldModel}
-use Rattle.jc_jvm.specs.Classes.{line_on, super_of, own_fields, fields_of, is_field, is_static_field}
+use Rattle.jc_jvm.specs.Classes.{own_fields, fields_of, is_field, is_static_field}
 use Rattle.jc_lookups.specs.FieldMarks.{own_marks}
 
 own-marks : (class : ℕ) (name descriptor : List ℕ) (k : ℕ) (fields : List FieldModel) (rest : List (ℕ × FieldModel)) →

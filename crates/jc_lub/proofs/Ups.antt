@@ -1,5 +1,5 @@
 -- One step of a view.
-use Rattle.std.proofs.Common.{◌≡◌, ℕ, zero, suc, ◌<◌, ◌-◌, List, arith, sym, ap}
+use Rattle.std.proofs.Common.{◌≡◌, ℕ, zero, suc, ◌<◌, ◌-◌, List, arith, ap}
 use Rattle.jc_types.specs.declared.form.Ty.{Ty, out-Ty}
 use Rattle.jc_types.specs.declared.ids.ClassId.{ClassId}
 use Rattle.jc_types.specs.declared.table.Table.{Table}

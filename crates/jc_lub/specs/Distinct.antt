@@ -1,5 +1,5 @@
 -- Provably distinct parameterized types (JLS 4.5.1).
-use Rattle.std.specs.Prelude.{ℕ, ◌==◌, ◌||◌, ◌&&◌, not, nat_lt, Bool, true, false, is_some, List, [], ◌∷◌, ◌++◌, length, if◌then◌else◌}
+use Rattle.std.specs.Prelude.{◌==◌, ◌||◌, ◌&&◌, not, nat_lt, Bool, true, false, is_some, List, [], ◌∷◌, ◌++◌, length, if◌then◌else◌}
 use Rattle.jc_types.specs.declared.environment.Bounds.{Bounds}
 use Rattle.jc_types.specs.declared.erased.Base.{Base}
 use Rattle.jc_types.specs.declared.erased.Base.TheVariants as base

@@ -1,5 +1,5 @@
 -- The least upper bound of types (JLS 15.12.2.7), as this language has it: two levels deep.
-use Rattle.std.specs.Prelude.{ℕ, zero, suc, ◌+◌, ◌-◌, ◌==◌, ◌||◌, ◌&&◌, not, min, Bool, true, false, Option, Some, None, is_some, List, [], ◌∷◌, ◌++◌, length, map, filter, if◌then◌else◌}
+use Rattle.std.specs.Prelude.{ℕ, zero, suc, ◌+◌, ◌-◌, ◌==◌, ◌||◌, ◌&&◌, not, min, Bool, true, false, Option, Some, None, is_some, List, [], ◌∷◌, ◌++◌, map, filter, if◌then◌else◌}
 use Rattle.jc_types.specs.declared.declarations.ClassDecl.{ClassDecl}
 use Rattle.jc_types.specs.declared.environment.Bounds.{Bounds}
 use Rattle.jc_types.specs.declared.form.Arg.{Arg}

@@ -2,7 +2,7 @@
 use Rattle.std.specs.Prelude.{◌≡◌, ℕ, zero, suc, List, [], ◌∷◌, ◌++◌}
 use Rattle.jc_class_out.specs.declared.model.ClassModel.{ClassModel}
 use Rattle.jc_machine.specs.declared.machine.Ran.{Ran}
-use Rattle.jc_machine.specs.declared.machine.Ran.TheVariants.{StepsReached, Ended as RanEnded, Threw as RanThrew, Exited as RanExited, KeysFault as RanKeysFault, OutFault, Stuck as RanStuck}
+use Rattle.jc_machine.specs.declared.machine.Ran.TheVariants.{StepsReached, Ended as RanEnded, Threw as RanThrew, Exited as RanExited, KeysFault as RanKeysFault, Stuck as RanStuck}
 use Rattle.jc_machine.specs.declared.machine.Stepped.{Stepped}
 use Rattle.jc_machine.specs.declared.machine.Stepped.TheVariants.{Went, Byte, Ended, Threw, Exited, KeysFault, Stuck}
 use Rattle.jc_machine.specs.declared.act.Turn.{Turn}

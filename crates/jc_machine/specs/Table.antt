@@ -1,5 +1,5 @@
 -- The instruction table (JVMS 6.5): what each row does, and one step of the machine.
-use Rattle.std.specs.Prelude.{ℕ, ◌+◌, ◌==◌, ◌%◌, Bool, true, false, List, [], ◌∷◌, slice_get, if◌then◌else◌}
+use Rattle.std.specs.Prelude.{ℕ, ◌==◌, ◌%◌, Bool, true, false, List, [], ◌∷◌, slice_get, if◌then◌else◌}
 use Rattle.std.specs.Int.{w32, int_wrapping_add, cast_unsigned}
 use Rattle.std.specs.declared.option.Option.{Option}
 use Rattle.std.specs.declared.option.Option.TheVariants.{Some, None}
@@ -11,12 +11,12 @@ use Rattle.jc_machine.specs.declared.machine.Ending.{Ending}
 use Rattle.jc_machine.specs.declared.machine.Ending.TheVariants.{Ended as EndingEnded, Threw as EndingThrew, Exited as EndingExited, Stuck as EndingStuck}
 use Rattle.jc_machine.specs.declared.machine.Machine.{Machine}
 use Rattle.jc_machine.specs.declared.machine.Stepped.{Stepped}
-use Rattle.jc_machine.specs.declared.machine.Stepped.TheVariants.{Went, Byte, Ended, Threw, Exited, KeysFault, Stuck}
+use Rattle.jc_machine.specs.declared.machine.Stepped.TheVariants.{Went, Byte, Ended, Threw, Exited, Stuck}
 use Rattle.jc_machine.specs.declared.rows.Placed.{Placed}
 use Rattle.jc_machine.specs.declared.rows.Row.{Row}
 use Rattle.jc_machine.specs.declared.rows.Row.TheVariants.{Push, LoadReference, AddInt, GetOut, WriteByte, Construct, Return}
 use Rattle.jc_machine.specs.declared.value.Value.{Value}
-use Rattle.jc_machine.specs.declared.value.Value.TheVariants.{Whole, Long, Address, NullValue}
+use Rattle.jc_machine.specs.declared.value.Value.TheVariants.{Whole, Address, NullValue}
 use Rattle.jc_machine.specs.Names.{placed_at}
 use Rattle.jc_machine.specs.Stacked.{Stacked, pushed}
 

@@ -3,7 +3,7 @@ use Rattle.std.proofs.Common.{◌≡◌, ℕ, zero, suc, ◌+◌, ◌≤◌, Lis
 use Rattle.jc_types.specs.declared.ids.MethodId.{MethodId}
 use Rattle.jc_running.specs.declared.seen.Shown.{Shown}
 use Rattle.jc_running.specs.declared.value.Value.{Value}
-use Rattle.jc_running.specs.Shows.{AtMostOneMore, nothing_more, a_byte_more, one_more_taken, a_failure_more, with_byte, with_taken, with_failure}
+use Rattle.jc_running.specs.Shows.{AtMostOneMore, nothing_more, a_byte_more, one_more_taken, a_failure_more, with_byte, with_taken}
 use Rattle.jc_running.specs.Outcomes.{Out, Val, Thrown, Exited, Going, Wrong, WithOneUnitMore}
 use Rattle.jc_heaps.specs.States.{shown_of}
 use Rattle.jc_typed.specs.declared.program.TypedProgram.{TypedProgram}

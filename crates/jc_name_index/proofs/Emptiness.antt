@@ -1,5 +1,5 @@
 -- Whether names are there is told by what is found.
-use Rattle.std.proofs.Common.{◌≡◌, ℕ, Bool, true, false, List, [], ◌∷◌, Option, Some, None, slice_get, refl, sym, ap, ◌∙◌}
+use Rattle.std.proofs.Common.{◌≡◌, ℕ, Bool, true, false, List, [], ◌∷◌, Option, Some, None, slice_get, refl, sym}
 use Rattle.std.specs.Prelude.{not, if◌then◌else◌}
 use Rattle.std.specs.Str.{bytes_eq}
 use Rattle.std.proofs.lemmas.Slice.Eq.{bytes_eq-Decides}
@@ -9,7 +9,7 @@ use Rattle.jc_declares.specs.Heads.{class_variables}
 use Rattle.jc_declares.specs.Writing.{is_empty}
 use Rattle.jc_name_index.specs.declared.index.Index.{Index}
 use Rattle.jc_name_index.specs.Index.{IsIndex}
-use Rattle.jc_name_index.specs.Spaces.{Named, named_in, space_named, has_some}
+use Rattle.jc_name_index.specs.Spaces.{Named, named_in, has_some}
 
 bytes_self : (n : List ℕ) → bytes_eq n n ≡ true
 bytes_self n = (bytes_eq-Decides n n).1 refl

@@ -2,7 +2,6 @@
 use Rattle.std.proofs.Common.{◌≡◌, ◌+◌, ℕ, zero, suc, Bool, true, false, List, [], ◌∷◌, ◌++◌, take, Option, Some, None, slice_get, zero-add, refl, sym, ap, subst, ◌∙◌, arith}
 use Rattle.std.specs.Prelude.{cond, not, ◌&&◌, ◌||◌, ◌==◌, if◌then◌else◌}
 use Rattle.std.specs.Str.{bytes_eq}
-use Rattle.std.proofs.lemmas.Grind.{common_steps}
 use Rattle.std.proofs.lemmas.Bool.Decides.{nat_tests}
 use Rattle.std.proofs.lemmas.Slice.Eq.{bytes_eq-Decides}
 use Rattle.jc_types.specs.Names.{named}
@@ -13,7 +12,7 @@ use Rattle.jc_declares.specs.declared.heads.FieldHead.{FieldHead}
 use Rattle.jc_declares.specs.declared.heads.Heads.{Heads}
 use Rattle.jc_declares.specs.declared.heads.UnitHead.{UnitHead}
 use Rattle.jc_declares.specs.declared.heads.VariableHead.{VariableHead}
-use Rattle.jc_declares.specs.Heads.{Named, named_classes, named_variables, is_inside, is_top, is_of_package, declared_of, types_of_package, class_variables, method_variables, same_owner, imports_of, imports_in}
+use Rattle.jc_declares.specs.Heads.{Named, named_classes, named_variables, is_inside, is_top, is_of_package, declared_of, types_of_package, same_owner, imports_of, imports_in}
 use Rattle.jc_declares.specs.Looking.{is_number, singles}
 use Rattle.jc_declares.specs.HeadBreaks.{some_in, some_before, same_round, same_package, same_place, other_single}
 use Rattle.jc_name_index.specs.Spaces.{picked, noted_all, space_named}

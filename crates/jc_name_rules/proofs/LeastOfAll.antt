@@ -9,7 +9,7 @@ use Rattle.jc_declares.specs.declared.heads.Heads.{Heads}
 use Rattle.jc_declares.specs.Sites.{Sites}
 use Rattle.jc_declares.specs.Heads.{heads_of}
 use Rattle.jc_declares.specs.Looking.{Knowledge}
-use Rattle.jc_declares.specs.Knowing.{known, Needs}
+use Rattle.jc_declares.specs.Knowing.{known}
 use Rattle.jc_declares.specs.HeadBreaks.{of_each, head_breaks, IsCycle, broken_at}
 use Rattle.jc_declares.specs.Breaks.{site_breaks, listed_breaks, BreaksNames}
 use Rattle.jc_name_rules.specs.Cycles.{AreCyclic, is_marked, cycle_breaks}

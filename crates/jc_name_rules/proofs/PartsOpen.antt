@@ -1,5 +1,5 @@
 -- Whether the classes that an import names may be named is told part by part.
-use Rattle.std.proofs.Common.{◌≡◌, ◌<◌, ◌+◌, Option, Some, None, drop, length, get_or, ℕ, Bool, true, false, List, [], ◌∷◌, ◌++◌, refl, sym, ap, ◌∙◌}
+use Rattle.std.proofs.Common.{◌≡◌, ◌<◌, ◌+◌, Some, None, drop, length, get_or, ℕ, true, List, [], ◌∷◌, ◌++◌, refl, sym, ap, ◌∙◌}
 use Rattle.std.specs.Prelude.{◌&&◌}
 use Rattle.jc_declares.specs.declared.heads.Heads.{Heads}
 use Rattle.jc_declares.specs.Looking.{Asker, Found, InPackage, AtClass, Nowhere, is_accessible, all_accessible, next_part, class_or_nowhere, type_or_package}

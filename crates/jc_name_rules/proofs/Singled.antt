@@ -2,7 +2,6 @@
 use Rattle.std.proofs.Common.{◌≡◌, ℕ, Bool, true, false, List, [], ◌∷◌, ◌++◌, ◌<◌, ◌+◌, take, length, get_or, Option, Some, None, append_assoc, append-nil, refl, sym, ap, subst, ◌∙◌, arith}
 use Rattle.std.specs.Prelude.{cond, not, ◌||◌, ◌&&◌, ◌==◌, if◌then◌else◌}
 use Rattle.std.specs.Str.{bytes_eq}
-use Rattle.std.proofs.lemmas.Grind.{common_steps}
 use Rattle.std.proofs.lemmas.List.{take_more}
 use Rattle.std.proofs.lemmas.Bool.Decides.{nat_tests}
 use Rattle.std.proofs.lemmas.Slice.Eq.{bytes_eq-Decides}
@@ -15,7 +14,7 @@ use Rattle.jc_declares.specs.HeadBreaks.{some_in, other_single, is_imported_twic
 use Rattle.jc_declares.specs.Looking.{Found, single_of, singles, imported}
 use Rattle.jc_name_index.proofs.SpacesNoted.{or_next, named_joined, bytes_same}
 use Rattle.jc_name_rules.specs.declared.singles.Singles.{Singles}
-use Rattle.jc_name_rules.specs.Singles.{AreSingles, other_in, other_by, with_single, with_first_or, with_several, with_entries, is_twice_among}
+use Rattle.jc_name_rules.specs.Singles.{AreSingles, other_in, other_by, with_single, with_first_or, with_entries, is_twice_among}
 
 pub some_in-append : {X : Type 0} (test : X → Bool) (xs ys : List X) → some_in test (xs ++ ys) ≡ some_in test xs || some_in test ys
 some_in-append test [] ys = refl

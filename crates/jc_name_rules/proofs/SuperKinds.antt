@@ -1,5 +1,5 @@
 -- The kinds of supertypes, told by what is seen of them.
-use Rattle.std.proofs.Common.{◌≡◌, ℕ, List, [], ◌∷◌, Option, Some, None, refl}
+use Rattle.std.proofs.Common.{◌≡◌, ℕ, List, [], ◌∷◌, Some, None, refl}
 use Rattle.jc_declares.specs.declared.heads.Heads.{Heads}
 use Rattle.jc_declares.specs.Looking.{Look, AClass, AVariable}
 use Rattle.jc_declares.specs.HeadBreaks.{superclass_fits, interface_fits, class_meant}

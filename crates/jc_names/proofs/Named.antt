@@ -1,5 +1,5 @@
 -- What the steps of the stage of names give, in one.
-use Rattle.std.proofs.Common.{◌≡◌, None, List, sym, subst, ap, ◌∙◌}
+use Rattle.std.proofs.Common.{◌≡◌, None, List, subst, ap, ◌∙◌}
 use Rattle.jc_rules.specs.declared.rule.Refusal.{Refusal}
 use Rattle.jc_types.specs.declared.table.Table.{Table}
 use Rattle.jc_types.specs.Breaks.{LeastOf}
@@ -9,7 +9,7 @@ use Rattle.jc_declares.specs.Breaks.{BreaksNames}
 use Rattle.jc_declares.specs.Heads.{heads_of}
 use Rattle.jc_declares.specs.Knowing.{known}
 use Rattle.jc_declares.specs.Looking.{Knowledge}
-use Rattle.jc_declares.specs.Making.{table_with, table_of}
+use Rattle.jc_declares.specs.Making.{table_with}
 use Rattle.jc_declares.specs.Sites.{Sites, sites_of}
 use Rattle.jc_names.specs.Stage.{IsNamed}
 

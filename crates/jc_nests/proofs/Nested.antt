@@ -7,7 +7,6 @@ use Rattle.jc_jvm.specs.Worlds.{zeros}
 use Rattle.jc_jvm.specs.declared.cells.Cell.{Cell}
 use Rattle.jc_jvm.specs.declared.cells.Cell.TheVariants.{Array}
 use Rattle.jc_jvm.specs.declared.value.Shape.{Shape}
-use Rattle.jc_jvm.specs.declared.value.Value.{Value}
 
 pub arrays-nil : arrays_within [] ≡ 0
 unfolding arrays_within

@@ -1,18 +1,17 @@
 -- What the laws of the readers tell the code: how far they look, that they take tokens, and that what they find stands where it may.
-use Rattle.std.proofs.Common.{◌≡◌, ℕ, zero, suc, ◌<◌, ◌≤◌, true, List, ◌∷◌, length, refl, subst, arith}
+use Rattle.std.proofs.Common.{◌≡◌, ℕ, zero, suc, ◌≤◌, true, List, ◌∷◌, length, refl, subst, arith}
 use Rattle.std.specs.Prelude.{nat_le}
 use Rattle.std.proofs.lemmas.Bool.{and_parts}
 use Rattle.jc_lexer.specs.declared.token.Sign.TheVariants as sign_of
 use Rattle.jc_lexer.specs.declared.token.Token.{Token}
 use Rattle.jc_tree.specs.declared.expression.BinaryOp.{BinaryOp}
 use Rattle.jc_tree.specs.declared.expression.Expr.{Expr}
-use Rattle.jc_tree.specs.declared.expression.Operand.{Operand}
 use Rattle.jc_tree.specs.Heights.{expr_height}
 use Rattle.jc_grammar.specs.Shapes.{stands, expr_shape}
 use Rattle.jc_reading.specs.Kinds.{sign_code}
-use Rattle.jc_reading.specs.Reading.{Read, Found, Stopped, Run, noting, becoming, joined, ◌>>=◌, in_turn}
+use Rattle.jc_reading.specs.Reading.{Read, Found, in_turn}
 use Rattle.jc_reading.proofs.Forms.{Form, Stands}
-use Rattle.jc_reading.proofs.Steps.{Good, within_becoming, within_bind}
+use Rattle.jc_reading.proofs.Steps.{Good}
 use Rattle.jc_reading.proofs.Turns.{lawful_ahead}
 use Rattle.jc_reading.specs.Reach.{Within, GoesAhead}
 use Rattle.jc_reading.proofs.Nears.{ahead_as, ahead_turn}

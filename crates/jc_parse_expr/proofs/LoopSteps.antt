@@ -1,19 +1,18 @@
 -- The loops of operands, turn by turn, and how many tokens are left behind what is read.
-use Rattle.std.proofs.Common.{◌≡◌, ℕ, ◌<◌, ◌≤◌, min, max, Bool, true, false, cond, List, [], ◌∷◌, ◌++◌, map, length, sym, ap, ◌∙◌, subst, arith}
+use Rattle.std.proofs.Common.{◌≡◌, ℕ, ◌<◌, ◌≤◌, min, max, Bool, false, List, [], ◌∷◌, ◌++◌, map, length, sym, ap, ◌∙◌, subst, arith}
 use Rattle.jc_lexer.specs.declared.token.Key.TheVariants as key_of
 use Rattle.jc_lexer.specs.declared.token.Sign.TheVariants as sign_of
 use Rattle.jc_lexer.specs.declared.token.Token.{Token}
 use Rattle.jc_tree.specs.declared.types.TypeTree.{TypeTree}
 use Rattle.jc_tree.specs.declared.expression.AssignOp.{AssignOp}
-use Rattle.jc_tree.specs.declared.expression.BinaryOp.{BinaryOp}
 use Rattle.jc_tree.specs.declared.expression.PrefixOp.{PrefixOp}
 use Rattle.jc_tree.specs.declared.expression.Expr.{Expr}
 use Rattle.jc_tree.specs.declared.expression.Operand.{Operand}
 use Rattle.jc_tree.specs.declared.expression.Operand.TheVariants as operand_of
 use Rattle.jc_tree.specs.Heights.{capped, most, expr_height, operand_height}
 use Rattle.jc_reading.specs.Kinds.{key_code, sign_code, one_of}
-use Rattle.jc_reading.specs.Reading.{Read, Found, Stopped, Run, becoming, found, in_turn, behind_it, times, any_number, Either, This, That, either, of_kind, at_kind, picks, picks_at}
-use Rattle.jc_reading.proofs.Steps.{Good, within_becoming}
+use Rattle.jc_reading.specs.Reading.{Read, Found, Stopped, Run, becoming, found, in_turn, behind_it, times, any_number, This, That, of_kind, at_kind, picks, picks_at}
+use Rattle.jc_reading.proofs.Steps.{within_becoming}
 use Rattle.jc_reading.proofs.Turns.{Resumes, loop_first, loop_next, loop_stop, loop_shorter}
 use Rattle.jc_reading.specs.Reach.{Within, onto, GoesAhead}
 use Rattle.jc_reading.proofs.Nears.{near_any, ahead_picking, near_picking, ahead_turn, near_turn, near_kind, ahead_near, ahead_cond, ahead_either}

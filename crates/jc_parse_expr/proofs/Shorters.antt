@@ -1,29 +1,24 @@
 -- Readers that take a token at least.
-use Rattle.std.proofs.Common.{◌≡◌, ℕ, zero, suc, ◌+◌, ◌<◌, ◌≤◌, Bool, true, false, cond, nat_le, List, [], ◌∷◌, length, Option, Some, None, arith}
-use Rattle.std.specs.Prelude.{◌==◌}
+use Rattle.std.proofs.Common.{◌≡◌, ℕ, zero, suc, ◌+◌, ◌<◌, ◌≤◌, Bool, true, false, nat_le, List, [], ◌∷◌, length, arith}
 use Rattle.jc_lexer.specs.declared.token.Sign.{Sign}
 use Rattle.jc_lexer.specs.declared.token.Sign.TheVariants as sign_of
 use Rattle.jc_lexer.specs.declared.token.Token.{Token}
 use Rattle.jc_tree.specs.declared.name.Ident.{Ident}
 use Rattle.jc_tree.specs.declared.expression.Expr.{Expr}
-use Rattle.jc_tree.specs.declared.expression.Init.{Init}
-use Rattle.jc_tree.specs.declared.expression.PostfixOp.{PostfixOp}
-use Rattle.jc_tree.specs.declared.expression.SkipPart.{SkipPart}
 use Rattle.jc_tree.specs.Heights.{expr_height}
 use Rattle.jc_grammar.specs.Shapes.{expr_shape}
-use Rattle.jc_reading.specs.Kinds.{kind_code, sign_code, one_of}
-use Rattle.jc_reading.specs.Reading.{Read, Found, Stopped, Run, noting, becoming, joined, as_new, in_turn, This, That, either, on_pick, picking, picks, of_kind, an_ident_at, any_number, times, one_more, behind_it, ◌>>=◌}
-use Rattle.jc_reading.specs.Further.{with_room}
+use Rattle.jc_reading.specs.Kinds.{sign_code}
+use Rattle.jc_reading.specs.Reading.{Read, Found, Stopped, Run, noting, becoming, as_new, in_turn, That, either, picking, picks, of_kind, an_ident_at, any_number, times, one_more, behind_it}
 use Rattle.jc_reading.proofs.Steps.{Good}
 use Rattle.jc_reading.proofs.Turns.{times_as}
-use Rattle.jc_reading.specs.Reach.{Within, Near, GoesAhead, Ahead}
-use Rattle.jc_reading.proofs.Nears.{near_as, near_turn, near_any, near_kind, near_ident, ahead_as, ahead_behind, ahead_either, ahead_picking, ahead_room, ahead_turn}
+use Rattle.jc_reading.specs.Reach.{Near, GoesAhead, Ahead}
+use Rattle.jc_reading.proofs.Nears.{near_turn, near_any, near_kind, near_ident, ahead_as, ahead_behind, ahead_either, ahead_picking, ahead_room, ahead_turn}
 use Rattle.jc_parse_type.specs.TypeReading.{bracket_run, dims_run}
 use Rattle.jc_part_laws.specs.PartReading.{more_names_run}
 use Rattle.jc_expr_laws.specs.PrimeReading.{picks_skipped, skip_part_made, skip_made, skip_run, indexed_run, dotted_run, selector_run, selectors_run}
 use Rattle.jc_expr_laws.specs.PostReading.{picks_op, op_run, ops_run}
 use Rattle.jc_parse_expr.specs.PrimeCode.{array_in, expr_in, init_in, length_of, length_run, selector_at, selector_tree, skip_item_run}
-use Rattle.jc_parse_expr.proofs.PrimeNears.{near_bracketed, near_dotted_inside, near_init, near_selectors, near_skipped, near_ops}
+use Rattle.jc_parse_expr.proofs.PrimeNears.{near_bracketed, near_dotted_inside, near_init, near_skipped}
 use Rattle.jc_parse_expr.proofs.LevelNears.{near_expr, near_array_of}
 
 ahead_sign : {A : Type 0} (s : Sign) (m : Run A) → Near m → GoesAhead (in_turn (of_kind (sign_code s)) m)

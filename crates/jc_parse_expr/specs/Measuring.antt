@@ -7,8 +7,7 @@ use Rattle.jc_tree.specs.declared.expression.Init.{Init}
 use Rattle.jc_tree.specs.declared.expression.Operand.{Operand}
 use Rattle.jc_tree.specs.declared.expression.Skip.{Skip}
 use Rattle.jc_tree.specs.declared.expression.SkipPart.{SkipPart}
-use Rattle.jc_tree.specs.declared.types.TypeArg.{TypeArg}
-use Rattle.jc_tree.specs.Heights.{capped, most, arg_height, array_height, creation_height, expr_height, init_height, operand_height, skip_height, skip_part_height}
+use Rattle.jc_tree.specs.Heights.{capped, most, array_height, creation_height, expr_height, init_height, operand_height, skip_height, skip_part_height}
 use Rattle.jc_parse_expr.specs.declared.measured.Measured.{Measured}
 
 -- a tree of a height

@@ -4,7 +4,6 @@ use Rattle.jc_lexer.specs.declared.token.Key.TheVariants as key_of
 use Rattle.jc_lexer.specs.declared.token.Sign.TheVariants as sign_of
 use Rattle.jc_lexer.specs.declared.token.Token.{Token}
 use Rattle.jc_tree.specs.declared.statement.Clause.{Clause}
-use Rattle.jc_tree.specs.declared.statement.Member.{Member}
 use Rattle.jc_tree.specs.declared.statement.Stmt.{Stmt}
 use Rattle.jc_reading.specs.Kinds.{sign_code, key_code}
 use Rattle.jc_reading.specs.Reading.{Read, Stopped, Run, in_turn, any_number, of_kind, at_kind, each_behind, either, an_ident_at}

@@ -1,5 +1,5 @@
 -- Heads of catches, `try` and `for`, as the code reads them.
-use Rattle.std.specs.Prelude.{ℕ, Bool, List, [], ◌∷◌, map, Option, Some, None, cond}
+use Rattle.std.specs.Prelude.{ℕ, Bool, List, [], ◌∷◌, map, Option, cond}
 use Rattle.jc_lexer.specs.declared.token.Token.{Token}
 use Rattle.jc_tree.specs.declared.expression.Init.{Init}
 use Rattle.jc_tree.specs.declared.statement.ForHead.{ForHead}

@@ -11,7 +11,6 @@ use Rattle.jc_tree.specs.declared.statement.Formal.{Formal}
 use Rattle.jc_tree.specs.declared.statement.Member.{Member}
 use Rattle.jc_tree.specs.declared.statement.Member.TheVariants as member_of
 use Rattle.jc_tree.specs.declared.statement.MethodHead.{MethodHead}
-use Rattle.jc_tree.specs.declared.statement.Modifier.{Modifier}
 use Rattle.jc_tree.specs.declared.statement.ResultType.TheVariants as result_of
 use Rattle.jc_tree.specs.declared.statement.Stmt.{Stmt}
 use Rattle.jc_tree.specs.declared.statement.TypeParams.{TypeParams}
@@ -22,7 +21,7 @@ use Rattle.jc_parse_type.specs.TypeReading.{class_run, type_run}
 use Rattle.jc_part_laws.specs.PartReading.{formal_run, formals_run, keyed_run, params_of_run}
 use Rattle.jc_expr_laws.specs.ExprReading.{exprs}
 use Rattle.jc_unit_laws.specs.UnitReading.{Braces, braced_run, or_others, semicolon_run}
-use Rattle.jc_unit_laws.specs.MemberReading.{Actuals, FieldTail, constructor_items, constructor_items_run, field_tail_run, item_run, levels, method_head, or_no_actuals, paren_codes, super_run}
+use Rattle.jc_unit_laws.specs.MemberReading.{Actuals, FieldTail, constructor_items, constructor_items_run, field_tail_run, item_run, levels, or_no_actuals, paren_codes, super_run}
 use Rattle.jc_unit_laws.specs.UnitReading.{expr_in_run, or_no_init}
 use Rattle.jc_reading.specs.Reading.{behind_it}
 use Rattle.std.specs.Prelude.{map}
@@ -40,7 +39,6 @@ use Rattle.jc_parse_nodes.specs.declared.heads.Named.{Named}
 use Rattle.jc_parse_nodes.specs.declared.heads.NamedTail.{NamedTail}
 use Rattle.jc_parse_nodes.specs.declared.heads.NamedTail.TheVariants as tail_of
 use Rattle.jc_parse_nodes.specs.declared.heads.Signature.{Signature}
-use Rattle.jc_parse_nodes.specs.declared.pieces.Typed.{Typed}
 
 -- what ends a method
 

@@ -1,19 +1,17 @@
 -- Parts of statements and declarations, as the code reads them.
 use Rattle.jc_parse_nodes.specs.Nodes.{bare_local}
-use Rattle.jc_grammar.specs.Units.{stmt_shape}
-use Rattle.std.specs.Prelude.{ℕ, Bool, true, false, List, [], ◌∷◌, ◌++◌, map, length, Option, Some, None, cond}
+use Rattle.std.specs.Prelude.{ℕ, Bool, List, [], ◌∷◌, ◌++◌, map, length, Option, Some, cond}
 use Rattle.jc_lexer.specs.declared.token.Key.{Key}
 use Rattle.jc_lexer.specs.declared.token.Key.TheVariants as key_of
 use Rattle.jc_lexer.specs.declared.token.Sign.TheVariants as sign_of
 use Rattle.jc_tree.specs.declared.name.Ident.{Ident}
 use Rattle.jc_tree.specs.declared.expression.Expr.{Expr}
-use Rattle.jc_tree.specs.declared.statement.Clause.{Clause, roll-Clause}
+use Rattle.jc_tree.specs.declared.statement.Clause.{Clause}
 use Rattle.jc_tree.specs.declared.statement.ClauseHead.TheVariants as clause_of
 use Rattle.jc_tree.specs.declared.statement.ForHead.{ForHead}
 use Rattle.jc_tree.specs.declared.statement.Member.{Member}
 use Rattle.jc_tree.specs.declared.statement.Stmt.{Stmt}
 use Rattle.jc_tree.specs.declared.statement.Stmt.TheVariants as stmt_of
-use Rattle.jc_parse_nodes.specs.declared.trees.HeadTree.{HeadTree}
 use Rattle.jc_parse_parts.specs.Parts.{head_tree, vars_tree_run}
 use Rattle.jc_parse_nodes.specs.declared.trees.Vars.{Vars}
 use Rattle.jc_lexer.specs.declared.token.Token.{Token}
@@ -29,10 +27,7 @@ use Rattle.jc_tree.specs.declared.statement.Modifier.{Modifier}
 use Rattle.jc_tree.specs.declared.statement.Resources.{Resources}
 use Rattle.jc_unit_laws.specs.MemberReading.{code_rest_run, levels, member_made, member_run, rest_run}
 use Rattle.jc_tree.specs.declared.types.TypeTree.{TypeTree}
-use Rattle.jc_tree.specs.declared.statement.Declaration.{Declaration, roll-Declaration}
-use Rattle.jc_tree.specs.declared.statement.DeclarationHead.{DeclarationHead}
 use Rattle.jc_tree.specs.declared.statement.DeclarationHead.TheVariants as head_of
-use Rattle.jc_tree.specs.declared.statement.LocalVars.{LocalVars}
 use Rattle.jc_parse_nodes.specs.declared.trees.HeadTree.TheVariants as head_tree_of
 use Rattle.jc_parse_nodes.specs.declared.pieces.Typed.{Typed}
 use Rattle.jc_unit_laws.specs.UnitReading.{arm_open, arm_run, branch_run, no_more, simple_run}

@@ -1,11 +1,8 @@
 -- What is made of a first value that was read and of what was read behind it.
 use Rattle.std.specs.Prelude.{◌≡◌, ℕ, min, List, [], ◌∷◌, Result, Ok, Err}
-use Rattle.jc_lexer.specs.declared.token.Sign.{Sign}
 use Rattle.jc_reading.specs.declared.reading.Found as answer
 use Rattle.jc_reading.specs.declared.reading.Halt.{Halt}
 use Rattle.jc_reading.specs.declared.reading.Halt.TheVariants as halt_of
-use Rattle.jc_reading.specs.Kinds.{sign_code}
-use Rattle.jc_reading.specs.Reading.{Read, noting, becoming, of_kind}
 
 -- what stops behind tokens whose reach is told
 abbrev pub behind : ℕ → Halt → Halt

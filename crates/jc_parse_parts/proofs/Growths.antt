@@ -1,9 +1,9 @@
 -- Lists that are read turn by turn.
-use Rattle.std.proofs.Common.{◌≡◌, ◌==◌, ℕ, zero, suc, ◌<◌, min, Bool, true, false, cond, Some, None, List, [], ◌∷◌, ◌++◌, map, length, refl, ap, ◌∙◌, subst, arith}
+use Rattle.std.proofs.Common.{◌≡◌, ℕ, List, ◌∷◌, map, length, refl, ap, ◌∙◌, arith}
 use Rattle.jc_lexer.specs.declared.token.Token.{Token}
 use Rattle.jc_lexer.specs.declared.token.Sign.{Sign}
-use Rattle.jc_reading.specs.Kinds.{kind_code, sign_code}
-use Rattle.jc_reading.specs.Reading.{Read, Found, Stopped, Run, becoming, joined, noting, on_pick, ◌>>=◌, one_more, times, any_number, as_new, in_turn, behind_it, of_kind, first_and_more, each_behind}
+use Rattle.jc_reading.specs.Kinds.{sign_code}
+use Rattle.jc_reading.specs.Reading.{Read, Found, Stopped, Run, becoming, joined, noting, ◌>>=◌, any_number, as_new, in_turn, behind_it, of_kind, first_and_more, each_behind}
 use Rattle.jc_reading.proofs.Turns.{times_as}
 
 -- what stands behind a sign

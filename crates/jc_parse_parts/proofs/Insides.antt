@@ -1,14 +1,11 @@
 -- No more tokens are left behind what is read.
-use Rattle.std.proofs.Common.{◌≡◌, ℕ, zero, suc, ◌<◌, ◌≤◌, Bool, true, false, cond, Option, Some, None, List, [], ◌∷◌, length, Result, Ok, Err, IfOk, IfSome, MatchOption, Bor, subst, arith}
-use Rattle.jc_lexer.specs.declared.token.Sign.{Sign}
+use Rattle.std.proofs.Common.{◌≡◌, ℕ, ◌≤◌, Option, Some, None, List, length, Result, Ok, Err, IfOk, IfSome, MatchOption, Bor, arith}
 use Rattle.jc_lexer.specs.declared.token.Sign.TheVariants as sign_of
 use Rattle.jc_lexer.specs.declared.token.Token.{Token}
 use Rattle.jc_reading.specs.declared.reading.Found as answer
 use Rattle.jc_reading.specs.declared.reading.Halt.{Halt}
 use Rattle.jc_reading.specs.Giving.{Gives}
-use Rattle.jc_reading.specs.Kinds.{sign_code, one_of}
-use Rattle.jc_reading.specs.Reading.{Read, Found, Stopped, Run, found, becoming, joined, noting, on_pick, ◌>>=◌, picking, any_number, as_new, in_turn, perhaps, perhaps_from, either, This, That, of_kind, at_kind, first_and_more, each_behind, commas_run}
-use Rattle.jc_reading.specs.Further.{with_room, preferring, or_else}
+use Rattle.jc_reading.specs.Reading.{Found, Stopped, Run, found, of_kind, at_kind}
 use Rattle.jc_reading.specs.Reach.{Near}
 use Rattle.jc_reading.proofs.Nears.{near_left, near_picking}
 

@@ -2,9 +2,7 @@
 use Rattle.std.proofs.Common.{◌≡◌, ℕ, zero, suc, ◌-◌, ◌<◌, refl, arith}
 use Rattle.jc_types.specs.declared.ids.ClassId.{ClassId}
 use Rattle.jc_types.specs.declared.ids.MethodId.{MethodId}
-use Rattle.jc_running.specs.declared.value.Value.{Value}
-use Rattle.jc_running.specs.declared.value.Completion.{Completion}
-use Rattle.jc_running.specs.Outcomes.{Out, Going, leave}
+use Rattle.jc_running.specs.Outcomes.{Going, leave}
 use Rattle.jc_typed.specs.declared.program.TypedProgram.{TypedProgram}
 use Rattle.jc_typed.specs.Trees.{Expr, Stmt}
 use Rattle.jc_meaning.specs.Kept.{TypedState}

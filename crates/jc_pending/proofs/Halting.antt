@@ -1,5 +1,5 @@
 -- A computation that ended without giving what it was to give leads on in the same way, whatever this was.
-use Rattle.std.proofs.Common.{◌≡◌, ℕ, ℤ, List, refl, sym}
+use Rattle.std.proofs.Common.{◌≡◌, ℕ, List, refl, sym}
 use Rattle.jc_running.specs.declared.value.Value.{Value}
 use Rattle.jc_running.specs.declared.value.Completion.{Completion}
 use Rattle.jc_running.specs.declared.value.Turn.{Turn}

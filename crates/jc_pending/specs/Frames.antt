@@ -1,12 +1,12 @@
 -- What is left to do, as what it makes of an outcome: each entry takes the outcome of what runs above it, and what it makes of that
 -- goes to the entries below it.
-use Rattle.std.specs.Prelude.{ℕ, ◌-◌, List, [], ◌∷◌, Option, Some, None}
+use Rattle.std.specs.Prelude.{ℕ, List, [], ◌∷◌}
 use Rattle.jc_types.specs.declared.ids.ClassId.{ClassId}
 use Rattle.jc_running.specs.declared.value.Value.{Value}
 use Rattle.jc_running.specs.declared.value.Completion.{Completion}
 use Rattle.jc_running.specs.declared.value.Turn.{Turn}
 use Rattle.jc_running.specs.declared.value.Readiness.TheVariants.{Ready as IsReady, Failed}
-use Rattle.jc_running.specs.Outcomes.{Out, Val, Thrown, Exited, Going, Wrong, on_both, give, throw, wrong, bind, behind, leave, instead}
+use Rattle.jc_running.specs.Outcomes.{Out, on_both, give, throw, wrong, bind, behind, leave, instead}
 use Rattle.jc_heaps.specs.States.{back_in}
 use Rattle.jc_typed.specs.declared.nodes.Node.{Node}
 use Rattle.jc_typed.specs.declared.program.TypedProgram.{TypedProgram}
@@ -33,7 +33,6 @@ use Rattle.jc_pending.specs.declared.todo.Waiting.{Waiting}
 use Rattle.jc_pending.specs.declared.todo.Waiting.TheVariants as w
 use Rattle.jc_pending.specs.declared.todo.Todo.{Todo}
 use Rattle.jc_pending.specs.declared.todo.Todo.TheVariants as todo
-use Rattle.jc_pending.specs.declared.todo.Level.{Level}
 use Rattle.jc_pending.specs.declared.todo.Entry.{Entry}
 
 -- what a run's end makes of an outcome, by what the outcome gives

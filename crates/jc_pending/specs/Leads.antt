@@ -1,6 +1,6 @@
 -- What it means that a step leads to an outcome of the whole run: with what it gave, or with what is to begin, the rest makes this
 -- outcome. Want of memory tells nothing.
-use Rattle.std.specs.Prelude.{◌≡◌, ℕ, ℤ, ◌-◌, List, [], ◌∷◌, Result, Ok, Err}
+use Rattle.std.specs.Prelude.{◌≡◌, ℕ, ℤ, ◌-◌, List, Result, Ok, Err}
 use Rattle.jc_running.specs.declared.value.Value.{Value}
 use Rattle.jc_running.specs.Outcomes.{Out, Val, Thrown, Exited, Going, Wrong}
 use Rattle.jc_typed.specs.declared.nodes.Node.{Node}

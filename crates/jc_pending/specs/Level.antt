@@ -4,13 +4,13 @@ use Rattle.jc_types.specs.declared.ids.ClassId.{ClassId}
 use Rattle.jc_types.specs.declared.ids.MethodId.{MethodId}
 use Rattle.jc_running.specs.declared.value.Value.{Value}
 use Rattle.jc_running.specs.declared.value.Completion.{Completion}
-use Rattle.jc_running.specs.Outcomes.{bind, node, stop, both_ways, behind, throw}
+use Rattle.jc_running.specs.Outcomes.{bind, node, stop, both_ways, behind}
 use Rattle.jc_running.specs.declared.value.Readiness.TheVariants.{Ready as IsReady, Failed}
 use Rattle.jc_typed.specs.declared.nodes.Node.{Node}
 use Rattle.jc_typed.specs.declared.program.TypedMethod.{TypedMethod}
 use Rattle.jc_typed.specs.declared.program.TypedProgram.{TypedProgram}
-use Rattle.jc_typed.specs.Trees.{Step, Stmt, Operand, Operands}
-use Rattle.jc_typed.specs.Parts.{operand_of, operands_of, steps_of, stmt_of}
+use Rattle.jc_typed.specs.Trees.{Step, Stmt, Operand}
+use Rattle.jc_typed.specs.Parts.{operand_of, stmt_of}
 use Rattle.jc_places.specs.declared.sorts.ArmPlaces.{ArmPlaces}
 use Rattle.jc_places.specs.Sorts.{Arm, arm_of}
 use Rattle.jc_meaning.specs.Kept.{TypedRun}

@@ -1,5 +1,5 @@
 -- What each point of a turn stands for (JLS 14.12 to 14.14).
-use Rattle.std.specs.Prelude.{ℕ, suc, List, []}
+use Rattle.std.specs.Prelude.{ℕ, List}
 use Rattle.jc_running.specs.declared.value.Value.{Value}
 use Rattle.jc_running.specs.declared.value.Completion.{Completion}
 use Rattle.jc_running.specs.declared.value.Turn.{Turn}

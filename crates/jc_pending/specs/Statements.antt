@@ -1,24 +1,21 @@
 -- What each point stands for that has to do with statements (JLS 14).
-use Rattle.std.specs.Prelude.{ℕ, List, []}
-use Rattle.jc_rules.specs.declared.rule.Place.{Place}
+use Rattle.std.specs.Prelude.{ℕ, List}
 use Rattle.jc_running.specs.declared.value.Value.{Value}
 use Rattle.jc_running.specs.declared.value.Completion.{Completion}
 use Rattle.jc_running.specs.declared.value.Completion.TheVariants.{Normal, Returned}
-use Rattle.jc_running.specs.declared.value.Turn.{Turn}
 use Rattle.jc_running.specs.Outcomes.{give, throw, bind, behind, next, instead, broken, turns}
 use Rattle.jc_heaps.specs.States.{some_or_wrong, local}
 use Rattle.jc_heaps.specs.Numbers.{whole_of}
 use Rattle.jc_heaps.specs.Making.{address_of}
 use Rattle.jc_typed.specs.declared.nodes.Node.{Node}
 use Rattle.jc_typed.specs.declared.program.TypedProgram.{TypedProgram}
-use Rattle.jc_typed.specs.Parts.{cases_of, catches_of, operands_of, operand_of, stmt_of, stmts_of, type_of, captures_of, steps_of}
+use Rattle.jc_typed.specs.Parts.{cases_of, catches_of, operands_of, stmt_of, stmts_of}
 use Rattle.jc_meaning.specs.Kept.{TypedRun, typed_keeping}
 use Rattle.jc_meaning.specs.Programs.{stmt_list}
 use Rattle.jc_meaning.specs.Expressions as e
 use Rattle.jc_meaning.specs.Statements as s
 use Rattle.jc_meaning.specs.Meaning.{meaning, body_act}
 use Rattle.jc_pending.specs.Level as l
-use Rattle.jc_pending.specs.Values.{test_of}
 use Rattle.jc_pending.specs.Loops as o
 use Rattle.jc_pending.specs.declared.statements.CompletionTask.{CompletionTask}
 use Rattle.jc_pending.specs.declared.statements.CompletionTask.TheVariants as t

@@ -1,7 +1,6 @@
 -- What each point stands for that has to do with values (JLS 12.4, 15), over the nodes of a method and the meaning at a depth.
 use Rattle.std.specs.Prelude.{ℕ, suc, ◌-◌, pos, Bool, true, false, List, [], ◌∷◌, ◌++◌, slice_get, slice_set, if◌then◌else◌}
 use Rattle.jc_rules.specs.declared.rule.Place.{Place}
-use Rattle.jc_types.specs.declared.ids.FieldId.{FieldId}
 use Rattle.jc_types.specs.declared.form.Ty.{Ty}
 use Rattle.jc_types.specs.declared.constant.Op.{Op}
 use Rattle.jc_types.specs.Accessors.{result_of}
@@ -9,7 +8,7 @@ use Rattle.jc_running.specs.declared.value.Value.{Value}
 use Rattle.jc_running.specs.declared.value.Value.TheVariants.{Address, Whole}
 use Rattle.jc_running.specs.declared.value.Completion.{Completion}
 use Rattle.jc_running.specs.Outcomes.{give, bind, behind}
-use Rattle.jc_heaps.specs.States.{look, change, local, set_local, in_frame}
+use Rattle.jc_heaps.specs.States.{look, change, set_local, in_frame}
 use Rattle.jc_heaps.specs.Numbers.{truth, operated, stepped}
 use Rattle.jc_heaps.specs.Making.{given}
 use Rattle.jc_typed.specs.declared.nodes.Node.{Node}

@@ -1,5 +1,5 @@
 -- The tests of an `if` and the clauses of a `try`, as lists from their first member on.
-use Rattle.std.specs.Prelude.{ℕ, List, [], ◌∷◌}
+use Rattle.std.specs.Prelude.{ℕ, List, ◌∷◌}
 use Rattle.jc_types.specs.declared.form.Ty.{Ty}
 use Rattle.jc_typed.specs.declared.nodes.Node.{Node}
 use Rattle.jc_typed.specs.Trees.{Operand, Stmt, Arms, NoArms, MoreArms, Catches, NoCatches, MoreCatches}

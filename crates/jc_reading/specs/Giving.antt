@@ -3,7 +3,7 @@ use Rattle.std.specs.Prelude.{◌≡◌, Result, Ok, Err}
 use Rattle.jc_reading.specs.declared.reading.Found.{Found}
 use Rattle.jc_reading.specs.declared.reading.Halt.{Halt}
 use Rattle.jc_reading.specs.declared.reading.Halt.TheVariants as halt_of
-use Rattle.jc_reading.specs.Reading.{Read, ident_of_kind}
+use Rattle.jc_reading.specs.Reading.{Read}
 use Rattle.jc_reading.specs.Reading as reading
 
 abbrev pub Halts : {A : Type 0} → Halt → Read A → Type 0

@@ -1,5 +1,5 @@
 -- Which of several applicable members is the most specific one (JLS 15.12.2.5).
-use Rattle.std.specs.Prelude.{ℕ, ◌==◌, max, Bool, true, false, cond, Option, Some, None, List, [], ◌∷◌, length, map}
+use Rattle.std.specs.Prelude.{ℕ, ◌==◌, max, cond, Option, Some, None, List, [], ◌∷◌, length, map}
 use Rattle.jc_types.specs.declared.conversion.Phase.{Phase}
 use Rattle.jc_types.specs.declared.environment.Bounds.{Bounds}
 use Rattle.jc_types.specs.declared.form.Ty.{Ty}

@@ -1,6 +1,6 @@
 -- The list of a method's rows by byte offset gives the row of the instruction that stands there.
-use Rattle.std.proofs.Common.{◌≡◌, ◌≤◌, ◌<◌, ◌⊎◌, inl, inr, ℕ, zero, suc, ◌+◌, ◌-◌, ◌==◌, Bool, true, false, nat_le, List, [], ◌∷◌, ◌++◌, length, get_or, refl, sym, ap, ◌∙◌, arith}
-use Rattle.std.specs.Option.{option_map, option_flatten}
+use Rattle.std.proofs.Common.{◌≡◌, ◌≤◌, ◌<◌, ◌⊎◌, inl, inr, ℕ, suc, ◌+◌, ◌-◌, ◌==◌, Bool, true, false, nat_le, List, [], ◌∷◌, ◌++◌, length, get_or, refl, sym, ap, ◌∙◌, arith}
+use Rattle.std.specs.Option.{option_map}
 use Rattle.std.specs.Prelude.{replicate, slice_get, option_and_then, unwrap_or, if◌then◌else◌}
 use Rattle.std.proofs.Math.ListN.{get_or-append}
 use Rattle.std.proofs.lemmas.Bool.Decides.{nat_tests}
@@ -8,13 +8,12 @@ use Rattle.std.proofs.lemmas.List.{get_or-append-add, get_or-replicate, length-r
 use Rattle.std.proofs.lemmas.Option.{unwrap_or-slice_get}
 use Rattle.std.specs.declared.option.Option.{Option}
 use Rattle.std.specs.declared.option.Option.TheVariants.{Some, None}
-use Rattle.jc_class_out.specs.declared.format.Kind.{Kind}
 use Rattle.jc_class_out.specs.declared.model.ClassModel.{ClassModel}
 use Rattle.jc_class_out.specs.declared.model.CodeModel.{CodeModel}
 use Rattle.jc_class_out.specs.declared.model.Ins.{Ins}
 use Rattle.jc_class_out.specs.declared.model.MethodModel.{MethodModel}
 use Rattle.jc_class_out.specs.Instructions.{ins_size, wide_size, operand_size, kind_of}
-use Rattle.jc_jvm.specs.Classes.{methods_of, code_at, rest_from, first_of_all, placed_at}
+use Rattle.jc_jvm.specs.Classes.{methods_of, code_at, rest_from, first_of_all}
 use Rattle.jc_rows.specs.Laid.{placed_as, places_of, places_in_code, method_rows, class_rows, all_rows, row_at}
 use Rattle.jc_rows.specs.declared.row.Placed.{Placed}
 use Rattle.jc_rows.proofs.Ranges.{at_number, beyond}

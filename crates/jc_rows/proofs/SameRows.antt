@@ -22,7 +22,7 @@ use Rattle.jc_jvm.specs.Types.{shape_named, sort_of_descriptor, based}
 use Rattle.jc_jvm.specs.declared.frame.Frame.{Frame}
 use Rattle.jc_jvm.specs.declared.frame.Waiting.{Waiting}
 use Rattle.jc_jvm.specs.declared.groups.Group.{Group}
-use Rattle.jc_jvm.specs.declared.groups.Group.TheVariants.{Literals, ElementLoads, ElementStores, Switches, Returns, StaticLoads, StaticStores, FieldLoads, FieldStores, VirtualCalls, SpecialCalls, StaticCalls, News, NewArrays, NewReferenceArrays, NewNests, Lengths, Throws, Casts, Tests}
+use Rattle.jc_jvm.specs.declared.groups.Group.TheVariants.{Literals, Switches, Returns, StaticLoads, StaticStores, FieldLoads, FieldStores, StaticCalls, News, NewArrays, NewReferenceArrays, NewNests}
 use Rattle.jc_jvm.specs.declared.groups.Plain.{Plain}
 use Rattle.jc_jvm.specs.declared.operands.Sort.{Sort}
 use Rattle.jc_jvm.specs.declared.value.Shape.{Shape}

@@ -1,5 +1,5 @@
 -- What an instruction does, with all that its names mean in these classes, in the method of these numbers (JVMS 5.4.3, 6.5).
-use Rattle.std.specs.Prelude.{ℕ, Bool, true, false, List, option_and_then, if◌then◌else◌}
+use Rattle.std.specs.Prelude.{ℕ, true, false, List, if◌then◌else◌}
 use Rattle.std.specs.Option.{option_map}
 use Rattle.std.specs.declared.option.Option.{Option}
 use Rattle.std.specs.declared.option.Option.TheVariants.{Some, None}
@@ -7,7 +7,7 @@ use Rattle.jc_class_out.specs.declared.model.ClassModel.{ClassModel}
 use Rattle.jc_class_out.specs.declared.model.MethodModel.{MethodModel}
 use Rattle.jc_class_out.specs.declared.model.Ins.{Ins}
 use Rattle.jc_class_out.specs.declared.model.Loaded.{Loaded}
-use Rattle.jc_class_out.specs.declared.model.Loaded.TheVariants.{Whole as LoadedWhole, Long as LoadedLong, Text as LoadedText}
+use Rattle.jc_class_out.specs.declared.model.Loaded.TheVariants.{Text as LoadedText}
 use Rattle.jc_class_out.specs.declared.model.Operand.{Operand}
 use Rattle.jc_class_out.specs.declared.model.Operand.TheVariants as op
 use Rattle.jc_opcodes.specs.Opcodes.{opcode_of}

@@ -1,5 +1,5 @@
 -- Names that are added one after the other.
-use Rattle.std.proofs.Common.{◌≡◌, ℕ, List, [], ◌∷◌, ◌++◌, refl}
+use Rattle.std.proofs.Common.{◌≡◌, [], ◌∷◌, ◌++◌, refl}
 use Rattle.std.specs.Prelude.{cond}
 use Rattle.jc_types.specs.Names.{named}
 use Rattle.jc_declares.specs.Heads.{Named}

@@ -2,7 +2,7 @@
 use Rattle.std.proofs.Common.{◌≡◌, ◌++◌, ℕ, List, [], ◌∷◌, map, append_assoc, append-nil, length-append, refl, sym, ap, ◌∙◌}
 use Rattle.jc_declares.specs.declared.heads.ScopeHead.{ScopeHead}
 use Rattle.jc_declares.specs.declared.heads.Standing.{Standing}
-use Rattle.jc_declares.specs.Sites.{UnitSite, ClassSite, MethodSite, FieldSite, VariableSite, UseSite, Counts, Walk, MethodForm, joined, no_sites, behind, walked, implied_sites}
+use Rattle.jc_declares.specs.Sites.{UnitSite, ClassSite, MethodSite, FieldSite, VariableSite, UseSite, Counts, Walk, joined, no_sites, behind, walked}
 use Rattle.jc_declares.specs.Sites as site
 use Rattle.jc_sites.specs.declared.places.Sites.{Sites}
 use Rattle.jc_sites.specs.Joining.{with_sites, counted}

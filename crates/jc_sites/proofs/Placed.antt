@@ -1,5 +1,5 @@
 -- Parts of bodies that follow one another.
-use Rattle.std.proofs.Common.{◌≡◌, ◌++◌, List, append_assoc, append-nil, sym}
+use Rattle.std.proofs.Common.{◌≡◌, ◌++◌, List, append_assoc, append-nil}
 use Rattle.std.proofs.lemmas.List.{map-append}
 use Rattle.jc_declares.specs.Sites.{BodyPart}
 use Rattle.jc_sites.specs.declared.parts.Spot.{Spot}

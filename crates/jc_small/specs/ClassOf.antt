@@ -1,9 +1,8 @@
 -- The instructions of a program.
-use Rattle.std.specs.Prelude.{ℕ, ◌≤◌, nat_le, false, List, [], ◌∷◌, ◌++◌, flat_map, if◌then◌else◌, codes, pos, ◌+◌}
-use Rattle.std.specs.declared.option.Option.TheVariants.{Some, None}
+use Rattle.std.specs.Prelude.{ℕ, nat_le, false, List, [], ◌∷◌, ◌++◌, flat_map, if◌then◌else◌, codes, pos, ◌+◌}
+use Rattle.std.specs.declared.option.Option.TheVariants.{Some}
 use Rattle.jc_class_out.specs.declared.model.ClassModel.{ClassModel}
 use Rattle.jc_class_out.specs.declared.model.MethodModel.{MethodModel}
-use Rattle.jc_class_out.specs.declared.model.CodeModel.{CodeModel}
 use Rattle.jc_class_out.specs.declared.model.Ins.{Ins}
 use Rattle.jc_class_out.specs.declared.model.Loaded.TheVariants.{Whole}
 use Rattle.jc_class_out.specs.declared.model.Operand.{Operand}

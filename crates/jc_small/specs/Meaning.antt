@@ -1,5 +1,5 @@
 -- What a small program does (JLS 15.18.2: whole numbers are added from the left and wrap; `write` puts out the low byte).
-use Rattle.std.specs.Prelude.{ℕ, ◌%◌, List, [], ◌∷◌, map, take, length, ℤ, pos, Bool, nat_lt, if◌then◌else◌}
+use Rattle.std.specs.Prelude.{ℕ, ◌%◌, List, [], ◌∷◌, map, take, length, ℤ, pos, nat_lt, if◌then◌else◌}
 use Rattle.std.specs.Int.{w32, int_wrapping_add, cast_unsigned}
 use Rattle.jc_small.specs.Small.{Program}
 

@@ -1,6 +1,6 @@
 -- A class shows what its source shows, at every number of steps.
-use Rattle.std.specs.Prelude.{◌≡◌, ℕ, ◌+◌, ◌*◌, ◌≤◌, List, [], ◌∷◌, codes, true}
-use Rattle.std.specs.declared.option.Option.TheVariants.{Some, None}
+use Rattle.std.specs.Prelude.{◌≡◌, ℕ, ◌+◌, ◌*◌, ◌≤◌, List, [], ◌∷◌, codes}
+use Rattle.std.specs.declared.option.Option.TheVariants.{Some}
 use Rattle.jc_class_out.specs.declared.model.ClassModel.{ClassModel}
 use Rattle.jc_class_out.specs.declared.model.MethodModel.{MethodModel}
 use Rattle.jc_class_out.specs.Format.{HasClassFile}

@@ -1,5 +1,5 @@
 -- What fits into a table fits into a longer one.
-use Rattle.std.proofs.Common.{◌≡◌, ℕ, ◌+◌, ◌<◌, ◌≤◌, nat_lt, ◌&&◌, Bool, true, false, Option, Some, None, List, [], ◌∷◌, length, map, arith, refl, sym, ap, subst, ◌∙◌}
+use Rattle.std.proofs.Common.{◌≡◌, ℕ, ◌≤◌, nat_lt, ◌&&◌, Bool, true, false, Option, Some, None, List, [], ◌∷◌, length, map, arith, refl, sym, subst, ◌∙◌}
 use Rattle.std.specs.List.{list_all}
 use Rattle.std.proofs.lemmas.Bool.Decides.{nat_tests}
 use Rattle.jc_types.specs.declared.form.Ty.{Ty, Ty-F, roll-Ty, map-Ty, fold-roll-Ty, ind-Ty}
@@ -27,7 +27,7 @@ use Rattle.jc_types.specs.declared.scopes.ScopeOf.TheVariants as scope
 use Rattle.jc_types.specs.declared.scopes.Use.{Use}
 use Rattle.jc_types.specs.declared.table.Table.{Table}
 use Rattle.jc_types.specs.Reifying.{all_true}
-use Rattle.jc_types.specs.Tables.{if_any, is_class, is_method, is_field, is_variable, is_scope, arg_is_inside_at, is_inside_at, is_inside, are_inside, class_fits, method_fits, value_fits, field_fits, owner_fits, variable_fits, demand_fits, are_class_places, are_variable_places, names_fit, scope_fits, use_fits, ids_fit}
+use Rattle.jc_types.specs.Tables.{if_any, is_class, is_method, is_field, is_variable, is_scope, arg_is_inside_at, is_inside_at, is_inside, are_inside, class_fits, method_fits, value_fits, field_fits, owner_fits, variable_fits, demand_fits, are_class_places, are_variable_places, names_fit, scope_fits, use_fits}
 
 -- as many of each sort, or more
 pub record Grown (T U : Table) : Type 0 where

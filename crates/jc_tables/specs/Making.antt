@@ -8,7 +8,7 @@ use Rattle.jc_types.specs.declared.scopes.Scope.{Scope}
 use Rattle.jc_types.specs.declared.scopes.Use.{Use}
 use Rattle.jc_types.specs.declared.table.Table.{Table}
 use Rattle.jc_types.specs.Names.{named}
-use Rattle.jc_types.specs.Tables.{class_fits, method_fits, field_fits, variable_fits, scope_fits, use_fits, types_zip, method_zips, written_zips}
+use Rattle.jc_types.specs.Tables.{class_fits, method_fits, field_fits, variable_fits, use_fits, types_zip, method_zips, written_zips}
 
 abbrev pub empty : Table
 empty = record { classes = []; methods = []; fields = []; variables = []; scopes = []; uses = []; index = [] }

@@ -21,7 +21,6 @@ use Rattle.jc_tree.specs.declared.statement.ResultType.TheVariants as aResultTyp
 use Rattle.jc_tree.specs.declared.statement.DeclarationHead.{DeclarationHead}
 use Rattle.jc_tree.specs.declared.statement.DeclarationHead.TheVariants as aDeclarationHead
 use Rattle.jc_tree.specs.declared.statement.MethodHead.{MethodHead}
-use Rattle.jc_tree.specs.declared.statement.Resource.{Resource}
 use Rattle.jc_tree.specs.declared.statement.Member.{Member, Member-F, fold-Member}
 use Rattle.jc_tree.specs.declared.statement.Stmt.{Stmt, Stmt-F, fold-Stmt}
 use Rattle.jc_tree.specs.declared.statement.Clause.{Clause, Clause-F, fold-Clause}

@@ -1,5 +1,5 @@
 -- Weights of lists that end in their last member.
-use Rattle.std.proofs.Common.{◌≡◌, ℕ, zero, suc, ◌+◌, ◌*◌, List, [], ◌∷◌, ◌++◌, refl, arith}
+use Rattle.std.proofs.Common.{◌≡◌, ℕ, zero, suc, ◌+◌, ◌*◌, List, [], ◌∷◌, ◌++◌, arith}
 use Rattle.jc_types.specs.declared.constant.Op.{Op}
 use Rattle.jc_typed.specs.Bulk.{capped, prefix_weight, prefixes_weight}
 

@@ -1,10 +1,10 @@
 -- Variables of a row are found by their numbers.
-use Rattle.std.proofs.Common.{◌≡◌, ◌⊎◌, inl, inr, ℕ, zero, suc, ◌+◌, ◌<◌, ◌≤◌, ◌==◌, ◌&&◌, Bool, true, false, List, [], ◌∷◌, length, get_or, if◌then◌else◌, arith, refl, ap, ◌∙◌}
+use Rattle.std.proofs.Common.{◌≡◌, ℕ, zero, suc, ◌+◌, ◌<◌, ◌≤◌, ◌==◌, ◌&&◌, Bool, true, false, List, [], ◌∷◌, length, get_or, if◌then◌else◌, arith, refl, ap, ◌∙◌}
 use Rattle.std.proofs.lemmas.Bool.Decides.{nat_tests}
 use Rattle.jc_types.specs.declared.form.Ty.{Ty}
 use Rattle.jc_types.specs.declared.form.Ty.TheVariants.{Variable}
 use Rattle.jc_types.specs.declared.ids.VarId.{VarId}
-use Rattle.jc_types.specs.Substitution.{replacement, is_row, is_row_from}
+use Rattle.jc_types.specs.Substitution.{replacement, is_row_from}
 
 first_is : (a b : Bool) → (a && b) ≡ true → a ≡ true
 first_is true b e = refl

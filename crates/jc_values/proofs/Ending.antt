@@ -1,6 +1,6 @@
 -- A computation that ends another one ends it in the same way.
-use Rattle.std.proofs.Common.{◌≡◌, refl}
-use Rattle.jc_running.specs.Outcomes.{Out, Run, on_both, bind, throw}
+use Rattle.std.proofs.Common.{refl}
+use Rattle.jc_running.specs.Outcomes.{Out, on_both, throw}
 use Rattle.jc_meaning.specs.Kept.{TypedState, TypedRun}
 use Rattle.jc_values.specs.declared.halt.Halt.{Halt}
 use Rattle.jc_values.specs.declared.halt.Halt.TheVariants as halt

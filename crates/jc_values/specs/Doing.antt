@@ -1,5 +1,5 @@
 -- What it means that a function does what a computation of the meaning does.
-use Rattle.std.specs.Prelude.{◌≡◌, ℕ, Result, Ok, Err}
+use Rattle.std.specs.Prelude.{◌≡◌, Result, Ok, Err}
 use Rattle.jc_running.specs.Outcomes.{Out, Val, Thrown, Exited, Going, Wrong}
 use Rattle.jc_meaning.specs.Kept.{TypedState}
 use Rattle.jc_values.specs.declared.halt.Halt.{Halt}

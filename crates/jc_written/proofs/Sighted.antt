@@ -1,5 +1,5 @@
 -- What the meaning of a name breaks, told by what is seen of it.
-use Rattle.std.proofs.Common.{◌≡◌, ℕ, Bool, Option, Some, None, List, [], ◌∷◌, refl}
+use Rattle.std.proofs.Common.{◌≡◌, ℕ, Bool, Some, None, [], ◌∷◌, refl}
 use Rattle.jc_declares.specs.declared.heads.Heads.{Heads}
 use Rattle.jc_declares.specs.Looking.{Look, AClass, AVariable}
 use Rattle.jc_declares.specs.Writing.{Reading, meaning_broken}

@@ -1,17 +1,16 @@
 -- What a class type means, told of its tree.
-use Rattle.std.proofs.Common.{◌≡◌, ℕ, Bool, Option, Some, None, List, [], ◌∷◌, ◌++◌, map, refl, ap, ◌∙◌}
+use Rattle.std.proofs.Common.{◌≡◌, ℕ, Bool, Some, None, List, [], ◌∷◌, ◌++◌, map, refl, ap, ◌∙◌}
 use Rattle.std.specs.Prelude.{cond}
 use Rattle.jc_tree.specs.declared.types.ClassTree.{ClassTree, out-ClassTree}
 use Rattle.jc_tree.specs.declared.types.TypeArg.{TypeArg}
 use Rattle.jc_tree.specs.declared.types.TypePart.{TypePart, out-TypePart}
 use Rattle.jc_types.specs.declared.form.Arg.{Arg}
-use Rattle.jc_types.specs.declared.form.Ty.{Ty}
 use Rattle.jc_declares.specs.declared.heads.Heads.{Heads}
 use Rattle.jc_declares.specs.Heads.{part_name, path_of_class}
 use Rattle.jc_declares.specs.Looking.{Knowledge, Look, AClass, AVariable, look_up, all_accessible}
 use Rattle.jc_declares.specs.Knowing.{passed_all}
 use Rattle.jc_declares.specs.Writing.{Reading, Wrote, WroteArg, WrotePart, Broken, is_empty, name_of_part, last_args, early_args, part_broken, arg_broken, arg_places, args_in, if_accessible, meaning_broken, meant_type, is_class_meant, wrote_arg, wrote_part, wrote_class}
-use Rattle.jc_written.specs.Trees.{args_in_part, last_in, early_in, args_rules, parts_rules, name_rules, class_rules, args_meant, args_placed, sight_type, sight_places}
+use Rattle.jc_written.specs.Trees.{args_in_part, last_in, early_in, args_rules, parts_rules, class_rules, args_meant, args_placed, sight_type, sight_places}
 use Rattle.jc_looking.specs.Sights.{seen}
 use Rattle.jc_written.proofs.WrotesByParts.{wrote_class-parts, wrote_part-parts}
 

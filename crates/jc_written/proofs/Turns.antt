@@ -1,5 +1,5 @@
 -- Steps of the walk over class types.
-use Rattle.std.proofs.Common.{◌≡◌, ◌+◌, ◌<◌, ℕ, Bool, Option, List, [], ◌∷◌, ◌++◌, drop, length, get_or, map, arith, zero, suc, append_assoc, refl, sym, ap, ◌∙◌}
+use Rattle.std.proofs.Common.{◌≡◌, ◌+◌, ◌<◌, ℕ, Bool, Option, List, [], ◌∷◌, ◌++◌, drop, length, get_or, map, arith, zero, suc, append_assoc, sym, ap, ◌∙◌}
 use Rattle.std.proofs.lemmas.List.{map-append}
 use Rattle.jc_rules.specs.declared.rule.Refusal.{Refusal}
 use Rattle.jc_rules.specs.declared.rule.Place.{Place}
@@ -15,7 +15,7 @@ use Rattle.jc_declares.specs.Heads.{path_of_class}
 use Rattle.jc_declares.specs.Looking.{Knowledge}
 use Rattle.jc_declares.specs.Writing.{Reading, Broken, is_empty, wrote_arg, wrote_class}
 use Rattle.jc_declares.specs.Breaks.{in_file}
-use Rattle.jc_written.specs.Trees.{args_in_part, last_in, early_in, args_rules, parts_rules, name_rules, class_rules, args_meant, args_placed}
+use Rattle.jc_written.specs.Trees.{args_in_part, last_in, early_in, args_rules, parts_rules, name_rules, args_meant, args_placed}
 use Rattle.jc_written.proofs.Counting.{in_file-append, first_left, turn}
 use Rattle.jc_written.proofs.Told.{class_broken_told}
 

@@ -1,5 +1,5 @@
 -- What written types mean, by their parts.
-use Rattle.std.proofs.Common.{◌≡◌, ℕ, List, map, ap, ◌∙◌}
+use Rattle.std.proofs.Common.{◌≡◌, ℕ, map, ap, ◌∙◌}
 use Rattle.jc_tree.specs.declared.types.BaseTree.{BaseTree, BaseTree-F, out-BaseTree, map-BaseTree, fold_out-BaseTree}
 use Rattle.jc_tree.specs.declared.types.BaseTree.TheVariants as anBaseTree
 use Rattle.jc_tree.specs.declared.types.TypeArg.{TypeArg, TypeArg-F, out-TypeArg, map-TypeArg, fold_out-TypeArg}

@@ -1,10 +1,8 @@
 -- The broken rules of a class type, told of its tree.
 use Rattle.std.specs.Prelude.{ℕ, Bool, cond, List, [], ◌∷◌, ◌++◌, map, Option}
-use Rattle.jc_tree.specs.declared.types.BaseTree.{BaseTree}
 use Rattle.jc_tree.specs.declared.types.ClassTree.{ClassTree, out-ClassTree}
 use Rattle.jc_tree.specs.declared.types.TypeArg.{TypeArg}
 use Rattle.jc_tree.specs.declared.types.TypePart.{TypePart, out-TypePart}
-use Rattle.jc_tree.specs.declared.types.TypeTree.{TypeTree}
 use Rattle.jc_types.specs.declared.form.Arg.{Arg}
 use Rattle.jc_types.specs.declared.form.Ty.{Ty}
 use Rattle.jc_types.specs.declared.form.Ty.TheVariants.{Class, Variable}
