@@ -5,6 +5,7 @@ use Rattle.std.specs.List.{starts_with}
 use Rattle.std.specs.declared.option.Option.{Option}
 use Rattle.std.specs.declared.option.Option.TheVariants.{Some, None}
 use Rattle.jc_words.specs.declared.line.OptionName.{OptionName}
+use Rattle.jc_words.specs.declared.line.OptionName.TheVariants.{Out, Run, Steps}
 use Rattle.jc_words.specs.declared.line.Part.{Part}
 use Rattle.jc_words.specs.declared.line.Part.TheVariants.{Joined, Apart, Positional}
 use Rattle.jc_words.specs.declared.line.Line.{Line}
