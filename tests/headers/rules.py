@@ -116,7 +116,10 @@ def body_disagrees(table, view, other):
 
 
 def erasures(table, method):
-    found = [one for one in table.methods if one is method or table.replaces(method, one)]
+    """Those of a method, and of what it overrides or hides, directly or indirectly."""
+    found = [method]
+    for one in found:
+        found += [other for other in table.methods if other not in found and table.replaces(one, other)]
     return [[table.plain(ty) for ty in one.params] for one in found]
 
 

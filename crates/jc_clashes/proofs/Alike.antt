@@ -1,4 +1,4 @@
--- What overrides or hides a method has its name, and the erasures of the methods of a name.
+-- The methods of a name, their erasures and their groups.
 use Rattle.std.proofs.Common.{◌≡◌, ◌⊎◌, inl, inr, ℕ, zero, suc, ◌+◌, ◌==◌, ◌<◌, ◌≤◌, arith, Bool, true, false, not, ◌&&◌, ◌||◌, cond, List, [], ◌∷◌, ◌++◌, length, refl, sym, ap, subst, ◌∙◌}
 use Rattle.std.proofs.lemmas.Bool.Decides.{nat_tests}
 use Rattle.std.specs.List.{list_any}
@@ -8,64 +8,16 @@ use Rattle.jc_types.specs.declared.form.Ty.{Ty}
 use Rattle.jc_types.specs.declared.ids.MethodId.{MethodId}
 use Rattle.jc_types.specs.declared.table.Table.{Table}
 use Rattle.jc_types.specs.Accessors.{method_name_of}
-use Rattle.jc_overriding.specs.Overriding.{has_name, hides, is_above, is_inheritable, is_instance, is_method, overrides, owner, subsignature_of}
+use Rattle.jc_overriding.specs.Overriding.{has_name}
 use Rattle.jc_overriding.specs.Signatures.{same_all}
-use Rattle.jc_overriding.specs.Viewing.{class_view, is_static}
-use Rattle.jc_header_rules.specs.Clashes.{erased_params, erasures_meet, is_same_or_below, share_erasure}
+use Rattle.jc_header_rules.specs.Clashes.{erased_params, erasures_meet, reaches, share_erasure}
 use Rattle.jc_members.specs.Below.{replaces}
 use Rattle.jc_members.specs.Named.{all_named, if_named, named_from}
-use Rattle.jc_members.proofs.Replacing.{hides_told, overrides_told, own_below}
-use Rattle.jc_members.proofs.Standing.{unnamed}
 use Rattle.jc_clashes.specs.declared.shapes.Shape.{Shape}
 use Rattle.jc_clashes.specs.Clashing.{is_listed, share_some}
 use Rattle.jc_clashes.specs.Shapes.{all_plain, below_in, erasures_in, group_of, groups, groups_from, is_plain, leads, shape_of, shapes_of}
-use Rattle.jc_clashes.proofs.Lists.{In, and_both, and_false, and_true, any_in, in_any, in_either, in_left, in_right, is_self, not_both, number, or_right, own_bytes, same_bytes}
-
--- ---- overriding and hiding
-
-module _ (T : Table) (m n : MethodId) where
-  abbrev signed : Bool
-  signed = subsignature_of T (class_view T (owner T m) m) (class_view T (owner T m) n)
-
-  not_signed : signed ≡ false → replaces T m n ≡ false
-  not_signed e = ap (λ b. b || hides T m n) over ∙ hidden
-    where
-      below : own_below T m n ≡ false
-      below = and_false (is_above T (owner T m) (owner T n) && is_inheritable T (owner T m) n) signed e
-
-      over : overrides T m n ≡ false
-      over = overrides_told T m n ∙ and_false (is_instance T m && is_instance T n) (own_below T m n) below
-
-      hidden : hides T m n ≡ false
-      hidden = hides_told T m n ∙ and_false (is_method T m && is_method T n && is_static T m && is_static T n) (own_below T m n) below
-
-  pub replaces_signed : replaces T m n ≡ true → signed ≡ true
-  replaces_signed e = by signed refl
-    where
-      by : (b : Bool) → signed ≡ b → signed ≡ true
-      by true f = f
-      by false f = absurd (not_both (replaces T m n) e (not_signed f))
-
-  pub replaces_named : replaces T m n ≡ true → method_name_of T m ≡ method_name_of T n
-  replaces_named e = by (bytes_eq (method_name_of T m) (method_name_of T n)) refl
-    where
-      by : (b : Bool) → bytes_eq (method_name_of T m) (method_name_of T n) ≡ b → method_name_of T m ≡ method_name_of T n
-      by true f = same_bytes (method_name_of T m) (method_name_of T n) f
-      by false f = absurd (not_both signed (replaces_signed e) (unnamed T (owner T m) m n f))
-
-  pub same_or_below : is_same_or_below T m n ≡ true → (m ≡ n) ⊎ (replaces T m n ≡ true)
-  same_or_below e = by (m.0 == n.0) refl e
-    where
-      by : (b : Bool) → (m.0 == n.0) ≡ b → ((b || overrides T m n) || hides T m n) ≡ true → (m ≡ n) ⊎ (replaces T m n ≡ true)
-      by true f e = inl (ap (λ j. record { 0 = j }) (number m.0 n.0 f))
-      by false f e = inr e
-
-  pub below_named : is_same_or_below T m n ≡ true → method_name_of T m ≡ method_name_of T n
-  below_named e = by (same_or_below e)
-    where
-      by : (m ≡ n) ⊎ (replaces T m n ≡ true) → method_name_of T m ≡ method_name_of T n
-      by (inl is) = ap (method_name_of T) is
-      by (inr e) = replaces_named e
+use Rattle.jc_clashes.proofs.Lists.{In, and_both, and_true, any_in, in_any, in_either, in_left, in_right, is_self, number, or_right, own_bytes, same_bytes}
+use Rattle.jc_clashes.proofs.Reaching.{Found, reaches_named}
 
 -- ---- the methods of a name
 
@@ -116,7 +68,7 @@ module _ (T : Table) (x : List ℕ) where
       let low : m.0 < 0 + length T.methods = found.0 in
       record { within = omega arith; name = same_bytes (method_name_of T m) x found.1 }
 
--- ---- the erasures of a method and of those below
+-- ---- what a method replaces, and the erasures of those that it reaches
 
 module _ (T : Table) (m : MethodId) where
   pub listed_in : (j : MethodId) (js : List MethodId) → In j js → replaces T m j ≡ true → is_listed j (below_in T m js) ≡ true
@@ -142,34 +94,28 @@ module _ (T : Table) (m : MethodId) where
       by true g h e = here (i.0 == j.0) refl g h e
       by false g h e = h e
 
-  erasure_in : (j : MethodId) (js : List MethodId) → In j js → is_same_or_below T m j ≡ true → In (erased_params T j) (erasures_in T m js)
+  erasure_in : (j : MethodId) (js : List MethodId) → In j js → reaches T m j ≡ true → In (erased_params T j) (erasures_in T m js)
   erasure_in j [] h e = absurd h
   erasure_in j (i ∷ js) (inl is) e =
-      in_left (erased_params T j) (cond (is_same_or_below T m i) (erased_params T i ∷ []) []) (erasures_in T m js)
-      (subst (λ k. In (erased_params T j) (cond (is_same_or_below T m k) (erased_params T k ∷ []) [])) is (subst (λ b. In (erased_params T j) (cond b (erased_params T j ∷ []) [])) (sym e) (inl refl)))
-  erasure_in j (i ∷ js) (inr h) e = in_right (erased_params T j) (cond (is_same_or_below T m i) (erased_params T i ∷ []) []) (erasures_in T m js) (erasure_in j js h e)
+      in_left (erased_params T j) (cond (reaches T m i) (erased_params T i ∷ []) []) (erasures_in T m js)
+      (subst (λ k. In (erased_params T j) (cond (reaches T m k) (erased_params T k ∷ []) [])) is (subst (λ b. In (erased_params T j) (cond b (erased_params T j ∷ []) [])) (sym e) (inl refl)))
+  erasure_in j (i ∷ js) (inr h) e = in_right (erased_params T j) (cond (reaches T m i) (erased_params T i ∷ []) []) (erasures_in T m js) (erasure_in j js h e)
 
-  of_erasure : (es : List Ty) (js : List MethodId) → In es (erasures_in T m js) → (j : MethodId) × In j js × (is_same_or_below T m j ≡ true) × (es ≡ erased_params T j)
+  of_erasure : (es : List Ty) (js : List MethodId) → In es (erasures_in T m js) → (j : MethodId) × In j js × (reaches T m j ≡ true) × (es ≡ erased_params T j)
   of_erasure es [] h = absurd h
-  of_erasure es (i ∷ js) h = by (is_same_or_below T m i) refl (in_either es (cond (is_same_or_below T m i) (erased_params T i ∷ []) []) (erasures_in T m js) h) (λ h. of_erasure es js h)
+  of_erasure es (i ∷ js) h = by (reaches T m i) refl (in_either es (cond (reaches T m i) (erased_params T i ∷ []) []) (erasures_in T m js) h) (λ h. of_erasure es js h)
     where
-      by : (b : Bool) → is_same_or_below T m i ≡ b → In es (cond b (erased_params T i ∷ []) []) ⊎ In es (erasures_in T m js)
-          → (In es (erasures_in T m js) → (j : MethodId) × In j js × (is_same_or_below T m j ≡ true) × (es ≡ erased_params T j)) → (j : MethodId) × In j (i ∷ js) × (is_same_or_below T m j ≡ true) × (es ≡ erased_params T j)
+      by : (b : Bool) → reaches T m i ≡ b → In es (cond b (erased_params T i ∷ []) []) ⊎ In es (erasures_in T m js)
+          → (In es (erasures_in T m js) → (j : MethodId) × In j js × (reaches T m j ≡ true) × (es ≡ erased_params T j)) → (j : MethodId) × In j (i ∷ js) × (reaches T m j ≡ true) × (es ≡ erased_params T j)
       by true f (inl (inl e)) g = (i, inl refl, f, e)
       by true f (inl (inr h)) g = absurd h
       by false f (inl h) g = absurd h
       by true f (inr h) g = let rest = g h in (rest.0, inr rest.1, rest.2, rest.3)
       by false f (inr h) g = let rest = g h in (rest.0, inr rest.1, rest.2, rest.3)
 
--- a method of the table, for which a test holds
-pub record Found (n : ℕ) (f : MethodId → Bool) : Type 0 where
-  pub id : MethodId
-  pub within : id.0 < n
-  pub holds : f id ≡ true
-
 module _ (T : Table) (m : MethodId) where
   abbrev shares : MethodId → MethodId → Bool
-  shares n j = is_same_or_below T n j && same_all (erased_params T m) (erased_params T j)
+  shares n j = reaches T n j && same_all (erased_params T m) (erased_params T j)
 
   share_found : (n : MethodId) (i : ℕ) (ds : List MethodDecl) → share_erasure T m n i ds ≡ true → Found (i + length ds) (shares n)
   share_found n i [] e = cc
@@ -194,7 +140,7 @@ module _ (T : Table) (m : MethodId) where
 
 module _ (T : Table) (m n : MethodId) where
   abbrev meets_at : MethodId → Bool
-  meets_at i = is_same_or_below T m i && share_erasure T i n 0 T.methods
+  meets_at i = reaches T m i && share_erasure T i n 0 T.methods
 
   meet_found : (i : ℕ) (ds : List MethodDecl) → erasures_meet T m n i ds ≡ true → Found (i + length ds) meets_at
   meet_found i [] e = cc
@@ -217,41 +163,41 @@ module _ (T : Table) (m n : MethodId) where
           ap (λ b. b || erasures_meet T m n (i + 1) ds) (subst (λ k. meets_at (record { 0 = k }) ≡ true) is e)
       by false f g = or_right (meets_at (record { 0 = i })) (erasures_meet T m n (i + 1) ds) (g (up f))
 
-  -- of one name: they or methods that they replace have one erasure
+  -- of one name: they or methods that they reach have one erasure
   pub record Meeting (x : List ℕ) : Type 0 where
     pub left : MethodId
     pub right : MethodId
     pub left_named : IsNamed T x left
     pub right_named : IsNamed T x right
-    pub left_below : is_same_or_below T m left ≡ true
-    pub right_below : is_same_or_below T n right ≡ true
+    pub left_below : reaches T m left ≡ true
+    pub right_below : reaches T n right ≡ true
     pub same : same_all (erased_params T left) (erased_params T right) ≡ true
 
   pub meeting_of : (x : List ℕ) → method_name_of T m ≡ x → method_name_of T n ≡ x → erasures_meet T m n 0 T.methods ≡ true → Meeting x
   meeting_of x em en e =
       let one = meet_found 0 T.methods e in
-      let here = and_both (is_same_or_below T m one.id) (share_erasure T one.id n 0 T.methods) one.holds in
+      let here = and_both (reaches T m one.id) (share_erasure T one.id n 0 T.methods) one.holds in
       let two = share_found T one.id n 0 T.methods here.1 in
-      let there = and_both (is_same_or_below T n two.id) (same_all (erased_params T one.id) (erased_params T two.id)) two.holds in
+      let there = and_both (reaches T n two.id) (same_all (erased_params T one.id) (erased_params T two.id)) two.holds in
       let low : one.id.0 < 0 + length T.methods = one.within in
       let high : two.id.0 < 0 + length T.methods = two.within in
       record {
         left = one.id;
         right = two.id;
-        left_named = record { within = omega arith; name = sym (below_named T m one.id here.0) ∙ em };
-        right_named = record { within = omega arith; name = sym (below_named T n two.id there.0) ∙ en };
+        left_named = record { within = omega arith; name = sym (reaches_named T m one.id here.0) ∙ em };
+        right_named = record { within = omega arith; name = sym (reaches_named T n two.id there.0) ∙ en };
         left_below = here.0;
         right_below = there.0;
         same = there.1;
       }
 
-  of_meeting : (x : List ℕ) → Meeting x → erasures_meet T m n 0 T.methods ≡ true
+  pub of_meeting : (x : List ℕ) → Meeting x → erasures_meet T m n 0 T.methods ≡ true
   of_meeting x h =
       let low : h.left.0 < length T.methods = h.left_named.within in
       let high : h.right.0 < length T.methods = h.right_named.within in
       let share : share_erasure T h.left n 0 T.methods ≡ true =
-      found_share T h.left n h.right 0 T.methods (omega arith) (omega arith) (and_true (is_same_or_below T n h.right) (same_all (erased_params T h.left) (erased_params T h.right)) h.right_below h.same) in
-      found_meet h.left 0 T.methods (omega arith) (omega arith) (and_true (is_same_or_below T m h.left) (share_erasure T h.left n 0 T.methods) h.left_below share)
+      found_share T h.left n h.right 0 T.methods (omega arith) (omega arith) (and_true (reaches T n h.right) (same_all (erased_params T h.left) (erased_params T h.right)) h.right_below h.same) in
+      found_meet h.left 0 T.methods (omega arith) (omega arith) (and_true (reaches T m h.left) (share_erasure T h.left n 0 T.methods) h.left_below share)
 
   abbrev share_in : List MethodId → Bool
   share_in all = share_some (erasures_in T m all) (erasures_in T n all)

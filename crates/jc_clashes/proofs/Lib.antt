@@ -4,4 +4,7 @@ pub mod Grown
 pub mod Lists
 pub mod Marked
 pub mod Plain
+pub mod Reached
+pub mod Reaching
 pub mod Told
+pub mod Walk

@@ -20,7 +20,7 @@ use Rattle.jc_overriding.specs.declared.view.MethodView.{MethodView}
 use Rattle.jc_overriding.specs.Overriding.{candidates_from, inherits_in, is_candidate, is_method, is_viewed, owner, remaining, replaced, same_class, subsignature_of, with_view, without_replaced}
 use Rattle.jc_overriding.specs.Signatures.{subsignature}
 use Rattle.jc_overriding.specs.Viewing.{class_view, is_static, own_type, seeing_of, view_of_owner, viewed_by, viewed_in}
-use Rattle.jc_header_rules.specs.Clashes.{all_methods, clash_place, clashes, clashes_breaks, clashes_in, erased_params, erasures_meet, is_among, is_settled, is_same_or_below, members_broken, pairs_broken}
+use Rattle.jc_header_rules.specs.Clashes.{all_methods, clash_place, clashes, clashes_breaks, clashes_in, erased_params, erasures_meet, is_among, is_settled, members_broken, pairs_broken, reaches}
 use Rattle.jc_header_rules.specs.Inheriting.{with_body}
 use Rattle.jc_header_rules.specs.Places.{broken_if, of_each}
 use Rattle.jc_members.specs.Below.{replaces}
@@ -34,7 +34,8 @@ use Rattle.jc_clashes.specs.Shapes.{below_in, erasures_in, groups, is_plain, sha
 use Rattle.jc_clashes.specs.Stage.{IsFirstClash, all_clashes}
 use Rattle.jc_clashes.proofs.Lists.{In, and_both, and_true, any_in, as_true, in_any, in_either, in_left, in_right, is_false, is_self, not_both, not_false, number, or_right, own_bytes, same_bytes}
 use Rattle.jc_clashes.proofs.Plain.{all_same, same_erasure, same_plain}
-use Rattle.jc_clashes.proofs.Alike.{IsNamed, Meeting, group_in, group_named, group_told, in_listed, in_named, listed_in, meet_told, meeting_of, named_in, of_shape, plain_name, plain_of, replaces_named, replaces_signed, same_or_below, shape_in}
+use Rattle.jc_clashes.proofs.Alike.{IsNamed, Meeting, group_in, group_named, group_told, in_listed, in_named, listed_in, meet_told, meeting_of, named_in, of_shape, plain_name, plain_of, shape_in}
+use Rattle.jc_clashes.proofs.Reaching.{reached_told, replaces_named, replaces_signed}
 
 -- ---- breaks in lists
 
@@ -64,7 +65,7 @@ broken_true b false rule place m = absurd m
 
 module _ (T : Table) (k : ClassId) where
   -- a method as the class has it
-  record Has (v : MethodView) : Type 0 where
+  pub record Has (v : MethodView) : Type 0 where
     pub within : v.id.0 < length T.methods
     pub view : class_view T k v.id ≡ Some v
     pub candidate : is_candidate T (own_type T k) v.id ≡ true
@@ -126,13 +127,13 @@ module _ (T : Table) (k : ClassId) where
   abbrev kept : List MethodView
   kept = remaining T (all_methods T k)
 
-  has_of : (v : MethodView) → In v every → Has v
+  pub has_of : (v : MethodView) → In v every → Has v
   has_of v h =
       let found = has_from 0 T.methods v h in
       let low : v.id.0 < 0 + length T.methods = found.0 in
       record { within = omega arith; view = found.1; candidate = found.2 }
 
-  of_has : (v : MethodView) → Has v → In v every
+  pub of_has : (v : MethodView) → Has v → In v every
   of_has v h = let low : v.id.0 < length T.methods = h.within in from_has 0 T.methods v (omega arith) (omega arith) h.view h.candidate
 
   -- ---- by ids
@@ -144,7 +145,7 @@ module _ (T : Table) (k : ClassId) where
   belongs_told : (m : MethodId) → belongs T k m ≡ (is_candidate T (own_type T k) m && has_method T (own_type T k) m)
   belongs_told m = ap (λ o. is_method T m && (is_class (owner T m) o || inherits_in T o m) && has_method T (own_type T k) m) (sym class_own)
 
-  viewed : (m : MethodId) (v : MethodView) → class_view T k m ≡ Some v → has_method T (own_type T k) m ≡ true
+  pub viewed : (m : MethodId) (v : MethodView) → class_view T k m ≡ Some v → has_method T (own_type T k) m ≡ true
   viewed m v e = by (view_of_owner T (own_type T k) (method_owner_of T m)) e
     where
       by : (o : Option Ty) → viewed_in T m o ≡ Some v → is_viewed o ≡ true
@@ -162,12 +163,12 @@ module _ (T : Table) (k : ClassId) where
   has_belongs v h = belongs_told v.id ∙ and_true (is_candidate T (own_type T k) v.id) (has_method T (own_type T k) v.id) h.candidate (viewed v.id v h.view)
 
   -- .. as the class has it
-  record View (m : MethodId) : Type 0 where
+  pub record View (m : MethodId) : Type 0 where
     pub view : MethodView
     pub is : view.id ≡ m
     pub has : Has view
 
-  belongs_has : (m : MethodId) → m.0 < length T.methods → belongs T k m ≡ true → View m
+  pub belongs_has : (m : MethodId) → m.0 < length T.methods → belongs T k m ≡ true → View m
   belongs_has m within e =
       let both = and_both (is_candidate T (own_type T k) m) (has_method T (own_type T k) m) (sym (belongs_told m) ∙ e) in
       let seen = view_some m both.1 in
@@ -189,7 +190,7 @@ module _ (T : Table) (k : ClassId) where
   replaced_in v w (u ∷ us) (inl is) e = ap (λ b. b || replaced T v us) (subst (λ (z : MethodView). replaces T z.id v.id ≡ true) is e)
   replaced_in v w (u ∷ us) (inr h) e = or_right (replaces T u.id v.id) (replaced T v us) (replaced_in v w us h e)
 
-  in_replaced : (v : MethodView) (vs : List MethodView) → replaced T v vs ≡ true → (w : MethodView) × In w vs × (replaces T w.id v.id ≡ true)
+  pub in_replaced : (v : MethodView) (vs : List MethodView) → replaced T v vs ≡ true → (w : MethodView) × In w vs × (replaces T w.id v.id ≡ true)
   in_replaced v [] e = cc
   in_replaced v (u ∷ us) e = by (replaces T u.id v.id) refl (λ k. in_replaced v us k) e
     where
@@ -208,7 +209,7 @@ module _ (T : Table) (k : ClassId) where
       by true f (inr h) g = let rest = g h in (inr rest.0, rest.1)
       by false f (inr h) g = let rest = g h in (inr rest.0, rest.1)
 
-  without_in : (all vs : List MethodView) (v : MethodView) → In v vs → replaced T v all ≡ false → In v (without_replaced T all vs)
+  pub without_in : (all vs : List MethodView) (v : MethodView) → In v vs → replaced T v all ≡ false → In v (without_replaced T all vs)
   without_in all [] v h e = absurd h
   without_in all (w ∷ ws) v (inl is) e =
       in_left v (cond (replaced T w all) [] (w ∷ [])) (without_replaced T all ws)
@@ -314,20 +315,32 @@ module _ (T : Table) (k : ClassId) where
         (and_both first (belongs T k n) (and_both (first && belongs T k n) views e).0).1
 
     -- plain methods of one name don't clash
-    plain_erasure : (m i : MethodId) → plain_name T x ≡ true → IsNamed T x m → IsNamed T x i → is_same_or_below T m i ≡ true → erased_params T m ≡ erased_params T i
-    plain_erasure m i plain hm hi e = by (same_or_below T m i e)
+    plain_at : (j : MethodId) → plain_name T x ≡ true → IsNamed T x j → is_plain T j ≡ true
+    plain_at j plain h = plain_of T j all plain (in_named T x j h)
+
+    plain_step : (q p : MethodId) → is_plain T q ≡ true → is_plain T p ≡ true → replaces T q p ≡ true → erased_params T q ≡ erased_params T p
+    plain_step q p eq ep r = by (class_view T (owner T q) q) (class_view T (owner T q) p) refl refl (replaces_signed T q p r)
       where
-        plain_at : (j : MethodId) → IsNamed T x j → is_plain T j ≡ true
-        plain_at j h = plain_of T j all plain (in_named T x j h)
+        by : (a b : Option MethodView) → class_view T (owner T q) q ≡ a → class_view T (owner T q) p ≡ b → subsignature_of T a b ≡ true → erased_params T q ≡ erased_params T p
+        by None b f g s = cc
+        by (Some a) None f g s = cc
+        by (Some a) (Some b) f g s = same_erasure T (owner T q) q p a b eq ep f g s
 
-        signed : (a b : Option MethodView) → class_view T (owner T m) m ≡ a → class_view T (owner T m) i ≡ b → subsignature_of T a b ≡ true → erased_params T m ≡ erased_params T i
-        signed None b f g s = cc
-        signed (Some a) None f g s = cc
-        signed (Some a) (Some b) f g s = same_erasure T (owner T m) m i a b (plain_at m hm) (plain_at i hi) f g s
+    -- a method of the name, where it is one of the table, with the erasure of m
+    record PlainLike (m p : MethodId) : Type 0 where
+      pub name : method_name_of T p ≡ x
+      pub same : p.0 < length T.methods → erased_params T m ≡ erased_params T p
 
-        by : (m ≡ i) ⊎ (replaces T m i ≡ true) → erased_params T m ≡ erased_params T i
-        by (inl is) = ap (erased_params T) is
-        by (inr r) = signed (class_view T (owner T m) m) (class_view T (owner T m) i) refl refl (replaces_signed T m i r)
+    plain_erasure : (m i : MethodId) → plain_name T x ≡ true → IsNamed T x m → IsNamed T x i → reaches T m i ≡ true → erased_params T m ≡ erased_params T i
+    plain_erasure m i plain hm hi e = (reached_told T m (PlainLike m) (record { name = hm.name; same = λ lt. refl }) next i e).same hi.within
+      where
+        next : (q p : MethodId) → q.0 < length T.methods → PlainLike m q → replaces T q p ≡ true → PlainLike m p
+        next q p within like r =
+            let name : method_name_of T p ≡ x = sym (replaces_named T q p r) ∙ like.name in
+            record {
+              name = name;
+              same = λ lt. like.same within ∙ plain_step q p (plain_at q plain (record { within = within; name = like.name })) (plain_at p plain (record { within = lt; name = name })) r;
+            }
 
     plain_clear : plain_name T x ≡ true → (v w : MethodView) → Has v → Has w → method_name_of T v.id ≡ x → method_name_of T w.id ≡ x → clashes T k kept v w ≡ true → ⊥
     plain_clear plain v w hv hw ev ew e =

@@ -2,4 +2,5 @@ pub mod Shapes
 pub mod Clashing
 pub mod Stage
 pub mod Clear
+pub mod Walking
 pub mod Constructors

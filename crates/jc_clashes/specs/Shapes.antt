@@ -1,12 +1,12 @@
 -- The methods of a name, with what erasures tell of them.
-use Rattle.std.specs.Prelude.{ℕ, zero, suc, ◌==◌, Bool, true, false, not, ◌&&◌, cond, List, [], ◌∷◌, ◌++◌, length}
+use Rattle.std.specs.Prelude.{◌≡◌, ℕ, zero, suc, ◌==◌, Bool, true, false, not, ◌&&◌, cond, List, [], ◌∷◌, ◌++◌, length}
 use Rattle.jc_types.specs.declared.form.Ty.{Ty}
 use Rattle.jc_types.specs.declared.ids.MethodId.{MethodId}
 use Rattle.jc_types.specs.declared.ids.VarId.{VarId}
 use Rattle.jc_types.specs.declared.table.Table.{Table}
 use Rattle.jc_types.specs.Accessors.{method_name_of, method_vars_of, params_of}
 use Rattle.jc_overriding.specs.Signatures.{same_all}
-use Rattle.jc_header_rules.specs.Clashes.{erased_params, is_same_or_below}
+use Rattle.jc_header_rules.specs.Clashes.{erased_params, reaches}
 use Rattle.jc_members.specs.Below.{replaces}
 use Rattle.jc_members.specs.Named.{all_named}
 use Rattle.jc_clashes.specs.declared.shapes.Shape.{Shape}
@@ -28,10 +28,21 @@ abbrev pub below_in : Table → MethodId → List MethodId → List MethodId
 below_in T m [] = []
 below_in T m (j ∷ js) = cond (replaces T m j) (j ∷ []) [] ++ below_in T m js
 
--- the erased parameters of m, and of those that it overrides or hides
+-- .. of each of those
+abbrev pub belows_of : Table → List MethodId → List MethodId → List (List MethodId)
+belows_of T all [] = []
+belows_of T all (m ∷ ms) = below_in T m all ∷ belows_of T all ms
+
+-- the erased parameters of m, and of those that it overrides or hides, directly or indirectly
 abbrev pub erasures_in : Table → MethodId → List MethodId → List (List Ty)
 erasures_in T m [] = []
-erasures_in T m (j ∷ js) = cond (is_same_or_below T m j) (erased_params T j ∷ []) [] ++ erasures_in T m js
+erasures_in T m (j ∷ js) = cond (reaches T m j) (erased_params T j ∷ []) [] ++ erasures_in T m js
+
+-- the erased parameters of the marked ones of these methods
+abbrev pub erasures_at : Table → List MethodId → List Bool → List (List Ty)
+erasures_at T [] marks = []
+erasures_at T (j ∷ js) [] = []
+erasures_at T (j ∷ js) (b ∷ bs) = cond b (erased_params T j ∷ []) [] ++ erasures_at T js bs
 
 abbrev pub shape_of : Table → List MethodId → MethodId → Shape
 shape_of T all m = record { id = m; below = below_in T m all; erasures = erasures_in T m all }
@@ -39,6 +50,10 @@ shape_of T all m = record { id = m; below = below_in T m all; erasures = erasure
 abbrev pub shapes_of : Table → List MethodId → List MethodId → List Shape
 shapes_of T all [] = []
 shapes_of T all (m ∷ ms) = shape_of T all m ∷ shapes_of T all ms
+
+-- these are the methods of one name, in the order of the table
+abbrev pub AreOfName : Table → List MethodId → Type 0
+AreOfName T ids = (x : List ℕ) × (ids ≡ all_named T x)
 
 -- the first of these methods, which aren't all plain
 abbrev pub leads : Table → MethodId → List MethodId → Bool

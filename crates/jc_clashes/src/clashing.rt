@@ -5,7 +5,6 @@ ghost use Rattle.std.specs.Option.{option_copied};
 ghost use Rattle.jc_types.specs.Breaks.{least};
 ghost use Rattle.jc_overriding.specs.Signatures.{same_all};
 ghost use Rattle.jc_overriding.specs.Viewing.{class_view, own_type};
-ghost use Rattle.jc_header_rules.specs.Inheriting.{with_body};
 ghost use Rattle.jc_members.specs.Listing.{has_method};
 ghost use Rattle.jc_members.specs.Supertypes.{IsSupertypes};
 ghost use Rattle.jc_clashes.specs.Clashing.{belongs, beside_broken, clash_at, group_broken, groups_broken, is_listed, is_member, is_replaced, member_broken, pair_broken, replaces_there, settles, share_some, views_clash};
@@ -14,11 +13,11 @@ use crate::places::clash_place;
 use crate::shapes::Shape;
 use jc_header_rules::if_broken;
 use jc_members::{
-    MethodView, Supertypes, has_view, is_inheritable, is_method, method_in, owner, same_all,
-    same_class, subsignature,
+    MethodView, Supertypes, has_view, is_abstract, is_inheritable, is_method, method_in, owner,
+    same_all, same_class, subsignature,
 };
 use jc_rules::{Items, Place, Refusal, Rule, WantOfMemory};
-use jc_types::{ClassId, MethodId, Table, Ty, method_modifiers, method_owner};
+use jc_types::{ClassId, MethodId, Table, Ty, method_owner};
 use std::alloc::Global;
 
 fn has_method(
@@ -158,15 +157,6 @@ fn share_some(es: &[Items<Ty>], fs: &[Items<Ty>]) -> bool
     false
 }
 
-fn with_body(table: &Table, v: &MethodView) -> bool
-    ensures { result ≡ with_body table.now v.now }
-{
-    match method_modifiers(table, v.id) {
-        Some(modifiers) => !modifiers.is_abstract,
-        None => true,
-    }
-}
-
 // Whether of two inherited members b stands in a's place.
 fn settles(
     alloc: Global,
@@ -190,7 +180,7 @@ fn settles(
     if !subsignature(alloc, table, b, a)? {
         return Ok(false);
     }
-    Ok(!with_body(table, a) || with_body(table, b))
+    Ok(is_abstract(table, a.id) || !is_abstract(table, b.id))
 }
 
 fn both_clash(

@@ -89,54 +89,98 @@ fn all_apart(table: &Table, marks: &[bool], groups: &[Items<Shape>]) -> bool
     true
 }
 
-fn unmark(marks: &mut Vec<bool>, class: u64) {
+// Takes a class's mark, and notes the class, where it was marked.
+fn unmark(marks: &mut Vec<bool>, left: &mut Vec<u64>, class: u64) -> Result<(), WantOfMemory> {
     if let Some(mark) = marks.get_mut(class as usize) {
-        *mark = false;
+        if *mark {
+            *mark = false;
+            left.push(class)?;
+        }
     }
+    Ok(())
 }
 
-// Marks for all classes but those of these methods.
-fn first_marks(
-    alloc: Global,
+fn unmark_all(
+    marks: &mut Vec<bool>,
+    left: &mut Vec<u64>,
+    classes: &[u64],
+) -> Result<(), WantOfMemory> {
+    for class in classes {
+        unmark(marks, left, *class)?;
+    }
+    Ok(())
+}
+
+// Takes the marks of the classes of these methods.
+fn unmark_owners(
     table: &Table,
     groups: &[Items<Shape>],
-) -> Result<Vec<bool>, WantOfMemory> {
-    let mut marks = Vec::new(alloc);
-    for _class in 0..table.classes.len() {
-        marks.push(true)?;
-    }
+    marks: &mut Vec<bool>,
+    left: &mut Vec<u64>,
+) -> Result<(), WantOfMemory> {
     for group in groups {
         for s in group.slice() {
-            unmark(&mut marks, owner(table, s.id).0);
+            unmark(marks, left, owner(table, s.id).0)?;
         }
     }
-    Ok(marks)
+    Ok(())
 }
 
-// Takes the marks from classes that have one above that isn't marked, and tells whether there was such a class.
-fn spread(table: &Table, marks: &mut Vec<bool>) -> bool {
-    let mut was_there = false;
-    for number in 0..marks.len() {
-        if !keeps_clear(table, marks.as_slice(), number as u64) {
-            unmark(marks, number as u64);
-            was_there = true;
+// Notes a class with each class that it is declared right below.
+fn note_below(table: &Table, class: u64, below: &mut Vec<Vec<u64>>) -> Result<(), WantOfMemory> {
+    for t in class_supers(table, ClassId(class)) {
+        if let Some(k) = class_of(t) {
+            if let Some(list) = below.get_mut(k.0 as usize) {
+                list.push(class)?;
+            }
         }
     }
-    was_there
+    Ok(())
 }
 
-// Marks that may be right: a class stands mostly behind those above it, and then the second turn finds nothing.
+// For each class those that are declared right below it.
+fn classes_below(alloc: Global, table: &Table) -> Result<Vec<Vec<u64>>, WantOfMemory> {
+    let mut below = Vec::new(alloc);
+    for _class in 0..table.classes.len() {
+        below.push(Vec::new(alloc))?;
+    }
+    for number in 0..table.classes.len() {
+        note_below(table, number as u64, &mut below)?;
+    }
+    Ok(below)
+}
+
+// Takes the marks from classes that have one above them that isn't marked: each class that lost its mark takes those right below it along.
+fn spread(
+    marks: &mut Vec<bool>,
+    left: &mut Vec<u64>,
+    below: &[Vec<u64>],
+) -> Result<(), WantOfMemory> {
+    for _turn in 0..below.len() {
+        let Some(class) = left.pop() else {
+            return Ok(());
+        };
+        if let Some(classes) = below.get(class as usize) {
+            unmark_all(marks, left, classes.as_slice())?;
+        }
+    }
+    Ok(())
+}
+
+// Marks for the classes that have none of these methods, nor any class above them: a guess, which is asked behind it.
 fn likely_marks(
     alloc: Global,
     table: &Table,
     groups: &[Items<Shape>],
 ) -> Result<Items<bool>, WantOfMemory> {
-    let mut marks = first_marks(alloc, table, groups)?;
-    for _turn in 0..table.classes.len() {
-        if !spread(table, &mut marks) {
-            break;
-        }
+    let mut marks = Vec::new(alloc);
+    for _class in 0..table.classes.len() {
+        marks.push(true)?;
     }
+    let mut left = Vec::new(alloc);
+    unmark_owners(table, groups, &mut marks, &mut left)?;
+    let below = classes_below(alloc, table)?;
+    spread(&mut marks, &mut left, below.as_slice())?;
     Ok(Items::of(marks))
 }
 

@@ -8,5 +8,6 @@ mod constructors;
 mod places;
 mod shapes;
 mod stage;
+mod walking;
 
 pub use stage::check_clashes;

@@ -1,15 +1,14 @@
 //! The methods of each name that may clash, with what erasures tell of them, found once for all classes.
-ghost use Rattle.std.specs.Prelude.{◌≡◌, ◌++◌, ◌∷◌, ◌||◌, ◌==◌, [], cond, not, map, Some, None, IfOk, OnOk};
+ghost use Rattle.std.specs.Prelude.{◌≡◌, ◌++◌, IfOk, OnOk};
 ghost use Rattle.std.specs.Option.{option_copied};
-ghost use Rattle.jc_types.specs.Accessors.{method_name_of};
 ghost use Rattle.jc_overriding.specs.Overriding.{owner};
-ghost use Rattle.jc_overriding.specs.Viewing.{class_view, own_type, plain};
-ghost use Rattle.jc_header_rules.specs.Clashes.{erased_params, is_same_or_below};
-ghost use Rattle.jc_members.specs.Below.{replaces};
-ghost use Rattle.jc_members.specs.Named.{IsMethodIndex, all_named};
+ghost use Rattle.jc_overriding.specs.Viewing.{class_view, own_type};
+ghost use Rattle.jc_header_rules.specs.Clashes.{erased_params};
+ghost use Rattle.jc_members.specs.Named.{IsMethodIndex};
 ghost use Rattle.jc_members.specs.Supertypes.{IsSupertypes};
-ghost use Rattle.jc_clashes.specs.Shapes.{all_plain, below_in, erasures_in, group_of, groups, has_none, is_plain, leads, shape_of, shapes_of};
+ghost use Rattle.jc_clashes.specs.Shapes.{AreOfName, all_plain, below_in, belows_of, erasures_at, erasures_in, group_of, groups, has_none, is_plain, leads, shapes_of};
 
+use crate::walking::walked;
 use jc_members::{
     MethodIndex, MethodView, Supertypes, method_in, own_supertypes, owner, plain, replaces,
     same_all,
@@ -18,7 +17,8 @@ use jc_rules::{Items, WantOfMemory};
 use jc_types::{MethodId, Table, Ty, VarId, method_name, method_params, method_vars};
 use std::alloc::Global;
 
-/// A method beside those of its name: which of them it overrides or hides, and the erased parameters of itself and of these.
+/// A method beside those of its name: which of them it overrides or hides, and the erased parameters of itself and of all that it overrides or hides,
+/// directly or indirectly.
 #[derive(Drop)]
 pub struct Shape {
     pub id: MethodId,
@@ -72,80 +72,136 @@ fn all_plain(alloc: Global, table: &Table, ids: &[MethodId]) -> Result<bool, Wan
     Ok(true)
 }
 
-// Notes a method of the same name, where m is it, or overrides or hides it.
-fn note(
-    alloc: Global,
-    table: &Table,
-    above: &Supertypes,
-    a: Option<&MethodView>,
-    m: MethodId,
-    j: MethodId,
-    below: &mut Items<MethodId>,
-    erasures: &mut Items<Items<Ty>>,
-) -> Result<(), WantOfMemory>
-    requires known { IsSupertypes table.now above.now }
-    requires own { above.now.of ≡ own_type table.now (owner table.now m) }
-    requires is { option_copied a ≡ class_view table.now (owner table.now m) m }
-    ensures below { OnOk result (below.new ≡ below.old ++ cond (replaces table.now m j) (j ∷ []) []) }
-    ensures erasures { OnOk result (erasures.new ≡ erasures.old ++ cond ((m.0 == j.0) || replaces table.now m j) (erased_params table.now j ∷ []) []) }
-{
-    let is_below = replaces(alloc, table, above, a, m, j)?;
-    if is_below {
-        below.push(j)?;
-    }
-    if m.0 == j.0 || is_below {
-        erasures.push(erased_params(alloc, table, j)?)?;
-    }
-    Ok(())
-}
-
-fn shape_in(
+// Of these methods of its name those that method m overrides or hides.
+fn below_in(
     alloc: Global,
     table: &Table,
     above: &Supertypes,
     a: Option<&MethodView>,
     all: &[MethodId],
     m: MethodId,
-) -> Result<Shape, WantOfMemory>
+) -> Result<Items<MethodId>, WantOfMemory>
     requires known { IsSupertypes table.now above.now }
     requires own { above.now.of ≡ own_type table.now (owner table.now m) }
     requires is { option_copied a ≡ class_view table.now (owner table.now m) m }
-    ensures { IfOk result (λ r. r ≡ shape_of table.now all.now m) }
+    ensures { IfOk result (λ r. r ≡ below_in table.now m all.now) }
 {
     let mut below = Items::new(alloc);
-    let mut erasures = Items::new(alloc);
     let mut rest = all;
     while let [j, more @ ..] = rest {
-        note(alloc, table, above, a, m, *j, &mut below, &mut erasures)?;
+        if replaces(alloc, table, above, a, m, *j)? {
+            below.push(*j)?;
+        }
         rest = more;
     }
-    Ok(Shape {
-        id: m,
-        below,
-        erasures,
-    })
+    Ok(below)
 }
 
-fn shape_of(
+fn below_of(
     alloc: Global,
     table: &Table,
     all: &[MethodId],
     m: MethodId,
-) -> Result<Shape, WantOfMemory>
-    ensures { IfOk result (λ r. r ≡ shape_of table.now all.now m) }
+) -> Result<Items<MethodId>, WantOfMemory>
+    ensures { IfOk result (λ r. r ≡ below_in table.now m all.now) }
 {
     let above = own_supertypes(alloc, table, owner(table, m))?;
     let a = method_in(alloc, table, &above, m)?;
-    shape_in(alloc, table, &above, a.as_ref(), all, m)
+    below_in(alloc, table, &above, a.as_ref(), all, m)
 }
 
-fn shapes_of(alloc: Global, table: &Table, all: &[MethodId]) -> Result<Items<Shape>, WantOfMemory>
-    ensures { IfOk result (λ r. r ≡ shapes_of table.now all.now all.now) }
+fn belows_of(
+    alloc: Global,
+    table: &Table,
+    all: &[MethodId],
+) -> Result<Items<Items<MethodId>>, WantOfMemory>
+    ensures { IfOk result (λ r. r ≡ belows_of table.now all.now all.now) }
 {
     let mut out = Items::new(alloc);
     let mut rest = all;
     while let [m, more @ ..] = rest {
-        out.push(shape_of(alloc, table, all, *m)?)?;
+        out.push(below_of(alloc, table, all, *m)?)?;
+        rest = more;
+    }
+    Ok(out)
+}
+
+// The erased parameters of the marked ones of these methods.
+fn erasures_at(
+    alloc: Global,
+    table: &Table,
+    ids: &[MethodId],
+    marks: &[bool],
+) -> Result<Items<Items<Ty>>, WantOfMemory>
+    ensures { IfOk result (λ r. r ≡ erasures_at table.now ids.now marks.now) }
+{
+    let mut out = Items::new(alloc);
+    let mut rest = ids;
+    let mut left = marks;
+    while let [j, more @ ..] = rest {
+        match left {
+            [] => return Ok(out),
+            [mark, others @ ..] => {
+                if *mark {
+                    out.push(erased_params(alloc, table, *j)?)?;
+                }
+                left = others;
+            }
+        }
+        rest = more;
+    }
+    Ok(out)
+}
+
+// The erased parameters of m, and of those of its name that it overrides or hides, directly or indirectly.
+fn erasures_in(
+    alloc: Global,
+    table: &Table,
+    all: &[MethodId],
+    belows: &[Items<MethodId>],
+    m: MethodId,
+) -> Result<Items<Items<Ty>>, WantOfMemory>
+    requires name { AreOfName table.now all.now }
+    requires below { belows.now ≡ belows_of table.now all.now all.now }
+    ensures { IfOk result (λ r. r ≡ erasures_in table.now m all.now) }
+{
+    let marks = walked(alloc, all, belows, m, table.methods.len())?;
+    let erasures = erasures_at(alloc, table, all, marks.slice())?;
+    Ok(erasures)
+}
+
+fn copied(alloc: Global, ids: &[MethodId]) -> Result<Items<MethodId>, WantOfMemory>
+    ensures { IfOk result (λ r. r ≡ ids.now) }
+{
+    let mut out = Items::new(alloc);
+    let mut rest = ids;
+    while let [m, more @ ..] = rest {
+        out.push(*m)?;
+        rest = more;
+    }
+    Ok(out)
+}
+
+fn shapes_of(alloc: Global, table: &Table, all: &[MethodId]) -> Result<Items<Shape>, WantOfMemory>
+    requires { AreOfName table.now all.now }
+    ensures { IfOk result (λ r. r ≡ shapes_of table.now all.now all.now) }
+{
+    let belows = belows_of(alloc, table, all)?;
+    let mut out = Items::new(alloc);
+    let mut rest = all;
+    let mut left = belows.slice();
+    while let [m, more @ ..] = rest {
+        match left {
+            [] => return Ok(out),
+            [below, others @ ..] => {
+                out.push(Shape {
+                    id: *m,
+                    below: copied(alloc, below.slice())?,
+                    erasures: erasures_in(alloc, table, all, belows.slice(), *m)?,
+                })?;
+                left = others;
+            }
+        }
         rest = more;
     }
     Ok(out)
@@ -174,6 +230,7 @@ fn push_group(
     ids: &[MethodId],
     out: &mut Items<Items<Shape>>,
 ) -> Result<(), WantOfMemory>
+    requires { AreOfName table.now ids.now }
     ensures { OnOk result (out.new ≡ out.old ++ group_of table.now m ids.now) }
 {
     if !leads(alloc, table, m, ids)? {

@@ -8,3 +8,5 @@ pub mod Settled
 pub mod Standing
 pub mod Bodies
 pub mod Selecting
+pub mod Above
+pub mod Indirect

@@ -1,22 +1,19 @@
 -- The body that is selected.
-use Rattle.std.proofs.Common.{◌≡◌, ◌⊎◌, ℕ, zero, suc, ◌+◌, ◌-◌, ◌≤◌, Bool, true, false, not, ◌&&◌, ◌||◌, cond, if◌then◌else◌, inl, inr, List, [], ◌∷◌, ◌++◌, Option, Some, None, refl, sym, ap, ◌∙◌, arith}
-use Rattle.std.specs.Prelude.{slice_get}
+use Rattle.std.proofs.Common.{◌≡◌, ◌⊎◌, ℕ, zero, suc, ◌+◌, Bool, true, false, not, ◌&&◌, cond, if◌then◌else◌, inl, inr, List, [], ◌∷◌, ◌++◌, Option, Some, None, refl, sym, ap, ◌∙◌}
 use Rattle.jc_types.specs.declared.declarations.ClassDecl.{ClassDecl}
 use Rattle.jc_types.specs.declared.declarations.MethodDecl.{MethodDecl}
 use Rattle.jc_types.specs.declared.ids.ClassId.{ClassId}
 use Rattle.jc_types.specs.declared.ids.MethodId.{MethodId}
 use Rattle.jc_types.specs.declared.table.Table.{Table}
-use Rattle.jc_types.specs.Accessors.{body_in, class_count, has_body, method_kind_in, method_modifiers_in, methods_of}
-use Rattle.jc_overriding.specs.declared.view.MethodView.{MethodView}
-use Rattle.jc_overriding.specs.Overriding.{body_for, declared_for, if_body, in_superclass, inherits_in, is_method, is_method_kind, is_own, kind_in, or_further, select, standing_in, standing_within, stands_for, superclass, abstract_in, is_abstract}
-use Rattle.jc_overriding.specs.Viewing.{class_view, own_type}
-use Rattle.jc_judge.specs.Kinds.{class_of}
+use Rattle.jc_types.specs.Accessors.{class_count, methods_of}
+use Rattle.jc_overriding.specs.Overriding.{body_for, declared_for, if_body, in_superclass, or_further, select, standing_in, standing_within, stands_for, superclass, is_abstract}
+use Rattle.jc_overriding.specs.Viewing.{class_view}
 use Rattle.jc_header_rules.specs.Clashes.{headers_breaks}
 use Rattle.jc_header_rules.specs.Headers.{differ, method_breaks, pair_broken, wants_body}
 use Rattle.jc_header_rules.specs.Inheriting.{class_breaks}
 use Rattle.jc_header_rules.specs.Places.{of_each}
 use Rattle.jc_header_laws.specs.Facts.{HasNoParameters, IsNumber, OneChosen}
-use Rattle.jc_header_laws.proofs.Bodies.{Has, and_first, has, one_selected, true_not_false}
+use Rattle.jc_header_laws.proofs.Bodies.{one_selected, true_not_false}
 use Rattle.jc_header_laws.proofs.Fitting.{overriding_none, throwing_others, without_body}
 use Rattle.jc_header_laws.proofs.Lists.{each_unbroken, fore, not_broken, rear}
 
@@ -24,27 +21,6 @@ differ_none : (a b : Bool) → differ a b ≡ false → b ≡ a
 differ_none true true e = refl
 differ_none true false e = absurd (true_not_false e)
 differ_none false b e = e
-
-no_abstract : (method abstract native : Bool) → method ≡ true → (not method || not (abstract || native)) ≡ true → abstract ≡ false
-no_abstract true false native e f = refl
-no_abstract true true native e f = absurd (true_not_false (sym f))
-no_abstract false abstract native e f = absurd (true_not_false (sym e))
-
--- a method by its number
-at_number : (i n : ℕ) (d : MethodDecl) (ds : List MethodDecl) → IsNumber i n d ds → slice_get ds (n - i) ≡ Some d
-at_number i n d [] h = absurd h
-at_number i n d (e ∷ ds) (inl h) =
-    let none : n - i ≡ 0 = (let is : n ≡ i = h.0 in omega arith) in
-    ap (slice_get (e ∷ ds)) none ∙ ap Some (sym h.1)
-at_number i n d (e ∷ ds) (inr h) = ap (slice_get (e ∷ ds)) (step (above (suc i) n d ds h)) ∙ at_number (suc i) n d ds h
-  where
-    above : (i n : ℕ) (d : MethodDecl) (ds : List MethodDecl) → IsNumber i n d ds → i ≤ n
-    above i n d [] h = absurd h
-    above i n d (e ∷ ds) (inl h) = let is : n ≡ i = h.0 in omega arith
-    above i n d (e ∷ ds) (inr h) = let low : suc i ≤ n = above (suc i) n d ds h in omega arith
-
-    step : suc i ≤ n → n - i ≡ suc (n - suc i)
-    step low = omega arith
 
 standing_told : (T : Table) (k : ClassId) (m x : MethodId) (ns : List MethodId) → declared_for T k m ns ≡ Some x → stands_for T k x m ≡ true
 standing_told T k m x [] e = cc
@@ -120,22 +96,11 @@ module _ (T : Table) (unbroken : headers_breaks T ≡ []) where
       differ_none (wants_body d) d.has_body
       (not_broken (differ (wants_body d) d.has_body) 514 d.place (rear ((of_each (pair_broken T m d.place) 0 T.methods ++ overriding_none T m d) ++ throwing_others T m d) (without_body d) own))
 
-  with_a_body : (k : ClassId) (v : MethodView) → Has T k 0 T.methods v → has_body T v.id ≡ true → is_abstract T v.id ≡ false
-  with_a_body k v h e =
-      let d : MethodDecl = h.declaration in
-      let found : slice_get T.methods v.id.0 ≡ Some d = ap (slice_get T.methods) (let none : v.id.0 ≡ v.id.0 - 0 = omega arith in none) ∙ at_number 0 v.id.0 d T.methods h.number in
-      let method : is_method T v.id ≡ true = and_first (is_method T v.id) (is_own T (own_type T k) v.id || inherits_in T (class_of (own_type T k)) v.id) h.candidate in
-      let kind : is_method_kind d.kind ≡ true = sym (ap (λ o. kind_in (method_kind_in o)) found) ∙ method in
-      let body : d.has_body ≡ true = sym (ap body_in found) ∙ e in
-      ap (λ o. abstract_in (method_modifiers_in o)) found
-      ∙ no_abstract (is_method_kind d.kind) d.modifiers.is_abstract d.modifiers.is_native kind (sym (own_body v.id.0 d h.number) ∙ body)
-
   pub one_chosen : (n : ℕ) (c : ClassDecl) → IsNumber 0 n c T.classes → OneChosen T (record { 0 = n })
-  one_chosen n c at m found v w e same h g alike_owners body stands is =
+  one_chosen n c at m found v w e same h g alike_owners theirs stands is =
       let k : ClassId = record { 0 = n } in
       let told = selected_told T k m found e in
       let mine : is_abstract T v.id ≡ false = ap (is_abstract T) same ∙ told.0 in
-      let theirs : is_abstract T w.id ≡ false = with_a_body k w (has T k w g) body in
       sym (one_selected T unbroken n c at m v w h g alike_owners mine theirs (ap (λ y. stands_for T k y m) same ∙ told.1) stands (by k is)) ∙ same
     where
       by : (k : ClassId) → (found ≡ m) ⊎ ((w.id ≡ m) ⊎ HasNoParameters (class_view T k m)) → (v.id ≡ m) ⊎ ((w.id ≡ m) ⊎ HasNoParameters (class_view T k m))

@@ -14,14 +14,14 @@ use Rattle.jc_types.specs.declared.ids.MethodId.{MethodId}
 use Rattle.jc_types.specs.declared.scopes.Use.{Use}
 use Rattle.jc_types.specs.declared.scopes.UseKind.TheVariants as use_kind
 use Rattle.jc_types.specs.declared.table.Table.{Table}
-use Rattle.jc_types.specs.Accessors.{has_body, method_name_of}
+use Rattle.jc_types.specs.Accessors.{method_name_of}
 use Rattle.jc_judge.specs.Kinds.{class_of, is_primitive}
 use Rattle.jc_judge.specs.Trees.{Proof}
 use Rattle.jc_overriding.specs.declared.view.MethodView.{MethodView}
-use Rattle.jc_overriding.specs.Overriding.{access_of, is_instance, owner, remaining, same_class, select, stands_for, is_abstract}
+use Rattle.jc_overriding.specs.Overriding.{access_of, is_inheritable, is_instance, overrides, owner, remaining, same_class, select, stands_for, is_abstract}
 use Rattle.jc_overriding.specs.Signatures.{adapted, erased_in, override_equivalent, same_all, subsignature}
 use Rattle.jc_overriding.specs.Viewing.{class_view, declared_view}
-use Rattle.jc_header_rules.specs.Clashes.{all_methods, erased_params, erasures_meet, is_settled}
+use Rattle.jc_header_rules.specs.Clashes.{all_methods, erased_params, erasures_meet, is_settled, reaches}
 use Rattle.jc_header_rules.specs.Headers.{is_final, is_same_sort, is_weaker, replaces, throws_more}
 use Rattle.jc_header_rules.specs.Inheriting.{all_above, all_members, is_concrete, is_member_above}
 use Rattle.jc_header_rules.specs.Results.{converts_unchecked}
@@ -127,11 +127,11 @@ OneSelected T k =
     → is_abstract T v.id ≡ false → is_abstract T w.id ≡ false → stands_for T k v.id m ≡ true → stands_for T k w.id m ≡ true
     → (v.id ≡ m) ⊎ ((w.id ≡ m) ⊎ HasNoParameters (class_view T k m)) → v.id ≡ w.id
 
--- the body that is selected for method m, and another method of the class that stands for m
+-- the body that is selected for method m, and another one of the class that stands for m
 abbrev pub OneChosen : Table → ClassId → Type 0
 OneChosen T k =
     (m n : MethodId) (v w : MethodView) → select T k m ≡ Some n → v.id ≡ n → IsOwnOrMember T k v → IsOwnOrMember T k w
-    → same_class (owner T v.id) k ≡ same_class (owner T w.id) k → has_body T w.id ≡ true → stands_for T k w.id m ≡ true
+    → same_class (owner T v.id) k ≡ same_class (owner T w.id) k → is_abstract T w.id ≡ false → stands_for T k w.id m ≡ true
     → (n ≡ m) ⊎ ((w.id ≡ m) ⊎ HasNoParameters (class_view T k m)) → w.id ≡ n
 
 -- ---- clashes
@@ -141,6 +141,14 @@ ErasuresStand T k =
     (v w : MethodView) → IsAmong v (remaining T (all_methods T k)) → IsAmong w (all_methods T k) → bytes_eq (method_name_of T v.id) (method_name_of T w.id) ≡ true
     → erasures_meet T v.id w.id 0 T.methods ≡ true
     → ((v.id.0 == w.id.0) ≡ true) ⊎ ((subsignature T v w ≡ true) ⊎ (is_settled T k (remaining T (all_methods T k)) v w ≡ true))
+
+-- what a method overrides or hides, directly or indirectly, and its class may inherit, it overrides or hides outright
+abbrev pub ReplacesReached : Table → MethodId → MethodId → Type 0
+ReplacesReached T m p = (m ≡ p → ⊥) → reaches T m p ≡ true → is_inheritable T (owner T m) p ≡ true → replaces T m p ≡ true
+
+-- so a method overrides what one that it overrides does, where its class may inherit that
+abbrev pub OverridesBeyond : Table → MethodId → MethodId → MethodId → Type 0
+OverridesBeyond T m n p = overrides T m n ≡ true → overrides T n p ≡ true → is_inheritable T (owner T m) p ≡ true → overrides T m p ≡ true
 
 -- of these methods no two are constructors with parameters of the same erasures
 abbrev pub ErasuresDiffer : Table → List MethodId → Type 0

@@ -4,14 +4,16 @@ ghost use Rattle.jc_types.specs.declared.declarations.ClassDecl.{ClassDecl};
 ghost use Rattle.jc_types.specs.declared.declarations.MethodDecl.{MethodDecl};
 ghost use Rattle.jc_types.specs.declared.declarations.TypePlaces.{TypePlaces};
 ghost use Rattle.jc_types.specs.declared.form.Ty.{Ty, out-Ty};
+ghost use Rattle.jc_types.specs.declared.ids.MethodId.{MethodId};
 ghost use Rattle.jc_types.specs.declared.table.Table.{Table};
 ghost use Rattle.jc_types.specs.Inside.{inside};
 ghost use Rattle.jc_judge.specs.Forming.{IsWellFormed};
+ghost use Rattle.jc_judge_laws.specs.Hierarchy.{IsHierarchy};
 ghost use Rattle.jc_header_rules.specs.Headers.{wants_body};
 ghost use Rattle.jc_header_rules.specs.Types.{has_wildcard_at};
 ghost use Rattle.jc_headers.specs.Stages.{IsUnbroken};
 ghost use Rattle.jc_clashes.specs.Stage.{HasNoClash};
-ghost use Rattle.jc_header_laws.specs.Facts.{AreOne, ErasuresDiffer, ErasuresStand, Fit, FindsBody, IsNumber, IsPair, IsWritten, OneBody, OneChosen, OneDeclaration, OneSelected};
+ghost use Rattle.jc_header_laws.specs.Facts.{AreOne, ErasuresDiffer, ErasuresStand, Fit, FindsBody, IsNumber, IsPair, IsWritten, OneBody, OneChosen, OneDeclaration, OneSelected, OverridesBeyond, ReplacesReached};
 
 /// Where the stages of types and of headers have no break, each written type is well formed: its arguments have proof trees of their bounds (JLS 4.5). An implied one, such as the
 /// superclass Object, has no places and isn't asked.
@@ -62,8 +64,8 @@ pub fn methods_have_their_bodies()
     ensures { (T : Table) → IsUnbroken T → (n : ℕ) (d : MethodDecl) → IsNumber 0 n d T.methods → d.has_body ≡ wants_body d }
 {}
 
-/// .. so where the body that is selected is of a method that the class declares, or that is a member there, it is the only one: no other such method with a body
-/// stands there for the one that is called.
+/// .. so where the body that is selected is of a method that the class declares, or that is a member there, it is the only one: no other such method with a body, native
+/// ones included, stands there for the one that is called.
 pub fn selected_body_is_one()
     ensures { (T : Table) → IsUnbroken T → (n : ℕ) (c : ClassDecl) → IsNumber 0 n c T.classes → OneChosen T (record { 0 = n }) }
 {}
@@ -72,6 +74,17 @@ pub fn selected_body_is_one()
 /// first is the second, has a subsignature of it, or is inherited and the second stands in its place (JLS 8.4.8.3).
 pub fn members_of_one_erasure_stand_for_each_other()
     ensures { (T : Table) → HasNoClash T → (n : ℕ) (c : ClassDecl) → IsNumber 0 n c T.classes → ErasuresStand T (record { 0 = n }) }
+{}
+
+/// .. and each method that a method overrides or hides indirectly, by way of others, it overrides or hides outright, where its class may inherit that (JLS 8.4.8.1 to
+/// 8.4.8.3). No class may be above itself, and all supertypes have to be classes of the table.
+pub fn what_is_reached_is_replaced()
+    ensures { (T : Table) → IsHierarchy T → HasNoClash T → (m p : MethodId) → ReplacesReached T m p }
+{}
+
+/// .. so overriding is transitive as far as classes may inherit.
+pub fn overriding_is_transitive()
+    ensures { (T : Table) → IsHierarchy T → HasNoClash T → (m n p : MethodId) → OverridesBeyond T m n p }
 {}
 
 /// .. and two constructors that a class lists have different erasures (JLS 8.8.2).

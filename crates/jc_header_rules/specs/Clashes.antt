@@ -1,5 +1,5 @@
 -- The stage of clashes: methods of one erasure of which neither overrides the other (JLS 8.4.8.3); and the breaks of the three stages of headers.
-use Rattle.std.specs.Prelude.{ℕ, ◌+◌, ◌==◌, nat_lt, Bool, true, false, not, ◌&&◌, ◌||◌, List, [], ◌∷◌, ◌++◌, map, Option, Some, None}
+use Rattle.std.specs.Prelude.{ℕ, zero, suc, ◌+◌, ◌==◌, nat_lt, Bool, true, false, not, ◌&&◌, ◌||◌, List, [], ◌∷◌, ◌++◌, map, length, Option, Some, None}
 use Rattle.std.specs.List.{list_any}
 use Rattle.std.specs.Str.{bytes_eq}
 use Rattle.jc_rules.specs.declared.rule.Place.{Place}
@@ -12,30 +12,45 @@ use Rattle.jc_types.specs.declared.ids.MethodId.{MethodId}
 use Rattle.jc_types.specs.declared.table.Table.{Table}
 use Rattle.jc_types.specs.Accessors.{method_name_of, method_place_of, params_of}
 use Rattle.jc_overriding.specs.declared.view.MethodView.{MethodView}
-use Rattle.jc_overriding.specs.Overriding.{candidates, hides, overrides, owner, remaining, same_class}
+use Rattle.jc_overriding.specs.Overriding.{candidates, owner, remaining, same_class}
 use Rattle.jc_overriding.specs.Signatures.{same_all, subsignature}
 use Rattle.jc_overriding.specs.Viewing.{own_type, plain}
 use Rattle.jc_header_rules.specs.Places.{broken_if, of_each}
-use Rattle.jc_header_rules.specs.Headers.{method_breaks}
+use Rattle.jc_header_rules.specs.Headers.{method_breaks, replaces}
 use Rattle.jc_header_rules.specs.Inheriting.{class_breaks, with_body}
 
--- ---- the erasures of a method's parameters, and of those that it overrides or hides (JLS 4.6)
+-- ---- what a method overrides or hides, directly or indirectly (JLS 8.4.8.1, 8.4.8.2, 9.4.1)
+
+-- of these methods, counted from i, one of which a test holds overrides or hides method p
+abbrev pub is_replaced_by_some : Table → (MethodId → Bool) → MethodId → ℕ → List MethodDecl → Bool
+is_replaced_by_some T holds p i [] = false
+is_replaced_by_some T holds p i (d ∷ ds) =
+    (holds (record { 0 = i }) && replaces T (record { 0 = i }) p) || is_replaced_by_some T holds p (i + 1) ds
+
+-- in at most n steps, each of overriding or hiding outright, method p is reached from method m
+unfoldable pub reaches_within : Table → ℕ → MethodId → MethodId → Bool
+reaches_within T zero m p = m.0 == p.0
+reaches_within T (suc n) m p = (m.0 == p.0) || is_replaced_by_some T (reaches_within T n m) p 0 T.methods
+
+-- p is m, or m overrides or hides it, directly or indirectly. No way needs more steps than there are methods
+abbrev pub reaches : Table → MethodId → MethodId → Bool
+reaches T m p = reaches_within T (length T.methods) m p
+
+-- ---- the erasures of a method's parameters, and of those that it overrides or hides (JLS 4.6, 8.4.8.3)
 
 abbrev pub erased_params : Table → MethodId → List Ty
 erased_params T m = map (plain T) (params_of T m)
 
-abbrev pub is_same_or_below : Table → MethodId → MethodId → Bool
-is_same_or_below T m n = (m.0 == n.0) || overrides T m n || hides T m n
-
 abbrev pub share_erasure : Table → MethodId → MethodId → ℕ → List MethodDecl → Bool
 share_erasure T m n j [] = false
 share_erasure T m n j (d ∷ ds) =
-    (is_same_or_below T n (record { 0 = j }) && same_all (erased_params T m) (erased_params T (record { 0 = j }))) || share_erasure T m n (j + 1) ds
+    (reaches T n (record { 0 = j }) && same_all (erased_params T m) (erased_params T (record { 0 = j }))) || share_erasure T m n (j + 1) ds
 
+-- m, or a method that it overrides or hides, has the erasure of n, or of one that n overrides or hides
 abbrev pub erasures_meet : Table → MethodId → MethodId → ℕ → List MethodDecl → Bool
 erasures_meet T m n i [] = false
 erasures_meet T m n i (d ∷ ds) =
-    (is_same_or_below T m (record { 0 = i }) && share_erasure T (record { 0 = i }) n 0 T.methods) || erasures_meet T m n (i + 1) ds
+    (reaches T m (record { 0 = i }) && share_erasure T (record { 0 = i }) n 0 T.methods) || erasures_meet T m n (i + 1) ds
 
 -- ---- 801
 
