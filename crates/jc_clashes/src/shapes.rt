@@ -170,18 +170,6 @@ fn erasures_in(
     Ok(erasures)
 }
 
-fn copied(alloc: Global, ids: &[MethodId]) -> Result<Items<MethodId>, WantOfMemory>
-    ensures { IfOk result (λ r. r ≡ ids.now) }
-{
-    let mut out = Items::new(alloc);
-    let mut rest = ids;
-    while let [m, more @ ..] = rest {
-        out.push(*m)?;
-        rest = more;
-    }
-    Ok(out)
-}
-
 fn shapes_of(alloc: Global, table: &Table, all: &[MethodId]) -> Result<Items<Shape>, WantOfMemory>
     requires { AreOfName table.now all.now }
     ensures { IfOk result (λ r. r ≡ shapes_of table.now all.now all.now) }
@@ -196,7 +184,7 @@ fn shapes_of(alloc: Global, table: &Table, all: &[MethodId]) -> Result<Items<Sha
             [below, others @ ..] => {
                 out.push(Shape {
                     id: *m,
-                    below: copied(alloc, below.slice())?,
+                    below: Items::of(Vec::from_slice(alloc, below.slice())?),
                     erasures: erasures_in(alloc, table, all, belows.slice(), *m)?,
                 })?;
                 left = others;

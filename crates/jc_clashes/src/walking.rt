@@ -18,18 +18,6 @@ fn marked_alone(alloc: Global, m: MethodId, ids: &[MethodId]) -> Result<Items<bo
     Ok(out)
 }
 
-fn copied(alloc: Global, marks: &[bool]) -> Result<Items<bool>, WantOfMemory>
-    ensures { IfOk result (λ r. r ≡ marks.now) }
-{
-    let mut out = Items::new(alloc);
-    let mut rest = marks;
-    while let [mark, more @ ..] = rest {
-        out.push(*mark)?;
-        rest = more;
-    }
-    Ok(out)
-}
-
 fn is_first(j: MethodId, ids: &[MethodId]) -> bool
     ensures { result ≡ is_first j ids.now }
 {
@@ -86,7 +74,7 @@ fn with_all_below(
 ) -> Result<Items<bool>, WantOfMemory>
     ensures { IfOk result (λ r. r ≡ with_all_below ids.now belows.now fresh.now marks.now) }
 {
-    let mut marks = copied(alloc, marks)?;
+    let mut marks = Items::of(Vec::from_slice(alloc, marks)?);
     let mut rest = belows;
     let mut left = fresh;
     while let [below, more @ ..] = rest {
