@@ -3,6 +3,7 @@ use Rattle.std.proofs.Common.{◌≡◌, ◌⊎◌, ◌≢◌, inl, inr, ℕ, ze
 use Rattle.std.proofs.lemmas.Bool.Decides.{nat_tests}
 use Rattle.std.proofs.lemmas.Option.{slice_get_within}
 use Rattle.std.specs.Str.{bytes_eq}
+use Rattle.jc_types.specs.declared.declarations.ClassDecl.{ClassDecl}
 use Rattle.jc_types.specs.declared.declarations.MethodDecl.{MethodDecl}
 use Rattle.jc_types.specs.declared.ids.ClassId.{ClassId}
 use Rattle.jc_types.specs.declared.ids.MethodId.{MethodId}
@@ -26,7 +27,7 @@ use Rattle.jc_clashes.proofs.Lists.{In, and_both, and_true, is_false, is_self, n
 use Rattle.jc_clashes.proofs.Plain.{self_same}
 use Rattle.jc_clashes.proofs.Reaching.{here, in_more, reached_told, reaches_named, step}
 use Rattle.jc_clashes.proofs.Told.{View, belongs_has, has_of, in_replaced, of_has, viewed, without_in}
-use Rattle.jc_header_laws.specs.Facts.{ErasuresStand, IsAmong, IsNumber, OverridesBeyond, ReplacesReached}
+use Rattle.jc_header_laws.specs.Facts.{ErasuresStand, IsAmong, IsNumber, OverridesBeyond, ReplacesReached, SignsReached}
 use Rattle.jc_header_laws.proofs.Above.{Up, above_up, no_round, of_table, up_above, up_is_above, up_up, viewed_above}
 use Rattle.jc_header_laws.proofs.Clashing.{erasures_stand, of_methods}
 
@@ -36,6 +37,11 @@ among_of : {X : Type 0} (x : X) (xs : List X) → In x xs → IsAmong x xs
 among_of x [] m = m
 among_of x (y ∷ ys) (inl e) = inl e
 among_of x (y ∷ ys) (inr m) = inr (among_of x ys m)
+
+in_of : {X : Type 0} (x : X) (xs : List X) → IsAmong x xs → In x xs
+in_of x [] m = m
+in_of x (y ∷ ys) (inl e) = inl e
+in_of x (y ∷ ys) (inr m) = inr (in_of x ys m)
 
 numbered_in : {X : Type 0} (xs : List X) (i n : ℕ) → n < length xs → (x : X) × IsNumber i (i + n) x xs
 numbered_in [] i n lt = absurd (omega arith)
@@ -287,3 +293,32 @@ module _ (T : Table) where
         let mine = and_both (is_instance T m) (is_instance T n) (and_both (is_instance T m && is_instance T n) (own_below T m n) (sym (overrides_told T m n) ∙ e)).0 in
         let theirs = and_both (is_instance T n) (is_instance T p) (and_both (is_instance T n && is_instance T p) (own_below T n p) (sym (overrides_told T n p) ∙ f)).0 in
         overrides_told T m p ∙ and_true (is_instance T m && is_instance T p) (own_below T m p) (and_true (is_instance T m) (is_instance T p) mine.0 theirs.1) it.below
+
+  pub signs_reached : (clear : HasNoClash T) (n : ℕ) (c : ClassDecl) → IsNumber 0 n c T.classes → SignsReached T (record { 0 = n })
+  signs_reached clear n c at v w member there way = by (erasures_stand T (of_methods T clear) n c at v w member there names met)
+    where
+      names : bytes_eq (method_name_of T v.id) (method_name_of T w.id) ≡ true
+      names = ap (λ x. bytes_eq x (method_name_of T w.id)) (reaches_named T v.id w.id way) ∙ own_bytes (method_name_of T w.id)
+
+      within : w.id.0 < length T.methods
+      within = (has_of T (record { 0 = n }) w (in_of w (all_methods T (record { 0 = n })) there)).within
+
+      met : erasures_meet T v.id w.id 0 T.methods ≡ true
+      met =
+          of_meeting T v.id w.id (method_name_of T v.id)
+          (record {
+            left = w.id;
+            right = w.id;
+            left_named = record { within = within; name = sym (reaches_named T v.id w.id way) };
+            right_named = record { within = within; name = sym (reaches_named T v.id w.id way) };
+            left_below = way;
+            right_below = here T w.id (length T.methods);
+            same = self_same (erased_params T w.id);
+          })
+
+      by : ((v.id.0 == w.id.0) ≡ true) ⊎ ((subsignature T v w ≡ true) ⊎ (is_settled T (record { 0 = n }) (remaining T (all_methods T (record { 0 = n }))) v w ≡ true))
+          → (v.id ≡ w.id) ⊎ ((subsignature T v w ≡ true) ⊎ (is_settled T (record { 0 = n }) (remaining T (all_methods T (record { 0 = n }))) v w ≡ true))
+      by (inl e) =
+          let is : v.id.0 ≡ w.id.0 = grind (arith, nat_tests) in
+          inl (ap (λ j. record { 0 = j }) is)
+      by (inr e) = inr e

@@ -142,6 +142,12 @@ ErasuresStand T k =
     → erasures_meet T v.id w.id 0 T.methods ≡ true
     → ((v.id.0 == w.id.0) ≡ true) ⊎ ((subsignature T v w ≡ true) ⊎ (is_settled T k (remaining T (all_methods T k)) v w ≡ true))
 
+-- a member has in the class a subsignature of what it overrides or hides, directly or indirectly, or that one stands in its place
+abbrev pub SignsReached : Table → ClassId → Type 0
+SignsReached T k =
+    (v w : MethodView) → IsAmong v (remaining T (all_methods T k)) → IsAmong w (all_methods T k) → reaches T v.id w.id ≡ true
+    → (v.id ≡ w.id) ⊎ ((subsignature T v w ≡ true) ⊎ (is_settled T k (remaining T (all_methods T k)) v w ≡ true))
+
 -- what a method overrides or hides, directly or indirectly, and its class may inherit, it overrides or hides outright
 abbrev pub ReplacesReached : Table → MethodId → MethodId → Type 0
 ReplacesReached T m p = (m ≡ p → ⊥) → reaches T m p ≡ true → is_inheritable T (owner T m) p ≡ true → replaces T m p ≡ true

@@ -13,7 +13,7 @@ ghost use Rattle.jc_header_rules.specs.Headers.{wants_body};
 ghost use Rattle.jc_header_rules.specs.Types.{has_wildcard_at};
 ghost use Rattle.jc_headers.specs.Stages.{IsUnbroken};
 ghost use Rattle.jc_clashes.specs.Stage.{HasNoClash};
-ghost use Rattle.jc_header_laws.specs.Facts.{AreOne, ErasuresDiffer, ErasuresStand, Fit, FindsBody, IsNumber, IsPair, IsWritten, OneBody, OneChosen, OneDeclaration, OneSelected, OverridesBeyond, ReplacesReached};
+ghost use Rattle.jc_header_laws.specs.Facts.{AreOne, ErasuresDiffer, ErasuresStand, Fit, FindsBody, IsNumber, IsPair, IsWritten, OneBody, OneChosen, OneDeclaration, OneSelected, OverridesBeyond, ReplacesReached, SignsReached};
 
 /// Where the stages of types and of headers have no break, each written type is well formed: its arguments have proof trees of their bounds (JLS 4.5). An implied one, such as the
 /// superclass Object, has no places and isn't asked.
@@ -74,6 +74,12 @@ pub fn selected_body_is_one()
 /// first is the second, has a subsignature of it, or is inherited and the second stands in its place (JLS 8.4.8.3).
 pub fn members_of_one_erasure_stand_for_each_other()
     ensures { (T : Table) → HasNoClash T → (n : ℕ) (c : ClassDecl) → IsNumber 0 n c T.classes → ErasuresStand T (record { 0 = n }) }
+{}
+
+/// .. so a member of a class has there a subsignature of each method of the class that it overrides or hides, directly or indirectly, or is inherited and that one
+/// stands in its place.
+pub fn members_sign_what_they_reach()
+    ensures { (T : Table) → HasNoClash T → (n : ℕ) (c : ClassDecl) → IsNumber 0 n c T.classes → SignsReached T (record { 0 = n }) }
 {}
 
 /// .. and each method that a method overrides or hides indirectly, by way of others, it overrides or hides outright, where its class may inherit that (JLS 8.4.8.1 to
