@@ -1,9 +1,11 @@
 pub mod Climbed
 pub mod Dims
 pub mod Lengths
-pub mod Noting
 pub mod Numbering
+pub mod Reached
 pub mod Remaining
 pub mod Replacing
 pub mod Short
 pub mod Standing
+pub mod Unchanged
+pub mod Walked

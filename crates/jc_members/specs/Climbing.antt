@@ -1,5 +1,5 @@
--- The classes above a class, listed once.
-use Rattle.std.specs.Prelude.{◌≡◌, ◌⊎◌, ℕ, Bool, true, List, [], ◌∷◌, Option, Some, None}
+-- Lists of classes with all above them.
+use Rattle.std.specs.Prelude.{◌≡◌, ◌⊎◌, ℕ, List, [], ◌∷◌, Option, Some, None}
 use Rattle.jc_types.specs.declared.form.Ty.{Ty}
 use Rattle.jc_types.specs.declared.ids.ClassId.{ClassId}
 use Rattle.jc_types.specs.declared.table.Table.{Table}
@@ -24,12 +24,3 @@ AllIn cs (t ∷ ts) = ClassIn cs (class_of t) × AllIn cs ts
 pub record IsClosed (T : Table) (from : ℕ) (cs : List ℕ) : Type 0 where
   pub first : IsNumberIn from cs
   pub above : (x : ℕ) → IsNumberIn x cs → AllIn cs (supers_of T (numbered x))
-
-abbrev pub ClassMarked : (ℕ → Bool) → Option ClassId → Type 0
-ClassMarked marks None = ⊥
-ClassMarked marks (Some k) = marks k.0 ≡ true
-
--- each of these types is of a class that is marked
-abbrev pub AllMarked : (ℕ → Bool) → List Ty → Type 0
-AllMarked marks [] = Unit {0}
-AllMarked marks (t ∷ ts) = ClassMarked marks (class_of t) × AllMarked marks ts

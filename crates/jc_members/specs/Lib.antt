@@ -1,5 +1,7 @@
 pub mod Below
 pub mod Climbing
+pub mod Fixed
 pub mod Listing
 pub mod Named
 pub mod Supertypes
+pub mod Walking

@@ -4,8 +4,8 @@
 
 mod adapting;
 mod belonging;
-mod climbing;
 mod erasing;
+mod fixed;
 mod kinds;
 mod named;
 mod overriding;
@@ -13,17 +13,21 @@ mod selecting;
 mod signatures;
 mod supertypes;
 mod viewing;
+mod walking;
 
 pub use adapting::{adapted, erased_in};
 pub use belonging::{as_super, candidate_ids, members, remaining_ids, views_of};
 pub use erasing::plain;
+pub use fixed::is_own_erasure;
 pub use jc_overriding::MethodView;
 pub use kinds::{
     access_of, is_abstract, is_inheritable, is_instance, is_method, is_open_to, is_static, owner,
     same_class,
 };
 pub use named::{MethodIndex, method_index};
-pub use overriding::{hides, overrides, replaces, signature_below, subsignature_of};
+pub use overriding::{
+    hides, overrides, replaces, replaces_above, signature_below, subsignature_of,
+};
 pub use selecting::{select, select_in};
 pub use signatures::{override_equivalent, same_all, subsignature};
 pub use supertypes::{Supertypes, has_view, is_above, method_in, own_supertypes, supertypes_of};

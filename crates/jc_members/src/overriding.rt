@@ -6,6 +6,7 @@ ghost use Rattle.jc_overriding.specs.Viewing.{class_view, own_type};
 ghost use Rattle.jc_members.specs.Below.{signature_below, replaces};
 ghost use Rattle.jc_members.specs.Supertypes.{IsSupertypes};
 
+use crate::fixed::{is_below, is_own_below};
 use crate::kinds::{is_inheritable, is_instance, is_method, is_static, owner};
 use crate::signatures::subsignature;
 use crate::supertypes::{Supertypes, is_above, method_in, own_supertypes};
@@ -51,8 +52,51 @@ pub fn signature_below(
     if !is_inheritable(table, k, n) {
         return Ok(false);
     }
-    let b = method_in(alloc, table, above, n)?;
-    subsignature_of(alloc, table, a, b.as_ref())
+    is_below(alloc, table, above, k, a, n)
+}
+
+// The same of method m's signature as class k has it.
+fn own_signature_below(
+    alloc: Global,
+    table: &Table,
+    above: &Supertypes,
+    k: ClassId,
+    m: MethodId,
+    n: MethodId,
+) -> Result<bool, WantOfMemory>
+    requires known { IsSupertypes table.now above.now }
+    requires own { above.now.of ≡ own_type table.now k }
+    ensures { IfOk result (λ r. r ≡ signature_below table.now k (class_view table.now k m) n) }
+{
+    if !is_above(alloc, table, above, k, owner(table, n))? {
+        return Ok(false);
+    }
+    if !is_inheritable(table, k, n) {
+        return Ok(false);
+    }
+    is_own_below(alloc, table, above, k, m, n)
+}
+
+/// Whether method m overrides or hides method n. The supertypes are those of m's class.
+#[tactic(auto, using(crate::proofs::Replacing::replacing))]
+pub fn replaces_above(
+    alloc: Global,
+    table: &Table,
+    above: &Supertypes,
+    m: MethodId,
+    n: MethodId,
+) -> Result<bool, WantOfMemory>
+    requires known { IsSupertypes table.now above.now }
+    requires own { above.now.of ≡ own_type table.now (owner table.now m) }
+    ensures { IfOk result (λ r. r ≡ replaces table.now m n) }
+{
+    if !is_method(table, m) || !is_method(table, n) {
+        return Ok(false);
+    }
+    if is_static(table, n) != is_static(table, m) {
+        return Ok(false);
+    }
+    own_signature_below(alloc, table, above, owner(table, m), m, n)
 }
 
 /// Whether method m overrides or hides method n. The supertypes are those of m's class, and `a` is m as its class has it.
@@ -80,7 +124,12 @@ pub fn replaces(
 }
 
 // Whether m's signature is a subsignature of that of n, which is declared above m's class.
-fn is_below(alloc: Global, table: &Table, m: MethodId, n: MethodId) -> Result<bool, WantOfMemory>
+fn is_own_signature_below(
+    alloc: Global,
+    table: &Table,
+    m: MethodId,
+    n: MethodId,
+) -> Result<bool, WantOfMemory>
     ensures { IfOk result (λ r. r ≡ signature_below table.now (owner table.now m) (class_view table.now (owner table.now m) m) n) }
 {
     let k = owner(table, m);
@@ -102,7 +151,7 @@ pub fn overrides(
     if !is_instance(table, m) || !is_instance(table, n) {
         return Ok(false);
     }
-    is_below(alloc, table, m, n)
+    is_own_signature_below(alloc, table, m, n)
 }
 
 /// Whether static method m hides method n.
@@ -116,5 +165,5 @@ pub fn hides(alloc: Global, table: &Table, m: MethodId, n: MethodId) -> Result<b
     if !is_static(table, m) || !is_static(table, n) {
         return Ok(false);
     }
-    is_below(alloc, table, m, n)
+    is_own_signature_below(alloc, table, m, n)
 }

@@ -1,18 +1,13 @@
 //! The supertypes of a type by their classes, found once.
-ghost use Rattle.std.specs.Prelude.{◌≡◌, ◌⊎◌, ℕ, true, cond, nat_eq, [], None, Some, IfOk, OnOk};
-ghost use Rattle.std.specs.HashMap.{get};
-ghost use Rattle.jc_judge.specs.Kinds.{class_of};
-ghost use Rattle.jc_judge.specs.Supers.{numbered};
+ghost use Rattle.std.specs.Prelude.{◌≡◌, IfOk};
 ghost use Rattle.jc_judge.specs.Views.{view};
 ghost use Rattle.jc_overriding.specs.Overriding.{is_above, is_viewed};
 ghost use Rattle.jc_overriding.specs.Viewing.{class_view, own_type, view_of_method};
-ghost use Rattle.jc_types.specs.declared.form.Ty.{Ty};
-ghost use Rattle.jc_members.specs.Climbing.{IsClosed};
-ghost use Rattle.jc_members.specs.Supertypes.{HasViews, IsSupertypes};
+ghost use Rattle.jc_members.specs.Supertypes.{IsSupertypes};
 
-use crate::climbing::{Climb, classes_above};
 use crate::kinds::same_class;
 use crate::viewing::{own_type, view_of_method, viewed};
+use crate::walking::views_above;
 use jc_overriding::MethodView;
 use jc_rules::WantOfMemory;
 use jc_sub::{class_of, view};
@@ -28,49 +23,6 @@ pub struct Supertypes {
     pub is_whole: bool,
 }
 
-fn put_view(views: &mut HashMap<u64, Ty>, class: u64, v: Ty) -> Result<(), WantOfMemory>
-    ensures { OnOk result ((l : ℕ) → get nat_eq views.new l ≡ cond (nat_eq class l) (Some v) (get nat_eq views.old l)) }
-{
-    views.insert(class, v)?;
-    Ok(())
-}
-
-// The view of a type as a class.
-fn note_view(
-    alloc: Global,
-    table: &Table,
-    class: u64,
-    t: &Ty,
-    views: &mut HashMap<u64, Ty>,
-) -> Result<(), WantOfMemory>
-    ensures kept { OnOk result ((l : ℕ) (v : Ty) → get nat_eq views.new l ≡ Some v → (get nat_eq views.old l ≡ Some v) ⊎ (view table.now (numbered l) t.now ≡ Some v)) }
-    ensures grows { OnOk result ((l : ℕ) → get nat_eq views.new l ≡ None → get nat_eq views.old l ≡ None) }
-    ensures noted { OnOk result (get nat_eq views.new class ≡ None → view table.now (numbered class) t.now ≡ None) }
-{
-    match view(alloc, table, ClassId(class), t)? {
-        None => Ok(()),
-        Some(v) => put_view(views, class, v),
-    }
-}
-
-// The views of a type as these classes.
-fn views_of(
-    alloc: Global,
-    table: &Table,
-    classes: &[u64],
-    t: &Ty,
-) -> Result<HashMap<u64, Ty>, WantOfMemory>
-    ensures { IfOk result (λ views. HasViews table.now t.now classes.now [] (λ l. get nat_eq views l)) }
-{
-    let mut views = HashMap::new(alloc);
-    let mut rest = classes;
-    while let [class, more @ ..] = rest {
-        note_view(alloc, table, *class, t, &mut views)?;
-        rest = more;
-    }
-    Ok(views)
-}
-
 fn none_yet(alloc: Global, table: &Table, of: Ty) -> Supertypes
     ensures known { IsSupertypes table.now result }
     ensures same { result.of ≡ of }
@@ -83,26 +35,6 @@ fn none_yet(alloc: Global, table: &Table, of: Ty) -> Supertypes
     }
 }
 
-fn supertypes_by(
-    alloc: Global,
-    table: &Table,
-    of: Ty,
-    from: ClassId,
-    climb: Climb,
-) -> Result<Supertypes, WantOfMemory>
-    requires class { class_of of ≡ Some from }
-    requires closed { climb.is_whole ≡ true → IsClosed table.now from.0 climb.classes }
-    ensures known { IfOk result (λ s. IsSupertypes table.now s) }
-    ensures same { IfOk result (λ s. s.of ≡ of) }
-{
-    let views = views_of(alloc, table, climb.classes.slice(), &of)?;
-    Ok(Supertypes {
-        of,
-        views,
-        is_whole: climb.is_whole,
-    })
-}
-
 /// The supertypes of a captured type.
 pub fn supertypes_of(alloc: Global, table: &Table, of: Ty) -> Result<Supertypes, WantOfMemory>
     ensures known { IfOk result (λ s. IsSupertypes table.now s) }
@@ -111,8 +43,12 @@ pub fn supertypes_of(alloc: Global, table: &Table, of: Ty) -> Result<Supertypes,
     match class_of(&of) {
         None => Ok(none_yet(alloc, table, of)),
         Some(from) => {
-            let climb = classes_above(alloc, table, from)?;
-            supertypes_by(alloc, table, of, from, climb)
+            let walk = views_above(alloc, table, from, &of)?;
+            Ok(Supertypes {
+                of,
+                views: walk.views,
+                is_whole: walk.is_whole,
+            })
         }
     }
 }

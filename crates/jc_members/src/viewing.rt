@@ -44,7 +44,8 @@ fn push_exact(alloc: Global, arg: &Arg, out: &mut Items<Ty>) -> Result<(), WantO
     }
 }
 
-fn push_exacts(alloc: Global, args: &[Arg], out: &mut Items<Ty>) -> Result<(), WantOfMemory>
+/// Adds the arguments that are no wildcards.
+pub fn push_exacts(alloc: Global, args: &[Arg], out: &mut Items<Ty>) -> Result<(), WantOfMemory>
     ensures { OnOk result (out.new ≡ out.old ++ exacts args.now) }
 {
     let mut rest = args;
