@@ -1,28 +1,32 @@
 -- Methods without type parameters whose parameters' types are their own erasures have the same parameters in each class.
-use Rattle.std.proofs.Common.{◌≡◌, ℕ, zero, suc, ◌+◌, ◌==◌, Bool, true, false, not, ◌&&◌, ◌||◌, Option, Some, None, List, [], ◌∷◌, map, length, refl, sym, ap, subst, ◌∙◌}
+use Rattle.std.proofs.Common.{◌≡◌, ℕ, zero, suc, ◌+◌, ◌==◌, Bool, true, false, not, ◌&&◌, ◌||◌, Option, Some, None, List, [], ◌∷◌, map, length, arith, refl, sym, ap, subst, ◌∙◌}
 use Rattle.std.specs.Option.{option_map}
 use Rattle.std.specs.Prelude.{is_some}
 use Rattle.std.specs.Str.{bytes_eq}
 use Rattle.jc_types.specs.declared.erased.Base.{Base}
 use Rattle.jc_types.specs.declared.erased.Base.TheVariants as base
-use Rattle.jc_types.specs.declared.form.Ty.{Ty, out-Ty}
+use Rattle.jc_types.specs.declared.erased.Erased.{Erased}
+use Rattle.jc_types.specs.declared.form.Arg.{Arg}
+use Rattle.jc_types.specs.declared.form.Primitive.{Primitive}
+use Rattle.jc_types.specs.declared.form.Ty.{Ty, Ty-F, out-Ty, map-Ty, fold_out-Ty}
 use Rattle.jc_types.specs.declared.form.Ty.TheVariants.{Prim, Class, Raw, Array, NullTy, outs-Prim, outs-Class, outs-Raw, outs-Array, outs-NullTy}
+use Rattle.jc_types.specs.declared.ids.CaptureId.{CaptureId}
 use Rattle.jc_types.specs.declared.ids.ClassId.{ClassId}
 use Rattle.jc_types.specs.declared.ids.MethodId.{MethodId}
 use Rattle.jc_types.specs.declared.ids.VarId.{VarId}
 use Rattle.jc_types.specs.declared.table.Table.{Table}
 use Rattle.jc_types.specs.Accessors.{method_name_of, method_owner_of, method_vars_of, params_of, result_of, vars_of}
 use Rattle.jc_types.specs.Arrays.{array_over, array_over_at}
-use Rattle.jc_types.specs.Erasing.{erasure}
+use Rattle.jc_types.specs.Erasing.{capped, erased_by, erased_step, erased_within, erasure, plain as unraised}
 use Rattle.jc_types.specs.Sameness.{same}
 use Rattle.jc_types.specs.Substitution.{subst as put}
-use Rattle.jc_types.proofs.Sameness.{same_told}
+use Rattle.jc_types.proofs.Sameness.{same_self, same_told}
 use Rattle.jc_types.proofs.Substituted.{subst-Prim, subst-Class, subst-Raw, subst-Array, subst-NullTy}
 use Rattle.jc_judge.specs.Views.{view}
 use Rattle.jc_overriding.specs.declared.view.MethodView.{MethodView}
 use Rattle.jc_overriding.specs.Overriding.{is_above, is_viewed, or_object, owner, same_class, subsignature_of}
 use Rattle.jc_overriding.specs.Signatures.{adapted, erased_in, has_no_variables, is_erasure, leftmost, leftmost_at, same_all, same_lists, same_name, same_signature, subsignature, variables}
-use Rattle.jc_overriding.specs.Viewing.{Seeing, With, Raised, base_type, bounds_with, class_view, is_static, own_type, plain, plain_class, seeing_of, view_of_owner, viewed_by, viewed_in, with_dims}
+use Rattle.jc_overriding.specs.Viewing.{Seeing, With, Raised, base_type, bounds_with, class_view, erased_type, is_static, own_type, plain, plain_class, seeing_of, view_of_owner, viewed_by, viewed_in, with_dims}
 use Rattle.jc_members.specs.Fixed.{are_declared_alike, are_own_erasures, has_none, is_declared_so, is_fixed, is_own_erasure}
 
 and_both : (a b : Bool) → (a && b) ≡ true → (a ≡ true) × (b ≡ true)
@@ -103,6 +107,39 @@ own_fixed T t e = subst Fixed (own_told T t e) (plain_fixed T t)
 pub own_erased : (T : Table) (b : MethodView) (t : Ty) → is_own_erasure T t ≡ true → erased_in T b t ≡ t
 own_erased T b t e = ap (plain T) ((own_fixed T t e).left b (length b.vars + 1)) ∙ own_told T t e
 
+-- ---- types that are their own erasures
+
+no_vars : (vs : List VarId) → has_none vs ≡ true → vs ≡ []
+no_vars [] e = refl
+no_vars (v ∷ vs) e = cc
+
+by_layer : (vs : VarId → Erased) (cs : CaptureId → Erased) (t : Ty) (l : Ty-F Arg Ty) → out-Ty t ≡ l → erased_by vs cs t ≡ erased_step vs cs (map-Ty Arg Ty (Unit {0}) Erased (λ _. tt) (erased_by vs cs) l)
+unfolding erased_by
+by_layer vs cs t l e = fold_out-Ty (Unit {0}) Erased (λ _. tt) (erased_step vs cs) t ∙ ap (λ l. erased_step vs cs (map-Ty Arg Ty (Unit {0}) Erased (λ _. tt) (erased_by vs cs) l)) e
+
+no_dims : (b : Base) → capped (unraised b) ≡ unraised b
+no_dims b = ap (λ (d : ℕ). let r : Erased = record { base = b; dims = d } in r) (omega arith)
+
+erasure_is : (T : Table) (t : Ty) (b : Base) → ((vs : VarId → Erased) (cs : CaptureId → Erased) → erased_by vs cs t ≡ unraised b) → erasure T [] t ≡ unraised b
+unfolding erasure erased_within
+erasure_is T t b h = ap capped (h _ _) ∙ no_dims b
+
+pub own_prim : (T : Table) (p : Primitive) → is_own_erasure T (Prim p) ≡ true
+unfolding is_own_erasure
+own_prim T p =
+    ap (λ e. same (erased_type T e) (Prim p)) (erasure_is T (Prim p) (base.Prim p) (λ vs cs. by_layer vs cs (Prim p) (Ty-F.Prim p) (outs-Prim p))) ∙ same_self (Prim p)
+
+pub own_class : (T : Table) (k : ClassId) → has_none (vars_of T k) ≡ true → is_own_erasure T (Class k []) ≡ true
+unfolding is_own_erasure
+own_class T k e =
+    ap (λ e. same (erased_type T e) (Class k [])) (erasure_is T (Class k []) (base.Class k) (λ vs cs. by_layer vs cs (Class k []) (Ty-F.Class k []) (outs-Class k [])))
+    ∙ ap (λ vs. same (plain_class T k vs) (Class k [])) (no_vars (vars_of T k) e) ∙ same_self (Class k [])
+
+pub own_class_of : (T : Table) (k : ClassId) (args : List Arg) → args ≡ [] → has_none (vars_of T k) ≡ true → is_own_erasure T (Class k args) ≡ true
+own_class_of T k args e f = subst (λ args. is_own_erasure T (Class k args) ≡ true) (sym e) (own_class T k f)
+
+pub ruleset own_laws = (own_prim, own_class, own_class_of)
+
 -- ---- types of parameters
 
 module _ (T : Table) where
@@ -125,10 +162,6 @@ module _ (T : Table) where
       ap (λ u. u ∷ map (erased_in T b) ts) (own_erased T b t both.0) ∙ ap (λ us. t ∷ us) (erased_all b ts both.1)
 
 -- ---- a fixed method as a class has it
-
-no_vars : (vs : List VarId) → has_none vs ≡ true → vs ≡ []
-no_vars [] e = refl
-no_vars (v ∷ vs) e = cc
 
 pub record IsFixed (T : Table) (m : MethodId) : Type 0 where
   pub owned : is_some (method_owner_of T m) ≡ true

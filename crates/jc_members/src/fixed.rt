@@ -1,6 +1,7 @@
 //! Methods that have the same parameters in each class: a signature is compared with theirs without a view of them.
 ghost use Rattle.std.specs.Prelude.{◌≡◌, ◌&&◌, true, Some, IfOk, is_some};
 ghost use Rattle.std.specs.Option.{option_copied};
+ghost use Rattle.jc_types.specs.declared.form.Ty.{Ty};
 ghost use Rattle.jc_types.specs.Accessors.{method_owner_of};
 ghost use Rattle.jc_overriding.specs.Overriding.{is_above, owner, subsignature_of};
 ghost use Rattle.jc_overriding.specs.Viewing.{class_view, own_type};
@@ -14,8 +15,8 @@ use crate::supertypes::{Supertypes, has_view, method_in};
 use jc_overriding::MethodView;
 use jc_rules::WantOfMemory;
 use jc_types::{
-    ClassId, MethodId, Table, Ty, VarId, method_name, method_owner, method_params, method_vars,
-    same_type,
+    Arg, ClassId, MethodId, Table, Ty, VarId, class_vars, method_name, method_owner, method_params,
+    method_vars, same_type,
 };
 use std::alloc::Global;
 
@@ -28,9 +29,48 @@ fn has_none(vars: &[VarId]) -> bool
     }
 }
 
+#[tactic(auto, using(crate::proofs::Unchanged::own_laws))]
+fn is_simple_class(table: &Table, id: ClassId, args: &[Arg]) -> bool
+    ensures { result ≡ true → is_own_erasure table.now (Ty.Class id args.now) ≡ true }
+{
+    if !has_none(class_vars(table, id)) {
+        return false;
+    }
+    match args {
+        [] => true,
+        [_, ..] => false,
+    }
+}
+
+// Whether a type is primitive, or a class that has no type parameters: then it is its own erasure.
+#[tactic(auto, using(jc_types::proofs::Opened::opened, crate::proofs::Unchanged::own_laws))]
+fn is_simple(table: &Table, t: &Ty) -> bool
+    ensures { result ≡ true → is_own_erasure table.now t.now ≡ true }
+{
+    match t {
+        Ty::Prim(_) => true,
+        Ty::Class { id, args } => is_simple_class(table, *id, args.slice()),
+        Ty::Raw { .. } => false,
+        Ty::Array { .. } => false,
+        Ty::Variable(_) => false,
+        Ty::Captured(_) => false,
+        Ty::Meet { .. } => false,
+        Ty::NullTy => false,
+    }
+}
+
 /// Whether a type is its own erasure (JLS 4.6).
-#[tactic(auto, unfolding(crate::specs::Fixed::is_own_erasure))]
 pub fn is_own_erasure(alloc: Global, table: &Table, t: &Ty) -> Result<bool, WantOfMemory>
+    ensures { IfOk result (λ r. r ≡ is_own_erasure table.now t.now) }
+{
+    if is_simple(table, t) {
+        return Ok(true);
+    }
+    has_own_erasure(alloc, table, t)
+}
+
+#[tactic(auto, unfolding(crate::specs::Fixed::is_own_erasure))]
+fn has_own_erasure(alloc: Global, table: &Table, t: &Ty) -> Result<bool, WantOfMemory>
     ensures { IfOk result (λ r. r ≡ is_own_erasure table.now t.now) }
 {
     let erased = plain(alloc, table, t)?;

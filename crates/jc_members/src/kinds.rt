@@ -87,6 +87,10 @@ pub fn is_open_to(access: Access, is_same_package: bool) -> bool
 pub fn is_inheritable(table: &Table, k: ClassId, m: MethodId) -> bool
     ensures { result ≡ is_inheritable table.now k m }
 {
-    let is_same_package = class_package(table, k) == class_package(table, owner(table, m));
-    is_open_to(access_of(table, m), is_same_package)
+    match access_of(table, m) {
+        Access::Public => true,
+        Access::Protected => true,
+        Access::Package => class_package(table, k) == class_package(table, owner(table, m)),
+        Access::Private => false,
+    }
 }
