@@ -1,23 +1,27 @@
 //! What a method breaks beside another one of its name (JLS 8.4.2, 8.4.3.3, 8.4.8, 8.8.2): 503 to 508 and 512.
-ghost use Rattle.std.specs.Prelude.{◌≡◌, ◌&&◌, true, IfOk};
+ghost use Rattle.std.specs.Prelude.{◌≡◌, ◌&&◌, true, Some, IfOk};
 ghost use Rattle.std.specs.Option.{option_copied};
 ghost use Rattle.jc_types.specs.Breaks.{least};
+ghost use Rattle.jc_types.specs.Sameness.{same};
 ghost use Rattle.jc_overriding.specs.Overriding.{owner};
 ghost use Rattle.jc_overriding.specs.Viewing.{class_view, declared_view, own_type};
+ghost use Rattle.jc_members.specs.Fixed.{is_own_erasure};
 ghost use Rattle.jc_members.specs.Supertypes.{IsSupertypes};
 ghost use Rattle.jc_header_rules.specs.Headers.{answer_of_views, differ, is_before, is_final, is_same_sort, is_weaker, openness, repeats, replaces, replacing_broken, result_broken, statics_meet, views_throw};
-ghost use Rattle.jc_method_rules.specs.Pairs.{pair_breaks};
+ghost use Rattle.jc_method_rules.specs.Pairs.{keeps_result, pair_breaks};
 
 use crate::results::result_answer;
 use crate::throwing::thrown_fits;
 use jc_header_rules::{if_broken, or_break};
 use jc_judge::Answer;
 use jc_members::{
-    MethodView, Supertypes, access_of, declared_view, is_method, is_static, method_in,
-    override_equivalent, owner, replaces, same_class, signature_below,
+    MethodView, Supertypes, access_of, declared_view, is_method, is_own_erasure, is_static,
+    method_in, override_equivalent, owner, replaces, same_class, signature_below,
 };
 use jc_rules::{Place, Refusal, Rule, WantOfMemory};
-use jc_types::{Access, MethodId, Table, method_modifiers, method_name};
+use jc_types::{
+    Access, ClassId, MethodId, Table, Ty, method_modifiers, method_name, method_result, same_type,
+};
 use std::alloc::Global;
 
 fn is_final(table: &Table, m: MethodId) -> bool
@@ -64,37 +68,111 @@ fn result_broken(found: Option<Refusal>, answer: Answer, place: Place) -> Option
     }
 }
 
+fn keeps_type(alloc: Global, table: &Table, s: &Ty, t: &Ty) -> Result<bool, WantOfMemory>
+    ensures { IfOk result (λ r. r ≡ (same s.now t.now && is_own_erasure table.now t.now)) }
+{
+    if !same_type(s, t) {
+        return Ok(false);
+    }
+    is_own_erasure(alloc, table, t)
+}
+
+fn keeps_result(
+    alloc: Global,
+    table: &Table,
+    s: Option<&Ty>,
+    t: Option<&Ty>,
+) -> Result<bool, WantOfMemory>
+    ensures { IfOk result (λ r. r ≡ keeps_result table.now (option_copied s.entry) (option_copied t.entry)) }
+{
+    match s {
+        None => Ok(t.is_none()),
+        Some(s) => match t {
+            None => Ok(false),
+            Some(t) => keeps_type(alloc, table, s, t),
+        },
+    }
+}
+
+// Whether a's result may stand for that of method n as class k has it.
+#[tactic(auto, using(crate::proofs::Kept::kept_laws))]
+fn answer_of_view(
+    alloc: Global,
+    table: &Table,
+    above: &Supertypes,
+    k: ClassId,
+    a: &MethodView,
+    n: MethodId,
+) -> Result<Answer, WantOfMemory>
+    requires known { IsSupertypes table.now above.now }
+    requires own { above.now.of ≡ own_type table.now k }
+    ensures { IfOk result (λ r. r ≡ answer_of_views table.now (Some a.now) (class_view table.now k n)) }
+{
+    if keeps_result(alloc, table, a.result.as_ref(), method_result(table, n))? {
+        return Ok(Answer::Yes);
+    }
+    match method_in(alloc, table, above, n)? {
+        None => Ok(Answer::Yes),
+        Some(b) => result_answer(alloc, table, a, &b),
+    }
+}
+
 fn answer_of_views(
     alloc: Global,
     table: &Table,
+    above: &Supertypes,
+    k: ClassId,
     a: Option<&MethodView>,
-    b: Option<&MethodView>,
+    n: MethodId,
 ) -> Result<Answer, WantOfMemory>
-    ensures { IfOk result (λ r. r ≡ answer_of_views table.now (option_copied a.entry) (option_copied b.entry)) }
+    requires known { IsSupertypes table.now above.now }
+    requires own { above.now.of ≡ own_type table.now k }
+    ensures { IfOk result (λ r. r ≡ answer_of_views table.now (option_copied a.entry) (class_view table.now k n)) }
 {
     match a {
         None => Ok(Answer::Yes),
-        Some(a) => match b {
-            None => Ok(Answer::Yes),
-            Some(b) => result_answer(alloc, table, a, b),
-        },
+        Some(a) => answer_of_view(alloc, table, above, k, a, n),
+    }
+}
+
+// Whether a throws what method n, as class k has it, doesn't.
+#[tactic(auto, using(crate::proofs::Kept::kept_laws))]
+fn view_throws(
+    alloc: Global,
+    table: &Table,
+    above: &Supertypes,
+    k: ClassId,
+    a: &MethodView,
+    n: MethodId,
+) -> Result<bool, WantOfMemory>
+    requires known { IsSupertypes table.now above.now }
+    requires own { above.now.of ≡ own_type table.now k }
+    ensures { IfOk result (λ r. r ≡ views_throw table.now (Some a.now) (class_view table.now k n)) }
+{
+    if a.thrown.is_empty() {
+        return Ok(false);
+    }
+    match method_in(alloc, table, above, n)? {
+        None => Ok(false),
+        Some(b) => Ok(!thrown_fits(alloc, table, a, &b)?),
     }
 }
 
 fn views_throw(
     alloc: Global,
     table: &Table,
+    above: &Supertypes,
+    k: ClassId,
     a: Option<&MethodView>,
-    b: Option<&MethodView>,
+    n: MethodId,
 ) -> Result<bool, WantOfMemory>
-    ensures { IfOk result (λ r. r ≡ views_throw table.now (option_copied a.entry) (option_copied b.entry)) }
+    requires known { IsSupertypes table.now above.now }
+    requires own { above.now.of ≡ own_type table.now k }
+    ensures { IfOk result (λ r. r ≡ views_throw table.now (option_copied a.entry) (class_view table.now k n)) }
 {
     match a {
         None => Ok(false),
-        Some(a) => match b {
-            None => Ok(false),
-            Some(b) => Ok(!thrown_fits(alloc, table, a, b)?),
-        },
+        Some(a) => view_throws(alloc, table, above, k, a, n),
     }
 }
 
@@ -105,21 +183,23 @@ fn replacing_broken(
     table: &Table,
     found: Option<Refusal>,
     place: Place,
+    above: &Supertypes,
     a: Option<&MethodView>,
-    b: Option<&MethodView>,
     m: MethodId,
     n: MethodId,
 ) -> Result<Option<Refusal>, WantOfMemory>
-    requires first { option_copied a ≡ class_view table.now (owner table.now m) m }
-    requires second { option_copied b ≡ class_view table.now (owner table.now m) n }
+    requires known { IsSupertypes table.now above.now }
+    requires own { above.now.of ≡ own_type table.now (owner table.now m) }
+    requires is { option_copied a ≡ class_view table.now (owner table.now m) m }
     ensures { IfOk result (λ r. r ≡ least found (replacing_broken table.now m n place true)) }
 {
     let found = if_broken(found, is_final(table, n), Rule::known(504), place);
     let weaker = is_weaker(access_of(table, m), access_of(table, n));
     let found = if_broken(found, weaker, Rule::known(506), place);
-    let answer = answer_of_views(alloc, table, a, b)?;
+    let k = owner(table, m);
+    let answer = answer_of_views(alloc, table, above, k, a, n)?;
     let found = result_broken(found, answer, place);
-    let throws = views_throw(alloc, table, a, b)?;
+    let throws = views_throw(alloc, table, above, k, a, n)?;
     Ok(if_broken(found, throws, Rule::known(508), place))
 }
 
@@ -202,8 +282,7 @@ fn if_replacing_broken(
     if !replaces(alloc, table, above, a, m, n)? {
         return Ok(found);
     }
-    let b = method_in(alloc, table, above, n)?;
-    replacing_broken(alloc, table, found, place, a, b.as_ref(), m, n)
+    replacing_broken(alloc, table, found, place, above, a, m, n)
 }
 
 /// What method m breaks beside method n: nothing, if they have other names. The supertypes are those of its class, `a` is m as its class has
