@@ -1,4 +1,5 @@
 pub mod Climbed
+pub mod Firsts
 pub mod Grouped
 pub mod Joined
 pub mod Lasting

@@ -1,6 +1,7 @@
 -- The supertypes of a class, met level by level, of each class one.
-use Rattle.std.specs.Prelude.{ℕ, zero, suc, Bool, false, not, ◌||◌, List, [], ◌∷◌, ◌++◌, Option, Some, None, if◌then◌else◌}
+use Rattle.std.specs.Prelude.{◌≡◌, ℕ, zero, suc, Bool, false, not, ◌||◌, cond, nat_eq, List, [], ◌∷◌, ◌++◌, Option, Some, None, if◌then◌else◌}
 use Rattle.jc_types.specs.declared.form.Ty.{Ty}
+use Rattle.jc_types.specs.declared.ids.ClassId.{ClassId}
 use Rattle.jc_types.specs.declared.table.Table.{Table}
 use Rattle.jc_types.specs.Sameness.{same}
 use Rattle.jc_judge.specs.Kinds.{class_of}
@@ -47,3 +48,12 @@ unfoldable pub meets_other : Table → ℕ → List Ty → List Ty → Bool
 meets_other T zero met level = false
 meets_other T (suc n) met level =
     some_other met (all_supers T level) || meets_other T n (met ++ all_new met (all_supers T level)) (all_new met (all_supers T level))
+
+-- the first of these types of each class, by the class
+abbrev pub AreFirsts : (ℕ → Option Ty) → List Ty → Type 0
+AreFirsts firsts met = (s : Ty) (k : ClassId) → class_of s ≡ Some k → firsts k.0 ≡ met_as met s
+
+-- with type s, where it is of a class
+abbrev pub first_with : (ℕ → Option Ty) → Option ClassId → Ty → ℕ → Option Ty
+first_with firsts None s l = firsts l
+first_with firsts (Some k) s l = cond (nat_eq k.0 l) (Some s) (firsts l)

@@ -6,7 +6,7 @@ ghost use Rattle.jc_overriding.specs.Viewing.{own_type};
 ghost use Rattle.jc_members.specs.Supertypes.{IsSupertypes};
 ghost use Rattle.jc_class_rules.specs.Grouping.{all_covered, are_covered, is_covered, own_ids, own_replaces};
 
-use jc_members::{Supertypes, method_in, owner, replaces, same_class};
+use jc_members::{Supertypes, owner, replaces_above, same_class};
 use jc_rules::{Items, WantOfMemory};
 use jc_types::{ClassId, MethodId, Table};
 use std::alloc::Global;
@@ -60,8 +60,7 @@ fn own_replaces(
     if !same_class(owner(table, w), k) {
         return Ok(false);
     }
-    let a = method_in(alloc, table, above, w)?;
-    replaces(alloc, table, above, a.as_ref(), w, m)
+    replaces_above(alloc, table, above, w, m)
 }
 
 fn some_replaces(

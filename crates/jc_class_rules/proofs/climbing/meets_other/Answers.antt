@@ -7,5 +7,8 @@ pub loop-left-preserved : goal.loop-left-preserved
 loop-left-preserved c =
     let T = c.args.table.now in
     let none : c.in_ok-found.found ≡ false = search rules in
-    climb_next T c.loop-left.left c.loop-left.met c.slice.result.now _ _ _ (omega arith) (sym none ∙ c.in_ok-found.ensures.other) c.in_ok-found.ensures.met c.in_ok-found.ensures.new (search rules)
-    ∙ ap (meets_other T c.loop-left.left c.loop-left.met) c.slice.ensures ∙ c.loop-left.invariant
+    record {
+      same = climb_next T c.loop-left.left c.loop-left.met c.slice.result.now _ _ _ (omega arith) (sym none ∙ c.in_ok-found.ensures.other) c.in_ok-found.ensures.met c.in_ok-found.ensures.new (search rules)
+          ∙ ap (meets_other T c.loop-left.left c.loop-left.met) c.slice.ensures ∙ c.loop-left.invariant.same;
+      firsts = c.in_ok-found.ensures.firsts;
+    }

@@ -2,7 +2,7 @@ use Rattle.std.proofs.lemmas.Bool.Decides.{nat_tests}
 use Rattle.std.proofs.Common.{◌≡◌, ◌==◌, ℕ, arith, true, rules, sym, ap, ◌∙◌}
 use Rattle.jc_types.specs.declared.ids.ClassId.{ClassId}
 use Rattle.jc_overriding.specs.Overriding.{owner, same_class}
-use Rattle.jc_overriding.specs.Viewing.{own_type, view_of_method}
+use Rattle.jc_overriding.specs.Viewing.{own_type}
 use Rattle.jc_class_rules.proofs.covering.own_replaces.Goals as goal
 
 same_id : (o k : ClassId) → same_class o k ≡ true → k ≡ o
@@ -11,16 +11,9 @@ same_id o k e = ap (λ n. record { 0 = n }) (number o.0 k.0 e)
     number : (a b : ℕ) → (a == b) ≡ true → b ≡ a
     number a b e = grind (arith, nat_tests)
 
-pub replaces-requires-clause-own : goal.replaces-requires-clause-own
-replaces-requires-clause-own c =
+pub replaces_above-requires-clause-own : goal.replaces_above-requires-clause-own
+replaces_above-requires-clause-own c =
     let T = c.args.table.now in
     let held : c.same_class.result ≡ true = search rules in
     let equal : same_class (owner T c.args.w) c.args.k ≡ true = ap (λ o. same_class o c.args.k) (sym c.owner.ensures) ∙ sym c.same_class.ensures ∙ held in
     c.requires.own ∙ ap (own_type T) (same_id (owner T c.args.w) c.args.k equal)
-
-pub replaces-requires-clause-is : goal.replaces-requires-clause-is
-replaces-requires-clause-is c =
-    let T = c.args.table.now in
-    let held : c.same_class.result ≡ true = search rules in
-    let equal : same_class (owner T c.args.w) c.args.k ≡ true = ap (λ o. same_class o c.args.k) (sym c.owner.ensures) ∙ sym c.same_class.ensures ∙ held in
-    c.as_ref.ensures.value ∙ c.in_ok-a.ensures ∙ ap (λ t. view_of_method T t c.args.w) (c.requires.own ∙ ap (own_type T) (same_id (owner T c.args.w) c.args.k equal))
