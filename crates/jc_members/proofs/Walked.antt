@@ -1,5 +1,5 @@
 -- A walk upwards that comes to each class by the first way, and what it leaves out.
-use Rattle.std.proofs.Common.{◌≡◌, ◌≢◌, ℕ, zero, suc, ◌+◌, ◌<◌, Bool, true, false, cond, Option, Some, None, List, [], ◌∷◌, ◌++◌, length, slice_get, arith, refl, sym, ap, subst, ◌∙◌}
+use Rattle.std.proofs.Common.{◌≡◌, ◌≢◌, ℕ, suc, ◌+◌, ◌<◌, Bool, true, false, cond, Option, Some, None, List, [], ◌∷◌, ◌++◌, length, slice_get, arith, refl, sym, ap, subst, ◌∙◌}
 use Rattle.std.specs.Prelude.{nat_eq}
 use Rattle.std.proofs.lemmas.Bool.Decides.{nat_tests}
 use Rattle.jc_types.specs.declared.form.Ty.{Ty}
@@ -8,8 +8,8 @@ use Rattle.jc_types.specs.declared.table.Table.{Table}
 use Rattle.jc_types.specs.Accessors.{supers_of, class_count}
 use Rattle.jc_judge.specs.Kinds.{class_of}
 use Rattle.jc_judge.specs.Supers.{numbered}
-use Rattle.jc_judge.specs.Views.{supers, view, view_within}
-use Rattle.jc_sub.specs.Reaching.{IsDead, IsUp, and_then}
+use Rattle.jc_judge.specs.Views.{supers, view}
+use Rattle.jc_sub.specs.Reaching.{IsUp, and_then}
 use Rattle.jc_members.specs.declared.walking.Turn.{Turn}
 use Rattle.jc_members.specs.Walking.{IsWay}
 use Rattle.jc_members.proofs.Reached.{Walking, arrives, begins, ends, follow, goes_back, goes_past, goes_up, led, led_view}
