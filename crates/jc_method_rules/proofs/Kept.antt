@@ -1,5 +1,5 @@
 -- Results that are the same in each class, and methods that throw nothing.
-use Rattle.std.proofs.Common.{◌≡◌, ℕ, Bool, true, false, not, ◌&&◌, ◌||◌, Option, Some, None, List, [], if◌then◌else◌, refl, ap, ◌∙◌}
+use Rattle.std.proofs.Common.{◌≡◌, Bool, true, false, not, ◌&&◌, ◌||◌, Option, Some, None, [], if◌then◌else◌, refl, ap, ◌∙◌}
 use Rattle.std.specs.List.{list_all, list_any}
 use Rattle.jc_types.specs.declared.form.Ty.{Ty}
 use Rattle.jc_types.specs.declared.ids.ClassId.{ClassId}
@@ -11,10 +11,10 @@ use Rattle.jc_judge.specs.declared.question.Answer.TheVariants.{Yes}
 use Rattle.jc_judge.specs.Deciding.{answer_of}
 use Rattle.jc_judge.specs.Kinds.{is_primitive}
 use Rattle.jc_overriding.specs.declared.view.MethodView.{MethodView}
-use Rattle.jc_overriding.specs.Signatures.{adapted, erased_in}
+use Rattle.jc_overriding.specs.Signatures.{adapted}
 use Rattle.jc_overriding.specs.Viewing.{class_view}
 use Rattle.jc_header_rules.specs.Headers.{answer_of_views, views_throw}
-use Rattle.jc_header_rules.specs.Results.{answer_by, converts_unchecked, is_unchecked, is_within, reference_answer, result_answer, thrown_class, type_answer, yes_if}
+use Rattle.jc_header_rules.specs.Results.{answer_by, converts_unchecked, is_unchecked, is_within, reference_answer, thrown_class, type_answer, yes_if}
 use Rattle.jc_members.specs.Fixed.{is_own_erasure}
 use Rattle.jc_members.proofs.Unchanged.{keeps_at, own_erased, result_kept}
 use Rattle.jc_method_rules.specs.Pairs.{keeps_result}
