@@ -3,6 +3,9 @@ import os
 
 LITERALS = 20_000
 IN_METHOD = 1_000
+LINKS = 2_000
+ANEW = 700
+OVERLOADS = 300
 
 
 def many_literals():
@@ -22,8 +25,39 @@ def many_literals():
     return "\n".join(lines)
 
 
+def deep_chain():
+    """A chain of many superclasses, with a million calls of a method that the topmost one declares and of one that is declared anew on the way."""
+    lines = ["class DeepChain {", "    public static void main(String[] args) {", "        Link0 last = new Link%d();" % (LINKS - 1),
+             "        Link0 middle = new Link%d();" % (LINKS // 2), "        int sum = 0;", "        for (int turn = 0; turn < 1000000; turn++) {",
+             "            sum = sum * 31 + last.top(turn) + middle.top(turn);", "            sum += last.changed() + middle.changed();", "        }",
+             "        Out.line(sum);", "        Out.line(last.changed());", "        Out.line(middle.changed());", "    }", "}", "",
+             "class Link0 {", "    int top(int number) {", "        return number + 1;", "    }", "", "    int changed() {", "        return 0;", "    }", "}"]
+    for link in range(1, LINKS):
+        lines += ["", "class Link%d extends Link%d {" % (link, link - 1)]
+        if link % ANEW == 0:
+            lines += ["    int changed() {", "        return %d;" % link, "    }"]
+        lines += ["}"]
+    return "\n".join(lines + [""])
+
+
+def many_overloads():
+    """A class of many methods of one name, and one below it that has each third of them anew."""
+    kinds = ["Kind%d" % kind for kind in range(OVERLOADS)]
+    lines = ["class ManyOverloads {"]
+    lines += ["    int of(%s kind) {\n        return %d;\n    }\n" % (kind, at) for at, kind in enumerate(kinds)]
+    lines += ["    public static void main(String[] args) {", "        ManyOverloads[] both = {new ManyOverloads(), new FewOverloads()};", "        for (int turn = 0; turn < 200; turn++) {",
+              "            int sum = turn;", "            for (int at = 0; at < 2; at++) {", "                ManyOverloads one = both[at];"]
+    lines += ["                sum = sum * 31 + one.of(new %s());" % kind for kind in kinds]
+    lines += ["            }", "            Out.line(sum);", "        }", "    }", "}", "", "class FewOverloads extends ManyOverloads {"]
+    lines += ["    int of(%s kind) {\n        return %d;\n    }\n" % (kind, 1000 + at) for at, kind in enumerate(kinds) if at % 3 == 0]
+    lines += ["}"]
+    lines += ["\nclass %s {\n}" % kind for kind in kinds]
+    return "\n".join(lines + [""])
+
+
 def write_all(folder):
     """Writes the programs into a new folder."""
     os.makedirs(folder)
-    with open(os.path.join(folder, "ManyLiterals.java"), "w", encoding="utf-8") as file:
-        file.write(many_literals())
+    for name, text in (("ManyLiterals", many_literals()), ("DeepChain", deep_chain()), ("ManyOverloads", many_overloads())):
+        with open(os.path.join(folder, name + ".java"), "w", encoding="utf-8") as file:
+            file.write(text)

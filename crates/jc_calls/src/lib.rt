@@ -12,5 +12,5 @@ pub use arguments::{frame_on, has_arguments};
 pub use frames::{code_of, frame_for, method_of};
 pub use handlers::handler_for;
 pub use members::{find_special_method, find_static_method};
-pub use methods::{find_initialiser, find_method, is_static, methods_in, select_method};
+pub use methods::{find_initialiser, find_method, is_static, methods_in};
 pub use returns::give_back;

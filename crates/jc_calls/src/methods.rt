@@ -1,9 +1,9 @@
-//! Methods by name and descriptor, and the selection by an object's class (JVMS 6.5 invokevirtual).
-ghost use Rattle.std.specs.Prelude.{◌≡◌, ◌&&◌, position};
-ghost use Rattle.jc_jvm.specs.Classes.{is_method, is_selectable, is_static_method, methods_of, method_of as method_by_name, selected, initialiser_of};
+//! Methods by name and descriptor (JVMS 5.4.3.3).
+ghost use Rattle.std.specs.Prelude.{◌≡◌, position};
+ghost use Rattle.jc_jvm.specs.Classes.{is_method, is_static_method, methods_of, method_of as method_by_name, initialiser_of};
 
 use jc_class_out::{ClassModel, MethodModel};
-use jc_heap::{Classes, NamedClasses, has_flag, spells, superclass};
+use jc_heap::{NamedClasses, has_flag, spells, superclass};
 
 fn is_named(name: &[u16], descriptor: &[u16], method: &MethodModel) -> bool
     ensures { result ≡ is_method name.now descriptor.now method.now }
@@ -16,12 +16,6 @@ pub fn is_static(method: &MethodModel) -> bool
     ensures { result ≡ is_static_method method.now }
 {
     has_flag(8, method.flags)
-}
-
-fn may_be_selected(method: &MethodModel) -> bool
-    ensures { result ≡ is_selectable method.now }
-{
-    !has_flag(2, method.flags) && !is_static(method)
 }
 
 /// The methods of a class.
@@ -40,12 +34,6 @@ fn place_named(methods: &[MethodModel], name: &[u16], descriptor: &[u16]) -> Opt
     methods
         .iter()
         .position(|method| is_named(name, descriptor, method))
-}
-
-fn place_selected(methods: &[MethodModel], name: &[u16], descriptor: &[u16]) -> Option<usize>
-    ensures { result ≡ position (λ m. is_method name.now descriptor.now m && is_selectable m) methods.now }
-{
-    methods.iter().position(|method| is_named(name, descriptor, method) && may_be_selected(method))
 }
 
 /// The method of that name and descriptor in a class or else in its superclasses, by the numbers of the class and of the method.
@@ -67,29 +55,6 @@ pub fn find_method(
             ) {
                 Some(place) => return Some((number, place as u64)),
                 None => here = superclass(classes, number),
-            },
-            None => return None,
-        }
-    }
-    None
-}
-
-/// The method that a call selects for an object of a class, from that class upward: neither a private nor a static one.
-pub fn select_method(
-    classes: &Classes,
-    class: u64,
-    name: &[u16],
-    descriptor: &[u16],
-) -> Option<(u64, u64)>
-    ensures { result ≡ selected classes.now name.now descriptor.now class }
-{
-    let models = classes.models();
-    let mut here = Some(class);
-    for done in 0..models.len() {
-        match here {
-            Some(number) => match place_selected(methods_in(models, number), name, descriptor) {
-                Some(place) => return Some((number, place as u64)),
-                None => here = classes.superclass(number),
             },
             None => return None,
         }

@@ -23,7 +23,7 @@ unfolding line_on
 line_on-zero classes None = refl
 line_on-zero classes (Some k) = refl
 
-line_on-suc : (classes : List ClassModel) (n k : ℕ) → line_on classes (suc n) (Some k) ≡ k ∷ line_on classes n (super_of classes k)
+pub line_on-suc : (classes : List ClassModel) (n k : ℕ) → line_on classes (suc n) (Some k) ≡ k ∷ line_on classes n (super_of classes k)
 unfolding line_on
 line_on-suc classes n k = refl
 

@@ -5,3 +5,4 @@ pub mod StringPlaces
 pub mod Walks
 pub mod Closed
 pub mod Numbering
+pub mod Signing

@@ -62,7 +62,7 @@ position_from-push p i (y ∷ ys) x = by (p y) (position_from-push p (i + 1) ys 
     by true more = refl
     by false more = more ∙ ap (λ (n : ℕ). or_else (position_from p (i + 1) ys) (cond (p x) (Some n) None)) (let e : i + 1 + length ys ≡ i + length (y ∷ ys) = omega arith in e)
 
-position-push : {A : Type 0} (p : A → Bool) (xs : List A) (x : A) → position p (xs ++ x ∷ []) ≡ or_else (position p xs) (cond (p x) (Some (length xs)) None)
+pub position-push : {A : Type 0} (p : A → Bool) (xs : List A) (x : A) → position p (xs ++ x ∷ []) ≡ or_else (position p xs) (cond (p x) (Some (length xs)) None)
 position-push p xs x =
     position_from-zero p (xs ++ x ∷ [])
     ∙ position_from-push p 0 xs x

@@ -3,3 +3,5 @@ pub mod Strings
 pub mod Supers
 pub mod Above
 pub mod Named
+pub mod Signatures
+pub mod Special

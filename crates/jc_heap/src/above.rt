@@ -70,7 +70,7 @@ fn above_of(
     let mut found = Vec::new(alloc);
     add(marks, &mut found, class)?;
     let mut at: usize = 0;
-    'search: while at < found.len() {
+    'upward: while at < found.len() {
         let next = found.as_slice()[at];
         add_all(marks, &mut found, row_at(supers, next))?;
         at += 1;

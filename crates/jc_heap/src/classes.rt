@@ -1,18 +1,23 @@
 //! Classes with their supertypes and fields, looked up once.
 ghost use Rattle.std.specs.Prelude.{◌≡◌, IfOk, codes};
 ghost use Rattle.jc_jvm.specs.Classes.{class_named as class_by_name, is_class_below as class_below, super_of};
+ghost use Rattle.jc_jvm.specs.Thrown.{fault_class as class_of_fault};
 ghost use Rattle.jc_jvm.specs.Types.{is_base_below as base_below, is_object as object_of, is_shape_below as shape_below, deeper, new_fields as fields_of_new};
+ghost use Rattle.jc_heap.specs.Signatures.{all_numbers, selected_as};
 ghost use Rattle.jc_heap.specs.Strings.{string_place};
+ghost use Rattle.jc_heap.specs.Supers.{all_parents};
 
 use crate::StringPlace;
 use crate::above::above_all;
 use crate::layouts::{find_string, zeros_of_all};
 use crate::named::NamedClasses;
-use crate::names::class_spelled;
+use crate::selection::numbers_of_all;
+use crate::special::{SpecialClasses, find_special};
 use crate::supers::{parents_of_all, supers_of_all};
 use jc_class_out::ClassModel;
-use jc_jvm::{Base, Shape, Value};
+use jc_jvm::{Base, Fault, Shape, Value};
 use jc_rules::{Items, WantOfMemory};
+use jc_selecting::Selecting;
 use std::alloc::Global;
 use std::marker::Model;
 
@@ -23,16 +28,18 @@ pub struct Classes {
     parents: Items<Option<u64>>,
     above: Items<Items<u64>>,
     zeros: Items<Items<Value>>,
-    object: Option<u64>,
     string: Option<StringPlace>,
+    special: SpecialClasses,
+    selecting: Selecting,
 }
 
 impl Model for Classes {
-    ghost use Rattle.std.specs.Prelude.{◌≡◌, List, codes};
+    ghost use Rattle.std.specs.Prelude.{◌≡◌, List};
     ghost use Rattle.jc_class_out.specs.declared.model.ClassModel.{ClassModel};
-    ghost use Rattle.jc_jvm.specs.Classes.{class_named};
     ghost use Rattle.jc_heap.specs.Above.{AllAbove};
     ghost use Rattle.jc_heap.specs.Layouts.{all_fields};
+    ghost use Rattle.jc_heap.specs.Signatures.{all_numbers};
+    ghost use Rattle.jc_heap.specs.Special.{AreSpecial};
     ghost use Rattle.jc_heap.specs.Strings.{string_place};
     ghost use Rattle.jc_heap.specs.Supers.{all_parents, all_supers};
 
@@ -40,7 +47,7 @@ impl Model for Classes {
 
     ghost view = { λ c. c.named };
 
-    ghost invariant = { λ c. (c.parents ≡ all_parents c.named) × AllAbove (all_supers c.named) c.above × (c.zeros ≡ all_fields c.named) × (c.object ≡ class_named c.named (codes "java/lang/Object")) × (c.string ≡ string_place c.named) };
+    ghost invariant = { λ c. (c.parents ≡ all_parents c.named) × AllAbove (all_supers c.named) c.above × (c.zeros ≡ all_fields c.named) × (c.string ≡ string_place c.named) × AreSpecial c.named c.special × (c.selecting ≡ (all_parents c.named, all_numbers c.named)) };
 }
 
 impl Classes {
@@ -54,15 +61,17 @@ impl Classes {
         let supers = supers_of_all(alloc, &named)?;
         let above = above_all(alloc, supers.slice())?;
         let zeros = zeros_of_all(alloc, &named)?;
-        let object = object_in(named.models());
+        let special = find_special(named.models());
         let string = find_string(alloc, &named)?;
+        let selecting = selecting_of(alloc, &named)?;
         Ok(Classes {
             named,
             parents,
             above,
             zeros,
-            object,
             string,
+            special,
+            selecting,
         })
     }
 
@@ -119,10 +128,58 @@ impl Classes {
         self.string
     }
 
+    /// The class Object.
+    pub fn object(&self) -> Option<u64>
+        ensures { result ≡ class_by_name self.now (codes "java/lang/Object") }
+    {
+        self.special.object
+    }
+
+    /// The class of an exception that the machine makes.
+    pub fn fault_class(&self, fault: Fault) -> Option<u64>
+        ensures { result ≡ class_of_fault self.now fault }
+    {
+        match fault {
+            Fault::Arithmetic => self.special.arithmetic,
+            Fault::ArrayIndexOutOfBounds => self.special.array_index,
+            Fault::ArrayStore => self.special.array_store,
+            Fault::ClassCast => self.special.class_cast,
+            Fault::ExceptionInInitializer => self.special.in_initializer,
+            Fault::NegativeArraySize => self.special.negative_size,
+            Fault::NoClassDefFound => self.special.no_class_def,
+            Fault::NullPointer => self.special.null_pointer,
+        }
+    }
+
+    /// The class Error.
+    pub fn error(&self) -> Option<u64>
+        ensures { result ≡ class_by_name self.now (codes "java/lang/Error") }
+    {
+        self.special.error
+    }
+
+    /// The class Throwable.
+    pub fn throwable(&self) -> Option<u64>
+        ensures { result ≡ class_by_name self.now (codes "java/lang/Throwable") }
+    {
+        self.special.throwable
+    }
+
+    /// The method that an object of a class selects by the number of a name and a descriptor.
+    #[tactic(auto, using(crate::proofs::Signing::select_rules))]
+    pub fn select(&self, class: u64, signature: Option<u64>) -> Option<(u64, u64)>
+        ensures { result ≡ selected_as self.now signature class }
+    {
+        match signature {
+            Some(number) => self.selecting.select(class, number),
+            None => None,
+        }
+    }
+
     fn is_object(&self, base: Base) -> bool
         ensures { result ≡ object_of self.now base }
     {
-        match (base, self.object) {
+        match (base, self.special.object) {
             (Base::Class(class), Some(object)) => class == object,
             _ => false,
         }
@@ -166,11 +223,10 @@ impl Classes {
     }
 }
 
-fn object_in(models: &[ClassModel]) -> Option<u64>
-    ensures { result ≡ class_by_name models.now (codes "java/lang/Object") }
+fn selecting_of(alloc: Global, classes: &NamedClasses) -> Result<Selecting, WantOfMemory>
+    ensures { IfOk result (λ s. s ≡ (all_parents classes.now, all_numbers classes.now)) }
 {
-    match class_spelled(models, "java/lang/Object") {
-        Some(class) => Some(class as u64),
-        None => None,
-    }
+    let parents = parents_of_all(alloc, classes)?;
+    let own = numbers_of_all(alloc, classes)?;
+    Selecting::of(alloc, parents, own)
 }

@@ -1,48 +1,38 @@
 //! Classes by their names.
-ghost use Rattle.std.specs.Prelude.{◌≡◌, IfOk, OnOk, length, slice_get};
+ghost use Rattle.std.specs.Prelude.{◌≡◌, ℕ, List, IfOk, length, slice_get};
 ghost use Rattle.std.specs.Option.{option_copied};
 ghost use Rattle.jc_jvm.specs.Classes.{class_named as class_by_name};
-ghost use Rattle.jc_heap.specs.Named.{AreNumbers, NamesMore};
+ghost use Rattle.jc_heap.specs.Named.{AreNumbers};
+ghost use Rattle.jc_heap.specs.Signatures.{joined, signature_of};
 
+use crate::numbers::add_name;
+use crate::signatures::signatures_of;
 use jc_class_out::ClassModel;
 use jc_jvm::Texts;
 use jc_rules::{Items, WantOfMemory};
 use std::alloc::Global;
 use std::marker::Model;
 
-/// Classes that are found by their names without walking over them. Contracts see the list of the classes.
+/// Classes that are found by their names without walking over them, as are the numbers of names and descriptors of methods. Contracts see
+/// the list of the classes.
 #[derive(Drop)]
 pub struct NamedClasses {
     models: Items<ClassModel>,
     numbers: Texts,
+    signatures: Texts,
 }
 
 impl Model for NamedClasses {
     ghost use Rattle.std.specs.Prelude.{List};
     ghost use Rattle.jc_class_out.specs.declared.model.ClassModel.{ClassModel};
     ghost use Rattle.jc_heap.specs.Named.{AreNumbers};
+    ghost use Rattle.jc_heap.specs.Signatures.{AreSignatures, all_methods};
 
     ghost Value = { List ClassModel };
 
     ghost view = { λ c. c.models };
 
-    ghost invariant = { λ c. AreNumbers c.models c.numbers };
-}
-
-// Adds the number of a class with this name, unless the name has a number.
-#[tactic(auto, using(crate::proofs::Numbering::name_rules))]
-fn add_name(
-    alloc: Global,
-    numbers: &mut Texts,
-    name: &[u16],
-    number: u64,
-) -> Result<(), WantOfMemory>
-    ensures { OnOk result (NamesMore numbers.old numbers.new name.now number) }
-{
-    match numbers.find(name) {
-        Some(_) => Ok(()),
-        None => numbers.add(name.to_vec(alloc)?, number),
-    }
+    ghost invariant = { λ c. AreNumbers c.models c.numbers × AreSignatures (all_methods c.models) c.signatures };
 }
 
 #[tactic(auto, using(crate::proofs::Numbering::first_numbers))]
@@ -61,7 +51,12 @@ impl NamedClasses {
         ensures { IfOk result (λ c. c ≡ models) }
     {
         let numbers = numbers_of(alloc, models.slice())?;
-        Ok(NamedClasses { models, numbers })
+        let signatures = signatures_of(alloc, models.slice())?;
+        Ok(NamedClasses {
+            models,
+            numbers,
+            signatures,
+        })
     }
 
     pub fn models(&self) -> &[ClassModel]
@@ -80,6 +75,13 @@ impl NamedClasses {
         ensures { option_copied result ≡ slice_get self.now class }
     {
         self.models.get(class)
+    }
+
+    /// The number that stands for a name and a descriptor, by the text of both.
+    pub fn number_for(&self, text: &[u16]) -> Option<u64>
+        ensures { (name descriptor : List ℕ) → text.now ≡ joined name descriptor → result ≡ signature_of self.now name descriptor }
+    {
+        self.signatures.find(text)
     }
 }
 

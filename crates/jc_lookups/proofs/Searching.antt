@@ -8,7 +8,7 @@ use Rattle.jc_class_out.specs.declared.model.ClassModel.{ClassModel}
 use Rattle.jc_jvm.specs.Classes.{class_named, field_on, fields_of, first_some, interfaces_of, is_field, listed, or_else, super_of}
 use Rattle.jc_lookups.proofs.FieldLines.{field_none, name_more, no_own_field, or_else-assoc, or_else-none, own_field}
 use Rattle.jc_lookups.specs.Interfaces.{among_names, interface_names}
-use Rattle.jc_lookups.specs.Searched.{AllSay, AreWithout, Says, Stands, Turn, found_above, has_turned, task_finds, tasks_find}
+use Rattle.jc_lookups.specs.Searched.{AllSay, AreWithout, Says, Stands, Turn, found_above, visited_next, task_finds, tasks_find}
 use Rattle.jc_lookups.specs.declared.seeking.Task.{Task}
 use Rattle.jc_lookups.specs.declared.seeking.Task.TheVariants.{Visit, Climb, Leave}
 
@@ -104,7 +104,7 @@ visit_above classes name descriptor known steps class ts left some none same = �
 
 -- from a superinterface on
 pub climb_named : (classes : List ClassModel) (name descriptor known : List ℕ) (steps class at : ℕ) (d : List ℕ) (number : Option ℕ) (ts left : List Task) → at < length (interface_names classes class) →
-    class_named classes (get_or (interface_names classes class) at d) ≡ number → left ≡ has_turned (steps - 1) number (Climb steps class (at + 1) ∷ ts) →
+    class_named classes (get_or (interface_names classes class) at d) ≡ number → left ≡ visited_next (steps - 1) number (Climb steps class (at + 1) ∷ ts) →
     Turn classes name descriptor known (Climb steps class at ∷ ts) known left None
 climb_named classes name descriptor known steps class at d number ts left inside named same = λ answer stands.
     subst (λ (l : List Task). Stands classes name descriptor known l answer) (sym same) (by number named answer stands)
@@ -127,7 +127,7 @@ climb_named classes name descriptor known steps class at d number ts left inside
         ∙ or_else-assoc (option_and_then f o) more over
 
     by : (o : Option ℕ) → class_named classes (get_or (interface_names classes class) at d) ≡ o → (answer : Option (ℕ × ℕ)) → Stands classes name descriptor known (Climb steps class at ∷ ts) answer →
-        Stands classes name descriptor known (has_turned (steps - 1) o (Climb steps class (at + 1) ∷ ts)) answer
+        Stands classes name descriptor known (visited_next (steps - 1) o (Climb steps class (at + 1) ∷ ts)) answer
     by (Some j) is answer stands =
         split classes name descriptor known (Climb steps class at) (Visit (steps - 1) j) (Climb steps class (at + 1)) ts answer (one (Some j) is) tt
         (λ none. stands.say.0 refl ∙ one (Some j) is ∙ ap (λ (o : Option (ℕ × ℕ)). or_else o (found_above classes name descriptor steps class (at + 1))) none) stands
@@ -136,7 +136,7 @@ climb_named classes name descriptor known steps class at d number ts left inside
 
 -- behind the last one
 pub climb_over : (classes : List ClassModel) (name descriptor known : List ℕ) (steps class at : ℕ) (number : Option ℕ) (ts left : List Task) → length (interface_names classes class) ≤ at →
-    super_of classes class ≡ number → left ≡ has_turned (steps - 1) number (Leave steps class ∷ ts) → Turn classes name descriptor known (Climb steps class at ∷ ts) known left None
+    super_of classes class ≡ number → left ≡ visited_next (steps - 1) number (Leave steps class ∷ ts) → Turn classes name descriptor known (Climb steps class at ∷ ts) known left None
 climb_over classes name descriptor known steps class at number ts left past is same = λ answer stands.
     subst (λ (l : List Task). Stands classes name descriptor known l answer) (sym same) (by number is answer stands)
   where
@@ -149,7 +149,7 @@ climb_over classes name descriptor known steps class at number ts left past is s
         ∙ ap (λ (x : Option ℕ). option_and_then f x) e
 
     by : (o : Option ℕ) → super_of classes class ≡ o → (answer : Option (ℕ × ℕ)) → Stands classes name descriptor known (Climb steps class at ∷ ts) answer →
-        Stands classes name descriptor known (has_turned (steps - 1) o (Leave steps class ∷ ts)) answer
+        Stands classes name descriptor known (visited_next (steps - 1) o (Leave steps class ∷ ts)) answer
     by (Some j) e answer stands =
         split classes name descriptor known (Climb steps class at) (Visit (steps - 1) j) (Leave steps class) ts answer (over (Some j) e ∙ sym (or_else-none (f j))) tt
         (λ none. stands.say.0 refl ∙ over (Some j) e ∙ none) stands

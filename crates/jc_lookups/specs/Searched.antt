@@ -9,9 +9,9 @@ use Rattle.jc_lookups.specs.declared.seeking.Task.{Task}
 use Rattle.jc_lookups.specs.declared.seeking.Task.TheVariants.{Visit, Climb, Leave}
 
 -- a class is visited next, if there is one
-abbrev pub has_turned : ℕ → Option ℕ → List Task → List Task
-has_turned steps (Some class) tasks = Visit steps class ∷ tasks
-has_turned steps None tasks = tasks
+abbrev pub visited_next : ℕ → Option ℕ → List Task → List Task
+visited_next steps (Some class) tasks = Visit steps class ∷ tasks
+visited_next steps None tasks = tasks
 
 -- what is found above a class, from this superinterface on
 abbrev pub found_above : List ClassModel → List ℕ → List ℕ → ℕ → ℕ → ℕ → Option (ℕ × ℕ)

@@ -1,7 +1,7 @@
 //! The search for a field along superinterfaces and superclasses (JVMS 5.4.3.2), which comes to no class again over as few steps.
 ghost use Rattle.std.specs.Prelude.{◌≡◌, ◌∷◌, ◌-◌, ℕ, List, IfOk, None, OnOk, length, replicate, reverse, slice_index, slice_set};
 ghost use Rattle.jc_jvm.specs.Classes.{field_on};
-ghost use Rattle.jc_lookups.specs.Searched.{Turn, has_turned};
+ghost use Rattle.jc_lookups.specs.Searched.{Turn, visited_next};
 
 use crate::fields::{interfaces_in, place_in};
 use jc_heap::{NamedClasses, class_named, fields_in, superclass};
@@ -58,7 +58,7 @@ fn visit(
 
 // The class is visited next, if there is one.
 fn visit_next(tasks: &mut Items<Task>, steps: usize, class: Option<u64>) -> Result<(), WantOfMemory>
-    ensures { OnOk result (reverse tasks.new ≡ has_turned (steps - 1) class (reverse tasks.old)) }
+    ensures { OnOk result (reverse tasks.new ≡ visited_next (steps - 1) class (reverse tasks.old)) }
 {
     match class {
         Some(class) => tasks.push(Task::Visit {

@@ -1,5 +1,5 @@
 -- The rows, with what their names mean, do what the instruction table says of their instructions.
-use Rattle.std.proofs.Common.{◌≡◌, ℕ, Bool, true, false, List, refl}
+use Rattle.std.proofs.Common.{◌≡◌, ℕ, Bool, true, false, List, [], ◌∷◌, ap, option_and_then, refl, slice_get}
 use Rattle.std.specs.Prelude.{ℤ, if◌then◌else◌}
 use Rattle.std.specs.Option.{option_map}
 use Rattle.std.specs.declared.option.Option.{Option}
@@ -14,20 +14,24 @@ use Rattle.jc_class_out.specs.declared.model.Operand.{Operand}
 use Rattle.jc_class_out.specs.declared.model.Operand.TheVariants as op
 use Rattle.jc_opcodes.specs.Opcodes.{opcode_of}
 use Rattle.jc_opcodes.specs.declared.opcode.Opcode.{Opcode}
-use Rattle.jc_jvm.specs.Calls.{Step, stuck, acts, sorts_of_call}
-use Rattle.jc_jvm.specs.Classes.{class_named, class_has_flag, method_at}
+use Rattle.jc_jvm.specs.Calls.{Step, stuck, acts, arguments_of, called, called_virtually, selecting_class, sorts_of_call}
+use Rattle.jc_jvm.specs.Classes.{class_named, class_has_flag, method_at, selected}
 use Rattle.jc_jvm.specs.Objects.{object_made}
 use Rattle.jc_jvm.specs.Table.{group_of, first_initialised, type_of_code, plain_of, static_field, instance_slot, static_method, static_loads, static_stores, field_loads, field_stores, static_calls, news, new_arrays, new_nests, returns, row as table_row, grouped_row, coded_row, placed_row}
 use Rattle.jc_jvm.specs.Types.{shape_named, sort_of_descriptor, based}
 use Rattle.jc_jvm.specs.declared.frame.Frame.{Frame}
 use Rattle.jc_jvm.specs.declared.frame.Waiting.{Waiting}
 use Rattle.jc_jvm.specs.declared.groups.Group.{Group}
-use Rattle.jc_jvm.specs.declared.groups.Group.TheVariants.{Literals, Switches, Returns, StaticLoads, StaticStores, FieldLoads, FieldStores, StaticCalls, News, NewArrays, NewReferenceArrays, NewNests}
+use Rattle.jc_jvm.specs.declared.groups.Group.TheVariants.{Literals, Switches, Returns, StaticLoads, StaticStores, FieldLoads, FieldStores, StaticCalls, VirtualCalls, News, NewArrays, NewReferenceArrays, NewNests}
 use Rattle.jc_jvm.specs.declared.groups.Plain.{Plain}
 use Rattle.jc_jvm.specs.declared.operands.Sort.{Sort}
 use Rattle.jc_jvm.specs.declared.value.Shape.{Shape}
+use Rattle.jc_jvm.specs.declared.value.Value.{Value}
+use Rattle.jc_jvm.specs.declared.value.Value.TheVariants.{Whole, Long, Address, NullValue}
 use Rattle.jc_jvm.specs.declared.world.World.{World}
-use Rattle.jc_rows.specs.Acts.{row_step}
+use Rattle.jc_heap.proofs.Signing.{selected_by_number}
+use Rattle.jc_heap.specs.Signatures.{selected_as, signature_of}
+use Rattle.jc_rows.specs.Acts.{called_by_number, row_step}
 use Rattle.jc_rows.specs.declared.row.Row.TheVariants as row
 use Rattle.jc_rows.specs.Decoded.{static_load_row, static_store_row, field_load_row, field_store_row, static_call_row, new_row, array_row, nest_row, return_row, row_without_operand, row_of_constant, row_of_number, row_of_switch, row_of_member, row_of_class, row_of_dims, row_by_operand, row_by_plain, row_by_code, row_of}
 
@@ -83,6 +87,20 @@ same_return : (classes : List ClassModel) (world : World) (next : ℕ) (now : Fr
 same_return classes world next now waiting wanted (Some m) = refl
 same_return classes world next now waiting wanted None = refl
 
+same_target : (classes : List ClassModel) (name descriptor : List ℕ) (class : Option ℕ) → option_and_then (selected classes name descriptor) class ≡ option_and_then (selected_as classes (signature_of classes name descriptor)) class
+same_target classes name descriptor (Some k) = selected_by_number classes name descriptor k
+same_target classes name descriptor None = refl
+
+same_virtual : (classes : List ClassModel) (name descriptor : List ℕ) (world : World) (next : ℕ) (now : Frame) (waiting : List Waiting) (taken : Option (List Value × List Value)) →
+    called_virtually classes name descriptor world next now waiting taken ≡ called_by_number classes (signature_of classes name descriptor) world next now waiting taken
+same_virtual classes name descriptor world next now waiting (Some (Address at ∷ more, rest)) =
+    ap (λ (target : Option (ℕ × ℕ)). called classes world next now waiting (Address at ∷ more) rest target) (same_target classes name descriptor (selecting_class classes (slice_get world.heap at)))
+same_virtual classes name descriptor world next now waiting (Some (NullValue ∷ more, rest)) = refl
+same_virtual classes name descriptor world next now waiting (Some (Whole n ∷ more, rest)) = refl
+same_virtual classes name descriptor world next now waiting (Some (Long n ∷ more, rest)) = refl
+same_virtual classes name descriptor world next now waiting (Some ([], rest)) = refl
+same_virtual classes name descriptor world next now waiting None = refl
+
 -- ---- by the operand and the group
 
 same_without_operand : (classes : List ClassModel) (world : World) (next : ℕ) (now : Frame) (waiting : List Waiting) (group : Group) →
@@ -114,6 +132,7 @@ same_member classes world next now waiting StaticStores class name descriptor = 
 same_member classes world next now waiting FieldLoads class name descriptor = same_field_load classes (sort_of_descriptor descriptor) world next now waiting (instance_slot classes class name descriptor)
 same_member classes world next now waiting FieldStores class name descriptor = same_field_store classes (sort_of_descriptor descriptor) world next now waiting (instance_slot classes class name descriptor)
 same_member classes world next now waiting StaticCalls class name descriptor = same_static_call classes descriptor world next now waiting (static_method classes class name descriptor)
+same_member classes world next now waiting VirtualCalls class name descriptor = same_virtual classes name descriptor world next now waiting (arguments_of (sorts_of_call true descriptor) now.stack.values)
 same_member classes world next now waiting _ class name descriptor = refl
 
 same_class : (classes : List ClassModel) (world : World) (next : ℕ) (now : Frame) (waiting : List Waiting) (group : Group) (name : List ℕ) →

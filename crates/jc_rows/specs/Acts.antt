@@ -1,14 +1,17 @@
 -- What a row does: the instruction table (JVMS 6.5) once more, over what the names mean.
-use Rattle.std.specs.Prelude.{ℕ, List}
+use Rattle.std.specs.Prelude.{ℕ, List, ◌∷◌, option_and_then, slice_get}
 use Rattle.std.specs.declared.option.Option.{Option}
 use Rattle.std.specs.declared.option.Option.TheVariants.{Some, None}
 use Rattle.jc_class_out.specs.declared.model.ClassModel.{ClassModel}
-use Rattle.jc_jvm.specs.Calls.{Step, stuck, acts, arguments_of, called_virtually, called_specially, called_statically}
+use Rattle.jc_heap.specs.Signatures.{selected_as}
+use Rattle.jc_jvm.specs.Calls.{Step, stuck, acts, arguments_of, called, called_specially, called_statically, null_pointer, selecting_class}
 use Rattle.jc_jvm.specs.Objects.{Act_in, element_loaded, element_stored, array_length, array_made, arrays_made, object_made, field_loaded, field_stored, field_pushed, literal_pushed}
 use Rattle.jc_jvm.specs.Table.{plain_act, switches, given_back, returns_by, throws_top, first_initialised, static_kept, casts, tests}
 use Rattle.jc_jvm.specs.Worlds.{statics_at}
 use Rattle.jc_jvm.specs.declared.frame.Frame.{Frame}
 use Rattle.jc_jvm.specs.declared.frame.Waiting.{Waiting}
+use Rattle.jc_jvm.specs.declared.value.Value.{Value}
+use Rattle.jc_jvm.specs.declared.value.Value.TheVariants.{Address, NullValue}
 use Rattle.jc_jvm.specs.declared.world.World.{World}
 use Rattle.jc_rows.specs.declared.row.Row.{Row}
 use Rattle.jc_rows.specs.declared.row.Row.TheVariants as row
@@ -29,6 +32,13 @@ row_act classes world next now (row.Cast shape) = Some (world, casts classes wor
 row_act classes world next now (row.Test shape) = Some (world, tests classes world next now shape now.stack.values)
 row_act classes world next now _ = None
 
+-- a call on an object of the method of this number
+abbrev pub called_by_number : List ClassModel → Option ℕ → World → ℕ → Frame → List Waiting → Option (List Value × List Value) → Step
+called_by_number classes signature world next now waiting (Some (Address at ∷ more, rest)) =
+    called classes world next now waiting (Address at ∷ more) rest (option_and_then (selected_as classes signature) (selecting_class classes (slice_get world.heap at)))
+called_by_number classes signature world next now waiting (Some (NullValue ∷ more, rest)) = null_pointer classes world now waiting
+called_by_number classes signature world next now waiting _ = stuck
+
 -- the other rows
 abbrev pub row_run : List ClassModel → World → ℕ → Frame → List Waiting → Row → Step
 row_run classes world next now waiting (row.Return wanted given) = returns_by classes world waiting (given_back wanted given now.stack.values)
@@ -37,8 +47,8 @@ row_run classes world next now waiting (row.LoadStatic sort class field) =
     first_initialised classes world now waiting class (acts classes waiting (world, field_pushed sort next now now.stack.values (statics_at world (class, field))))
 row_run classes world next now waiting (row.StoreStatic sort class field) =
     first_initialised classes world now waiting class (acts classes waiting (static_kept sort world next now (class, field) now.stack.values))
-row_run classes world next now waiting (row.CallVirtual name descriptor sorts) =
-    called_virtually classes name descriptor world next now waiting (arguments_of sorts now.stack.values)
+row_run classes world next now waiting (row.CallVirtual signature sorts) =
+    called_by_number classes signature world next now waiting (arguments_of sorts now.stack.values)
 row_run classes world next now waiting (row.CallSpecial target sorts) = called_specially classes target world next now waiting (arguments_of sorts now.stack.values)
 row_run classes world next now waiting (row.CallStatic class method sorts) =
     first_initialised classes world now waiting class (called_statically classes (class, method) world next now waiting (arguments_of sorts now.stack.values))

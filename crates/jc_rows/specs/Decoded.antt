@@ -12,6 +12,7 @@ use Rattle.jc_class_out.specs.declared.model.Operand.{Operand}
 use Rattle.jc_class_out.specs.declared.model.Operand.TheVariants as op
 use Rattle.jc_opcodes.specs.Opcodes.{opcode_of}
 use Rattle.jc_opcodes.specs.declared.opcode.Opcode.{Opcode}
+use Rattle.jc_heap.specs.Signatures.{signature_of}
 use Rattle.jc_jvm.specs.Calls.{sorts_of_call, special_method}
 use Rattle.jc_jvm.specs.Classes.{class_named, class_has_flag, method_at}
 use Rattle.jc_jvm.specs.Table.{group_of, plain_of, static_field, instance_slot, static_method, type_of_code}
@@ -90,7 +91,7 @@ row_of_member classes current class name descriptor StaticLoads = static_load_ro
 row_of_member classes current class name descriptor StaticStores = static_store_row (sort_of_descriptor descriptor) (static_field classes class name descriptor)
 row_of_member classes current class name descriptor FieldLoads = field_load_row (sort_of_descriptor descriptor) (instance_slot classes class name descriptor)
 row_of_member classes current class name descriptor FieldStores = field_store_row (sort_of_descriptor descriptor) (instance_slot classes class name descriptor)
-row_of_member classes current class name descriptor VirtualCalls = row.CallVirtual name descriptor (sorts_of_call true descriptor)
+row_of_member classes current class name descriptor VirtualCalls = row.CallVirtual (signature_of classes name descriptor) (sorts_of_call true descriptor)
 row_of_member classes current class name descriptor SpecialCalls = row.CallSpecial (special_method classes current class name descriptor) (sorts_of_call true descriptor)
 row_of_member classes current class name descriptor StaticCalls = static_call_row (sorts_of_call false descriptor) (static_method classes class name descriptor)
 row_of_member classes current class name descriptor _ = row.Nothing

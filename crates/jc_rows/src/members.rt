@@ -1,12 +1,13 @@
 //! Rows of instructions that name a member, a class or an array type.
 ghost use Rattle.std.specs.Prelude.{◌≡◌, IfOk, true};
+ghost use Rattle.jc_heap.specs.Signatures.{signature_of};
 ghost use Rattle.jc_jvm.specs.Calls.{sorts_of_call};
 ghost use Rattle.jc_jvm.specs.Classes.{class_has_flag as has_class_flag};
 ghost use Rattle.jc_rows.specs.Decoded.{static_load_row, static_store_row, field_load_row, field_store_row, static_call_row, new_row, array_row, nest_row, row_of_member, row_of_class, row_of_dims};
 
 use crate::Row;
 use jc_calls::{find_special_method, find_static_method};
-use jc_heap::{NamedClasses, class_named, field_sort, has_flag};
+use jc_heap::{NamedClasses, class_named, field_sort, find_signature, has_flag};
 use jc_jvm::{Group, Shape, Sort};
 use jc_lookups::{
     find_slot, find_static_field, shape_by_name, sorts_of_object_call, sorts_of_static_call,
@@ -65,17 +66,15 @@ fn call_static(sorts: Items<Sort>, place: Option<(u64, u64)>) -> Row
 
 fn call_virtual(
     alloc: Global,
-    name: &Items<u16>,
-    descriptor: &Items<u16>,
+    classes: &NamedClasses,
+    name: &[u16],
+    descriptor: &[u16],
 ) -> Result<Row, WantOfMemory>
-    ensures { IfOk result (λ row. row ≡ Row.CallVirtual name.now descriptor.now (sorts_of_call true descriptor.now)) }
+    ensures { IfOk result (λ row. row ≡ Row.CallVirtual (signature_of classes.now name.now descriptor.now) (sorts_of_call true descriptor.now)) }
 {
-    let sorts = sorts_of_object_call(alloc, descriptor.slice())?;
-    Ok(Row::CallVirtual {
-        name: name.clone()?,
-        descriptor: descriptor.clone()?,
-        sorts,
-    })
+    let signature = find_signature(alloc, classes, name, descriptor)?;
+    let sorts = sorts_of_object_call(alloc, descriptor)?;
+    Ok(Row::CallVirtual { signature, sorts })
 }
 
 /// The row of an instruction that names a field or a method, in the class of number `current`.
@@ -110,7 +109,7 @@ pub fn read_member(
             let slot = find_slot(alloc, classes, of, named, typed)?;
             Ok(store_field(field_sort(typed), slot))
         }
-        Group::VirtualCalls => call_virtual(alloc, name, descriptor),
+        Group::VirtualCalls => call_virtual(alloc, classes, named, typed),
         Group::SpecialCalls => {
             let sorts = sorts_of_object_call(alloc, typed)?;
             let target = find_special_method(classes, current, of, named, typed);

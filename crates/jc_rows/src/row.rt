@@ -40,10 +40,10 @@ pub enum Row {
         sort: Sort,
         slot: usize,
     },
-    /// A call by the object's class; `sorts` are those of what it takes.
+    /// A call by the object's class of the method whose name and descriptor have this number, where any method has them; `sorts` are
+    /// those of what it takes.
     CallVirtual {
-        name: Items<u16>,
-        descriptor: Items<u16>,
+        signature: Option<u64>,
         sorts: Items<Sort>,
     },
     CallSpecial {

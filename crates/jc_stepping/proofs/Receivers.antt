@@ -4,65 +4,66 @@ use Rattle.std.specs.Prelude.{Bool, false, option_and_then, slice_get}
 use Rattle.std.specs.declared.option.Option.{Option}
 use Rattle.std.specs.declared.option.Option.TheVariants.{Some}
 use Rattle.jc_class_out.specs.declared.model.ClassModel.{ClassModel}
-use Rattle.jc_jvm.specs.Calls.{Step, called, called_virtually, called_specially, null_pointer, selecting_class, stuck}
-use Rattle.jc_jvm.specs.Classes.{selected}
+use Rattle.jc_heap.specs.Signatures.{selected_as}
+use Rattle.jc_jvm.specs.Calls.{Step, called, called_specially, null_pointer, selecting_class, stuck}
 use Rattle.jc_jvm.specs.declared.frame.Frame.{Frame}
 use Rattle.jc_jvm.specs.declared.frame.Waiting.{Waiting}
 use Rattle.jc_jvm.specs.declared.value.Value.{Value}
 use Rattle.jc_jvm.specs.declared.value.Value.TheVariants.{Whole, Long, Address, NullValue}
 use Rattle.jc_jvm.specs.declared.world.Fault.TheVariants.{NullPointer}
 use Rattle.jc_jvm.specs.declared.world.World.{World}
+use Rattle.jc_rows.specs.Acts.{called_by_number}
 use Rattle.jc_stepping.specs.Makes.{call_makes, special_makes, virtual_makes}
 use Rattle.jc_waiting.specs.Memory.{fault_makes}
 
 -- the method that an object's class selects
-abbrev pub target_for : List ClassModel → List ℕ → List ℕ → World → ℕ → Option (ℕ × ℕ)
-target_for classes name descriptor world at = option_and_then (selected classes name descriptor) (selecting_class classes (slice_get world.heap at))
+abbrev pub target_for : List ClassModel → Option ℕ → World → ℕ → Option (ℕ × ℕ)
+target_for classes signature world at = option_and_then (selected_as classes signature) (selecting_class classes (slice_get world.heap at))
 
 -- ---- invokevirtual and invokeinterface
 
-abbrev pub virtual_step : List ClassModel → List ℕ → List ℕ → World → ℕ → Frame → List Waiting → List Value → List Value → Option Value → Step
-virtual_step classes name descriptor world next now waiting arguments rest (Some (Address at)) = called classes world next now waiting arguments rest (target_for classes name descriptor world at)
-virtual_step classes name descriptor world next now waiting arguments rest (Some NullValue) = null_pointer classes world now waiting
-virtual_step classes name descriptor world next now waiting arguments rest _ = stuck
+abbrev pub virtual_step : List ClassModel → Option ℕ → World → ℕ → Frame → List Waiting → List Value → List Value → Option Value → Step
+virtual_step classes signature world next now waiting arguments rest (Some (Address at)) = called classes world next now waiting arguments rest (target_for classes signature world at)
+virtual_step classes signature world next now waiting arguments rest (Some NullValue) = null_pointer classes world now waiting
+virtual_step classes signature world next now waiting arguments rest _ = stuck
 
-virtual_first : (classes : List ClassModel) (name descriptor : List ℕ) (world : World) (next : ℕ) (now : Frame) (waiting : List Waiting) (arguments rest : List Value) →
-    called_virtually classes name descriptor world next now waiting (Some (arguments, rest)) ≡ virtual_step classes name descriptor world next now waiting arguments rest (slice_get arguments 0)
-virtual_first classes name descriptor world next now waiting [] rest = refl
-virtual_first classes name descriptor world next now waiting (Address at ∷ more) rest = refl
-virtual_first classes name descriptor world next now waiting (NullValue ∷ more) rest = refl
-virtual_first classes name descriptor world next now waiting (Whole n ∷ more) rest = refl
-virtual_first classes name descriptor world next now waiting (Long n ∷ more) rest = refl
+virtual_first : (classes : List ClassModel) (signature : Option ℕ) (world : World) (next : ℕ) (now : Frame) (waiting : List Waiting) (arguments rest : List Value) →
+    called_by_number classes signature world next now waiting (Some (arguments, rest)) ≡ virtual_step classes signature world next now waiting arguments rest (slice_get arguments 0)
+virtual_first classes signature world next now waiting [] rest = refl
+virtual_first classes signature world next now waiting (Address at ∷ more) rest = refl
+virtual_first classes signature world next now waiting (NullValue ∷ more) rest = refl
+virtual_first classes signature world next now waiting (Whole n ∷ more) rest = refl
+virtual_first classes signature world next now waiting (Long n ∷ more) rest = refl
 
 -- the step of a call with these arguments
-pub virtual_by : (classes : List ClassModel) (name descriptor : List ℕ) (world : World) (next : ℕ) (now : Frame) (waiting : List Waiting) (taken : Option (List Value × List Value)) (arguments rest : List Value) (first : Option Value) →
+pub virtual_by : (classes : List ClassModel) (signature : Option ℕ) (world : World) (next : ℕ) (now : Frame) (waiting : List Waiting) (taken : Option (List Value × List Value)) (arguments rest : List Value) (first : Option Value) →
     taken ≡ Some (arguments, rest) → first ≡ slice_get arguments 0 →
-    called_virtually classes name descriptor world next now waiting taken ≡ virtual_step classes name descriptor world next now waiting arguments rest first
-virtual_by classes name descriptor world next now waiting taken arguments rest first is at =
-    ap (λ (o : Option (List Value × List Value)). called_virtually classes name descriptor world next now waiting o) is
-    ∙ virtual_first classes name descriptor world next now waiting arguments rest
-    ∙ ap (λ (o : Option Value). virtual_step classes name descriptor world next now waiting arguments rest o) (sym at)
+    called_by_number classes signature world next now waiting taken ≡ virtual_step classes signature world next now waiting arguments rest first
+virtual_by classes signature world next now waiting taken arguments rest first is at =
+    ap (λ (o : Option (List Value × List Value)). called_by_number classes signature world next now waiting o) is
+    ∙ virtual_first classes signature world next now waiting arguments rest
+    ∙ ap (λ (o : Option Value). virtual_step classes signature world next now waiting arguments rest o) (sym at)
 
-abbrev pub virtual_memory : List ClassModel → List ℕ → List ℕ → World → List Value → Option Value → Bool
-virtual_memory classes name descriptor world arguments (Some (Address at)) = call_makes classes world arguments (target_for classes name descriptor world at)
-virtual_memory classes name descriptor world arguments (Some NullValue) = fault_makes classes NullPointer
-virtual_memory classes name descriptor world arguments _ = false
+abbrev pub virtual_memory : List ClassModel → Option ℕ → World → List Value → Option Value → Bool
+virtual_memory classes signature world arguments (Some (Address at)) = call_makes classes world arguments (target_for classes signature world at)
+virtual_memory classes signature world arguments (Some NullValue) = fault_makes classes NullPointer
+virtual_memory classes signature world arguments _ = false
 
-memory_first : (classes : List ClassModel) (name descriptor : List ℕ) (world : World) (arguments rest : List Value) →
-    virtual_makes classes name descriptor world (Some (arguments, rest)) ≡ virtual_memory classes name descriptor world arguments (slice_get arguments 0)
-memory_first classes name descriptor world [] rest = refl
-memory_first classes name descriptor world (Address at ∷ more) rest = refl
-memory_first classes name descriptor world (NullValue ∷ more) rest = refl
-memory_first classes name descriptor world (Whole n ∷ more) rest = refl
-memory_first classes name descriptor world (Long n ∷ more) rest = refl
+memory_first : (classes : List ClassModel) (signature : Option ℕ) (world : World) (arguments rest : List Value) →
+    virtual_makes classes signature world (Some (arguments, rest)) ≡ virtual_memory classes signature world arguments (slice_get arguments 0)
+memory_first classes signature world [] rest = refl
+memory_first classes signature world (Address at ∷ more) rest = refl
+memory_first classes signature world (NullValue ∷ more) rest = refl
+memory_first classes signature world (Whole n ∷ more) rest = refl
+memory_first classes signature world (Long n ∷ more) rest = refl
 
 -- what it may make
-pub virtual_memory_by : (classes : List ClassModel) (name descriptor : List ℕ) (world : World) (taken : Option (List Value × List Value)) (arguments rest : List Value) (first : Option Value) →
-    taken ≡ Some (arguments, rest) → first ≡ slice_get arguments 0 → virtual_makes classes name descriptor world taken ≡ virtual_memory classes name descriptor world arguments first
-virtual_memory_by classes name descriptor world taken arguments rest first is at =
-    ap (λ (o : Option (List Value × List Value)). virtual_makes classes name descriptor world o) is
-    ∙ memory_first classes name descriptor world arguments rest
-    ∙ ap (λ (o : Option Value). virtual_memory classes name descriptor world arguments o) (sym at)
+pub virtual_memory_by : (classes : List ClassModel) (signature : Option ℕ) (world : World) (taken : Option (List Value × List Value)) (arguments rest : List Value) (first : Option Value) →
+    taken ≡ Some (arguments, rest) → first ≡ slice_get arguments 0 → virtual_makes classes signature world taken ≡ virtual_memory classes signature world arguments first
+virtual_memory_by classes signature world taken arguments rest first is at =
+    ap (λ (o : Option (List Value × List Value)). virtual_makes classes signature world o) is
+    ∙ memory_first classes signature world arguments rest
+    ∙ ap (λ (o : Option Value). virtual_memory classes signature world arguments o) (sym at)
 
 -- ---- invokespecial
 

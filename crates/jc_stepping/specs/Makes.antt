@@ -3,9 +3,9 @@ use Rattle.std.specs.Prelude.{ℕ, Bool, true, false, ◌+◌, ◌&&◌, nat_le,
 use Rattle.std.specs.declared.option.Option.{Option}
 use Rattle.std.specs.declared.option.Option.TheVariants.{Some, None}
 use Rattle.jc_class_out.specs.declared.model.ClassModel.{ClassModel}
+use Rattle.jc_heap.specs.Signatures.{selected_as}
 use Rattle.jc_heap.specs.Strings.{string_place}
 use Rattle.jc_jvm.specs.Calls.{arguments_of, native_at, selecting_class}
-use Rattle.jc_jvm.specs.Classes.{selected}
 use Rattle.jc_jvm.specs.Frames.{frame_of}
 use Rattle.jc_jvm.specs.Objects.{Act_in, lengths_on, naturals}
 use Rattle.jc_jvm.specs.Stacked.{Stacked, units_in}
@@ -61,11 +61,11 @@ call_makes classes world arguments (Some target) = method_makes classes world ta
 call_makes classes world arguments None = false
 
 -- a call on an object, by the object
-abbrev pub virtual_makes : List ClassModel → List ℕ → List ℕ → World → Option (List Value × List Value) → Bool
-virtual_makes classes name descriptor world (Some (Address at ∷ more, rest)) =
-    call_makes classes world (Address at ∷ more) (option_and_then (selected classes name descriptor) (selecting_class classes (slice_get world.heap at)))
-virtual_makes classes name descriptor world (Some (NullValue ∷ more, rest)) = fault_makes classes NullPointer
-virtual_makes classes name descriptor world _ = false
+abbrev pub virtual_makes : List ClassModel → Option ℕ → World → Option (List Value × List Value) → Bool
+virtual_makes classes signature world (Some (Address at ∷ more, rest)) =
+    call_makes classes world (Address at ∷ more) (option_and_then (selected_as classes signature) (selecting_class classes (slice_get world.heap at)))
+virtual_makes classes signature world (Some (NullValue ∷ more, rest)) = fault_makes classes NullPointer
+virtual_makes classes signature world _ = false
 
 abbrev pub special_makes : List ClassModel → Option (ℕ × ℕ) → World → Option (List Value × List Value) → Bool
 special_makes classes target world (Some (Address at ∷ more, rest)) = call_makes classes world (Address at ∷ more) target
@@ -116,7 +116,7 @@ has_room stack = nat_le (1 + units_in stack.values) stack.limit
 abbrev pub row_makes : List ClassModel → World → Frame → List Waiting → Row → Bool
 row_makes classes world now waiting (row.Return wanted given) = return_makes classes waiting (given_back wanted given now.stack.values)
 row_makes classes world now waiting row.Throw = throw_makes classes world now waiting now.stack.values
-row_makes classes world now waiting (row.CallVirtual name descriptor sorts) = virtual_makes classes name descriptor world (arguments_of sorts now.stack.values)
+row_makes classes world now waiting (row.CallVirtual signature sorts) = virtual_makes classes signature world (arguments_of sorts now.stack.values)
 row_makes classes world now waiting (row.CallSpecial target sorts) = special_makes classes target world (arguments_of sorts now.stack.values)
 row_makes classes world now waiting (row.CallStatic class method sorts) =
     class_makes classes world class (static_makes classes (class, method) world (arguments_of sorts now.stack.values))

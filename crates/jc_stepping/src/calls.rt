@@ -1,9 +1,10 @@
 //! Calls. The caller waits at its call, with the arguments taken from its stack.
 ghost use Rattle.std.specs.Prelude.{◌≡◌, ◌≤◌, [], IfOk, IsTrue, OnErr, Some, drop, is_some, length, option_and_then, reverse, slice_get, take};
-ghost use Rattle.jc_jvm.specs.Calls.{Moves, Quiet, arguments_of, called as call_of, called_by, entered, selecting_class, called_virtually, called_specially, called_statically};
-ghost use Rattle.jc_jvm.specs.Classes.{selected as selected_by};
+ghost use Rattle.jc_heap.specs.Signatures.{selected_as};
+ghost use Rattle.jc_jvm.specs.Calls.{Moves, Quiet, arguments_of, called as call_of, called_by, entered, selecting_class, called_specially, called_statically};
 ghost use Rattle.jc_jvm.specs.Frames.{frame_of};
 ghost use Rattle.jc_jvm.specs.Stacked.{units_of};
+ghost use Rattle.jc_rows.specs.Acts.{called_by_number};
 ghost use Rattle.jc_stepping.specs.Done.{KeptWhenAsks, step_done};
 ghost use Rattle.jc_stepping.specs.Room.{fit_in};
 ghost use Rattle.jc_stepping.specs.Makes.{call_makes, method_makes, special_makes, static_makes, virtual_makes};
@@ -12,9 +13,9 @@ ghost use Rattle.jc_waiting.specs.Onwards.{state_of};
 use crate::Did;
 use crate::act::{null_pointer, stuck};
 use crate::natives::call_native;
-use jc_calls::{code_of, frame_on, has_arguments, select_method};
+use jc_calls::{code_of, frame_on, has_arguments};
 use jc_class_out::ClassModel;
-use jc_heap::{Classes, class_spelled};
+use jc_heap::Classes;
 use jc_jvm::{Cell, Ending, Frame, Native, Operands, Sort, Value, Waiting, World};
 use jc_lookups::find_native;
 use jc_rules::WantOfMemory;
@@ -146,36 +147,22 @@ fn call(
     }
 }
 
-fn numbered(class: Option<usize>) -> Option<u64>
-    ensures { result ≡ class }
-{
-    match class {
-        Some(class) => Some(class as u64),
-        None => None,
-    }
-}
-
 // The class by which a method is selected: an array has the methods of Object.
-fn class_for(classes: &[ClassModel], world: &World, address: u64) -> Option<u64>
+fn class_for(classes: &Classes, world: &World, address: u64) -> Option<u64>
     ensures { result ≡ selecting_class classes.now (slice_get world.now.heap address) }
 {
     match world.heap.get(address) {
         Some(Cell::Instance { class, .. }) => Some(*class),
-        Some(Cell::Array { .. }) => numbered(class_spelled(classes, "java/lang/Object")),
+        Some(Cell::Array { .. }) => classes.object(),
         None => None,
     }
 }
 
-fn select(
-    classes: &Classes,
-    name: &[u16],
-    descriptor: &[u16],
-    class: Option<u64>,
-) -> Option<(u64, u64)>
-    ensures { result ≡ option_and_then (selected_by classes.now name.now descriptor.now) class }
+fn select(classes: &Classes, signature: Option<u64>, class: Option<u64>) -> Option<(u64, u64)>
+    ensures { result ≡ option_and_then (selected_as classes.now signature) class }
 {
     match class {
-        Some(class) => select_method(classes, class, name, descriptor),
+        Some(class) => classes.select(class, signature),
         None => None,
     }
 }
@@ -196,25 +183,23 @@ fn receiver(count: usize, stack: &Operands) -> Option<Value>
 pub fn call_virtual(
     alloc: Global,
     classes: &Classes,
-    name: &[u16],
-    descriptor: &[u16],
+    signature: Option<u64>,
     sorts: &[Sort],
     next: u32,
     now: &mut Frame,
     world: &mut World,
     waiting: &mut Stack<Waiting>,
 ) -> Result<Did, WantOfMemory>
-    ensures step { IfOk result (λ did. called_virtually classes.now name.now descriptor.now world.old next now.old waiting.old (arguments_of sorts.now now.old.stack.values) ≡ step_done classes.now did world.new now.new waiting.new) }
+    ensures step { IfOk result (λ did. called_by_number classes.now signature world.old next now.old waiting.old (arguments_of sorts.now now.old.stack.values) ≡ step_done classes.now did world.new now.new waiting.new) }
     ensures kept { IfOk result (λ did. KeptWhenAsks did world.old now.old waiting.old world.new now.new waiting.new) }
-    ensures memory { OnErr result (IsTrue (virtual_makes classes.now name.now descriptor.now world.old (arguments_of sorts.now now.old.stack.values))) }
+    ensures memory { OnErr result (IsTrue (virtual_makes classes.now signature world.old (arguments_of sorts.now now.old.stack.values))) }
 {
     if !has_arguments(sorts, &now.stack) {
         return Ok(stuck());
     }
     match receiver(sorts.len(), &now.stack) {
         Some(Value::Address(at)) => {
-            let class = class_for(classes.models(), world, at);
-            let target = select(classes, name, descriptor, class);
+            let target = select(classes, signature, class_for(classes, world, at));
             call(
                 alloc,
                 classes,

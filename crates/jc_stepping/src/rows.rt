@@ -65,15 +65,10 @@ fn step_out(
 {
     let classes = program.classes();
     match row {
-        Row::CallVirtual {
-            name,
-            descriptor,
-            sorts,
-        } => call_virtual(
+        Row::CallVirtual { signature, sorts } => call_virtual(
             alloc,
             classes,
-            name.slice(),
-            descriptor.slice(),
+            *signature,
             sorts.slice(),
             next,
             now,
