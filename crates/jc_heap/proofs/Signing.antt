@@ -1,12 +1,12 @@
 -- Numbers of names and descriptors, as loops add them, and selection by them.
-use Rattle.std.proofs.Common.{◌≡◌, ◌≢◌, ◌∙◌, ◌+◌, ◌-◌, ◌<◌, ◌≤◌, ◌++◌, ◌∷◌, ◌&&◌, ◌==◌, [], ℕ, zero, suc, Bool, true, false, cond, List, length, map, take, get_or, position, slice_get, append_assoc, length-append, refl, sym, ap, subst, arith, if◌then◌else◌}
+use Rattle.std.proofs.Common.{◌≡◌, ◌∙◌, ◌+◌, ◌-◌, ◌<◌, ◌++◌, ◌∷◌, ◌&&◌, ◌==◌, [], ℕ, zero, suc, Bool, true, false, cond, List, length, map, take, get_or, position, slice_get, append_assoc, length-append, refl, sym, ap, subst, arith, if◌then◌else◌}
 use Rattle.std.proofs.lemmas.Bool.Decides.{nat_tests}
 use Rattle.std.proofs.lemmas.Iterator.Adapters.{position_from-zero}
 use Rattle.std.proofs.lemmas.List.{append-nil, length-map, length-take-le, take_more}
 use Rattle.std.proofs.lemmas.List.Quantifiers.{position-Some}
 use Rattle.std.proofs.lemmas.Option.{slice_get-map}
 use Rattle.std.proofs.lemmas.Slice.Eq.{bytes_eq-Decides}
-use Rattle.std.specs.List.{flat_map, position_from}
+use Rattle.std.specs.List.{position_from}
 use Rattle.std.specs.Option.{option_map}
 use Rattle.std.specs.Str.{bytes_eq}
 use Rattle.std.specs.declared.option.Option.{Option}
@@ -19,7 +19,7 @@ use Rattle.jc_heap.proofs.Closed.{parent_nowhere, parent_there}
 use Rattle.jc_heap.proofs.FieldLayouts.{line_on-none, line_on-zero, line_on-suc}
 use Rattle.jc_heap.proofs.Numbering.{position-push}
 use Rattle.jc_heap.specs.Named.{NamesMore}
-use Rattle.jc_heap.specs.Signatures.{AreSignatures, SignaturesMore, all_methods, all_numbers, joined, marked, number_of, numbers_in, selected_as, signature_of}
+use Rattle.jc_heap.specs.Signatures.{AreSignatures, SignaturesMore, all_methods, all_numbers, joined, number_of, numbers_in, selected_as, signature_of}
 use Rattle.jc_heap.specs.Supers.{all_parents, parent_in}
 use Rattle.jc_selecting.proofs.Lines.{found_none, found_zero, found_suc}
 use Rattle.jc_selecting.specs.Found as found
