@@ -3,8 +3,8 @@ import os
 
 LITERALS = 20_000
 IN_METHOD = 1_000
-LINKS = 2_000
-ANEW = 700
+LINKS = 500
+ANEW = 170
 OVERLOADS = 300
 
 
@@ -27,8 +27,11 @@ def many_literals():
 
 def deep_chain():
     """A chain of many superclasses, with a million calls of a method that the topmost one declares and of one that is declared anew on the way."""
-    lines = ["class DeepChain {", "    public static void main(String[] args) {", "        Link0 last = new Link%d();" % (LINKS - 1),
-             "        Link0 middle = new Link%d();" % (LINKS // 2), "        int sum = 0;", "        for (int turn = 0; turn < 1000000; turn++) {",
+    # java finds superclasses by recursion, so each is made before those below it, and the two that are used go by way of Object
+    lines = ["class DeepChain {", "    public static void main(String[] args) {", "        Object[] made = new Object[%d];" % LINKS]
+    lines += ["        made[%d] = new Link%d();" % (link, link) for link in range(LINKS)]
+    lines += ["        Link0 last = (Link0) made[%d];" % (LINKS - 1), "        Link0 middle = (Link0) made[%d];" % (LINKS // 2), "        int sum = 0;",
+              "        for (int turn = 0; turn < 1000000; turn++) {",
              "            sum = sum * 31 + last.top(turn) + middle.top(turn);", "            sum += last.changed() + middle.changed();", "        }",
              "        Out.line(sum);", "        Out.line(last.changed());", "        Out.line(middle.changed());", "    }", "}", "",
              "class Link0 {", "    int top(int number) {", "        return number + 1;", "    }", "", "    int changed() {", "        return 0;", "    }", "}"]
