@@ -1,7 +1,30 @@
 -- A walk one step on, and one that has ended.
-use Rattle.std.proofs.Common.{◌≡◌, ℕ, zero, suc, ◌+◌, ◌-◌, ◌<◌, arith, Bool, true, false, List, [], ◌∷◌, refl, sym, ap, ◌∙◌}
+use Rattle.std.proofs.Common.{◌≡◌, ℕ, zero, suc, ◌+◌, ◌-◌, ◌<◌, arith, Bool, true, false, not, ◌&&◌, ◌||◌, List, [], ◌∷◌, refl, sym, ap, ◌∙◌}
 use Rattle.jc_types.specs.declared.ids.MethodId.{MethodId}
-use Rattle.jc_clashes.specs.Walking.{has_mark, new_marks, walked, with_all_below}
+use Rattle.jc_clashes.specs.Walking.{adds_some, has_mark, is_first, new_marks, past, walked, with_all_below, with_below}
+
+-- ---- where all below are marked
+
+same_mark : (b first : Bool) (bs cs : List Bool) → (not b && first) ≡ false → cs ≡ bs → (b || first) ∷ cs ≡ b ∷ bs
+same_mark true first bs cs e f = ap (λ ms. true ∷ ms) f
+same_mark false false bs cs e f = ap (λ ms. false ∷ ms) f
+same_mark false true bs cs e f = cc
+
+first_not : (a b : Bool) → (a || b) ≡ false → a ≡ false
+first_not false b e = refl
+first_not true b e = cc
+
+second_not : (a b : Bool) → (a || b) ≡ false → b ≡ false
+second_not false b e = e
+second_not true b e = cc
+
+pub adds_none : (ids below : List MethodId) (marks : List Bool) → adds_some ids below marks ≡ false → with_below ids below marks ≡ marks
+adds_none [] below [] e = refl
+adds_none [] below (b ∷ bs) e = cc
+adds_none (j ∷ js) below [] e = refl
+adds_none (j ∷ js) below (b ∷ bs) e =
+    same_mark b (is_first j below) bs (with_below js (past j below) bs) (first_not (not b && is_first j below) (adds_some js (past j below) bs) e)
+    (adds_none js (past j below) bs (second_not (not b && is_first j below) (adds_some js (past j below) bs) e))
 
 -- ---- where nothing is fresh
 

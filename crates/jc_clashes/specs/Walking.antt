@@ -1,5 +1,5 @@
 -- A walk along overriding and hiding among the methods of a name, with a mark beside each of them.
-use Rattle.std.specs.Prelude.{ℕ, zero, suc, ◌==◌, Bool, false, not, ◌&&◌, ◌||◌, cond, List, [], ◌∷◌, map}
+use Rattle.std.specs.Prelude.{ℕ, zero, suc, ◌==◌, Bool, true, false, not, ◌&&◌, ◌||◌, cond, List, [], ◌∷◌, map}
 use Rattle.jc_types.specs.declared.ids.MethodId.{MethodId}
 
 -- method m alone is marked
@@ -20,6 +20,13 @@ abbrev pub with_below : List MethodId → List MethodId → List Bool → List B
 with_below [] below marks = []
 with_below (j ∷ js) below [] = []
 with_below (j ∷ js) below (b ∷ bs) = (b || is_first j below) ∷ with_below js (past j below) bs
+
+-- one of the methods below isn't marked yet
+abbrev pub adds_some : List MethodId → List MethodId → List Bool → Bool
+adds_some [] below [] = false
+adds_some [] below (b ∷ bs) = true
+adds_some (j ∷ js) below [] = false
+adds_some (j ∷ js) below (b ∷ bs) = (not b && is_first j below) || adds_some js (past j below) bs
 
 -- these marks, and those of the methods below each one that is freshly marked
 abbrev pub with_all_below : List MethodId → List (List MethodId) → List Bool → List Bool → List Bool

@@ -1,6 +1,6 @@
 //! Which methods of a name one of them overrides or hides, directly or indirectly: a walk with a mark beside each of them.
 ghost use Rattle.std.specs.Prelude.{◌≡◌, IfOk};
-ghost use Rattle.jc_clashes.specs.Walking.{has_mark, is_first, marked_alone, new_marks, past, walked, with_all_below, with_below};
+ghost use Rattle.jc_clashes.specs.Walking.{adds_some, has_mark, is_first, marked_alone, new_marks, past, walked, with_all_below, with_below};
 
 use jc_rules::{Items, WantOfMemory};
 use jc_types::MethodId;
@@ -64,6 +64,45 @@ fn with_below(
     Ok(out)
 }
 
+// Whether one of the methods below isn't marked yet.
+fn adds_some(ids: &[MethodId], below: &[MethodId], marks: &[bool]) -> bool
+    ensures { result ≡ adds_some ids.now below.now marks.now }
+{
+    let mut rest = ids;
+    let mut next = below;
+    let mut left = marks;
+    while let [j, more @ ..] = rest {
+        match left {
+            [] => return false,
+            [mark, others @ ..] => {
+                if !*mark && is_first(*j, next) {
+                    return true;
+                }
+                next = past(*j, next);
+                left = others;
+            }
+        }
+        rest = more;
+    }
+    !left.is_empty()
+}
+
+// The same as `with_below`: what one method overrides was mostly marked already, with what is overridden by way of it.
+#[tactic(auto, using(crate::proofs::Walk::adds_none))]
+fn if_adds(
+    alloc: Global,
+    ids: &[MethodId],
+    below: &[MethodId],
+    marks: Items<bool>,
+) -> Result<Items<bool>, WantOfMemory>
+    ensures { IfOk result (λ r. r ≡ with_below ids.now below.now marks) }
+{
+    if adds_some(ids, below, marks.slice()) {
+        return with_below(alloc, ids, below, marks.slice());
+    }
+    Ok(marks)
+}
+
 // These marks, and those of the methods below each one that is freshly marked.
 fn with_all_below(
     alloc: Global,
@@ -82,7 +121,7 @@ fn with_all_below(
             [] => return Ok(marks),
             [is_fresh, others @ ..] => {
                 if *is_fresh {
-                    marks = with_below(alloc, ids, below.slice(), marks.slice())?;
+                    marks = if_adds(alloc, ids, below.slice(), marks)?;
                 }
                 left = others;
             }
