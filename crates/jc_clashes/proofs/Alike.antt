@@ -14,8 +14,8 @@ use Rattle.jc_header_rules.specs.Clashes.{erased_params, erasures_meet, reaches,
 use Rattle.jc_members.specs.Below.{replaces}
 use Rattle.jc_members.specs.Named.{all_named, if_named, named_from}
 use Rattle.jc_clashes.specs.declared.shapes.Shape.{Shape}
-use Rattle.jc_clashes.specs.Clashing.{is_listed, share_some}
-use Rattle.jc_clashes.specs.Shapes.{all_plain, below_in, erasures_in, group_of, groups, groups_from, is_plain, leads, shape_of, shapes_of}
+use Rattle.jc_clashes.specs.Clashing.{share_some}
+use Rattle.jc_clashes.specs.Shapes.{above_at, all_plain, below_in, belows_of, erasures_in, group_of, groups, groups_from, is_listed, is_plain, leads, shape_of, shapes_of}
 use Rattle.jc_clashes.proofs.Lists.{In, and_both, and_true, any_in, in_any, in_either, in_left, in_right, is_self, number, or_right, own_bytes, same_bytes}
 use Rattle.jc_clashes.proofs.Reaching.{Found, reaches_named}
 
@@ -232,6 +232,30 @@ module _ (T : Table) (m n : MethodId) where
       as_one true b f g = sym (f refl)
       as_one false true f g = g refl
       as_one false false f g = refl
+
+-- ---- what replaces a method
+
+module _ (T : Table) (all : List MethodId) (m : MethodId) where
+  abbrev lists : MethodId → Bool
+  lists j = is_listed m (below_in T j all)
+
+  pub in_above : (w : MethodId) (js : List MethodId) → In w js → is_listed m (below_in T w all) ≡ true → In w (above_at m js (belows_of T all js))
+  in_above w [] h e = absurd h
+  in_above w (j ∷ js) (inl is) e =
+      in_left w (cond (lists j) (j ∷ []) []) (above_at m js (belows_of T all js)) (subst (λ c. In w (cond c (j ∷ []) [])) (sym (ap lists (sym is) ∙ e)) (inl is))
+  in_above w (j ∷ js) (inr h) e = in_right w (cond (lists j) (j ∷ []) []) (above_at m js (belows_of T all js)) (in_above w js h e)
+
+  pub above_in : (w : MethodId) (js : List MethodId) → In w (above_at m js (belows_of T all js)) → In w js × (is_listed m (below_in T w all) ≡ true)
+  above_in w [] h = absurd h
+  above_in w (j ∷ js) h = by (lists j) refl (in_either w (cond (lists j) (j ∷ []) []) (above_at m js (belows_of T all js)) h) (λ h. above_in w js h)
+    where
+      by : (b : Bool) → lists j ≡ b → In w (cond b (j ∷ []) []) ⊎ In w (above_at m js (belows_of T all js))
+          → (In w (above_at m js (belows_of T all js)) → In w js × (lists w ≡ true)) → In w (j ∷ js) × (lists w ≡ true)
+      by true f (inl (inl is)) g = (inl is, ap lists is ∙ f)
+      by true f (inl (inr h)) g = absurd h
+      by false f (inl h) g = absurd h
+      by true f (inr h) g = let rest = g h in (inr rest.0, rest.1)
+      by false f (inr h) g = let rest = g h in (inr rest.0, rest.1)
 
 -- ---- shapes
 

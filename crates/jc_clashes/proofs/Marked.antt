@@ -142,7 +142,7 @@ module _ (T : Table) (marks : List Bool) (gs : List (List Shape)) (clear : AreCl
     nothing_in place all (s ∷ ss) e =
         let both = and_both (not (is_clear marks (owner T s.id).0)) (none_clear T marks ss) e in
         let apart : belongs T k s.id ≡ false = none_belongs s.id (not_false (is_clear marks (owner T s.id).0) both.0) in
-        ap (λ b. cond (b && not (is_replaced T k all s.id)) (beside_broken T k place all s all) [] ++ group_broken T k place all ss) apart ∙ nothing_in place all ss both.1
+        ap (λ b. cond (b && not (is_replaced T k s)) (beside_broken T k place s all) [] ++ group_broken T k place all ss) apart ∙ nothing_in place all ss both.1
 
     nothing_broken : (place : Place) (fs : List (List Shape)) → all_apart T marks fs ≡ true → groups_broken T k place fs ≡ []
     nothing_broken place [] e = refl

@@ -28,13 +28,13 @@ use Rattle.jc_members.specs.Listing.{has_method}
 use Rattle.jc_members.specs.Named.{all_named}
 use Rattle.jc_members.proofs.Remaining.{id_of_view}
 use Rattle.jc_clashes.specs.declared.shapes.Shape.{Shape}
-use Rattle.jc_clashes.specs.Clashing.{belongs, beside_broken, clash_at, class_clashes, group_broken, groups_broken, is_listed, is_member, is_replaced, member_broken, replaces_there, share_some, views_clash}
+use Rattle.jc_clashes.specs.Clashing.{belongs, beside_broken, clash_at, class_clashes, group_broken, groups_broken, is_member, is_replaced, member_broken, share_some, views_clash}
 use Rattle.jc_clashes.specs.Constructors.{constructors_breaks}
-use Rattle.jc_clashes.specs.Shapes.{below_in, erasures_in, groups, is_plain, shape_of}
+use Rattle.jc_clashes.specs.Shapes.{above_at, below_in, belows_of, erasures_in, groups, is_plain, shape_of}
 use Rattle.jc_clashes.specs.Stage.{IsFirstClash, all_clashes}
 use Rattle.jc_clashes.proofs.Lists.{In, and_both, and_true, any_in, as_true, in_any, in_either, in_left, in_right, is_false, is_self, not_both, not_false, number, or_right, own_bytes, same_bytes}
 use Rattle.jc_clashes.proofs.Plain.{all_same, same_erasure, same_plain}
-use Rattle.jc_clashes.proofs.Alike.{IsNamed, Meeting, group_in, group_named, group_told, in_listed, in_named, listed_in, meet_told, meeting_of, named_in, of_shape, plain_name, plain_of, shape_in}
+use Rattle.jc_clashes.proofs.Alike.{above_in, in_above, IsNamed, Meeting, group_in, group_named, group_told, in_listed, in_named, listed_in, meet_told, meeting_of, named_in, of_shape, plain_name, plain_of, shape_in}
 use Rattle.jc_clashes.proofs.Reaching.{reached_told, replaces_named, replaces_signed}
 
 -- ---- breaks in lists
@@ -241,55 +241,53 @@ module _ (T : Table) (k : ClassId) where
     named : (v : MethodView) → Has v → method_name_of T v.id ≡ x → IsNamed T x v.id
     named v h e = record { within = h.within; name = e }
 
-    replaced_there : (v : MethodView) → Has v → method_name_of T v.id ≡ x → replaced T v every ≡ is_replaced T k group v.id
-    replaced_there v h e = as_true (replaced T v every) (is_replaced T k group v.id) there back
+    abbrev shape : MethodId → Shape
+    shape m = shape_of T all m
+
+    replaced_there : (v : MethodView) → Has v → method_name_of T v.id ≡ x → replaced T v every ≡ is_replaced T k (shape v.id)
+    replaced_there v h e = as_true (replaced T v every) (is_replaced T k (shape v.id)) there back
       where
-        there : replaced T v every ≡ true → is_replaced T k group v.id ≡ true
+        there : replaced T v every ≡ true → is_replaced T k (shape v.id) ≡ true
         there f =
             let found = in_replaced v every f in
             let w = found.0 in
             let has : Has w = has_of w found.1 in
             let wn : method_name_of T w.id ≡ x = replaces_named T w.id v.id found.2 ∙ e in
-            any_in (replaces_there T k v.id) (shape_of T all w.id) group (shape_in T all w.id all (in_named T x w.id (named w has wn)))
-            (and_true (is_listed v.id (below_in T w.id all)) (belongs T k w.id) (listed_in T w.id v.id all (in_named T x v.id (named v h e)) found.2) (has_belongs w has))
+            any_in (belongs T k) w.id (above_at v.id all (belows_of T all all))
+            (in_above T all v.id w.id all (in_named T x w.id (named w has wn)) (listed_in T w.id v.id all (in_named T x v.id (named v h e)) found.2)) (has_belongs w has)
 
-        back : is_replaced T k group v.id ≡ true → replaced T v every ≡ true
+        back : is_replaced T k (shape v.id) ≡ true → replaced T v every ≡ true
         back f =
-            let found = in_any (replaces_there T k v.id) group f in
-            let shape = of_shape T all found.0 all found.1 in
-            let w = shape.0 in
-            let both : (is_listed v.id (below_in T w all) && belongs T k w) ≡ true = subst (λ s. replaces_there T k v.id s ≡ true) shape.2 found.2 in
-            let split = and_both (is_listed v.id (below_in T w all)) (belongs T k w) both in
-            let at = belongs_has w (named_in T x w shape.1).within split.1 in
-            replaced_in v at.view every (of_has at.view at.has) (ap (λ n. replaces T n v.id) at.is ∙ in_listed T w v.id all split.0)
+            let found = in_any (belongs T k) (above_at v.id all (belows_of T all all)) f in
+            let w = found.0 in
+            let above = above_in T all v.id w all found.1 in
+            let at = belongs_has w (named_in T x w above.0).within found.2 in
+            replaced_in v at.view every (of_has at.view at.has) (ap (λ n. replaces T n v.id) at.is ∙ in_listed T w v.id all above.1)
 
-    among_told : (w : MethodView) → Has w → method_name_of T w.id ≡ x → is_among w.id kept ≡ not (is_replaced T k group w.id)
-    among_told w h e = as_true (is_among w.id kept) (not (is_replaced T k group w.id)) there back
+    among_told : (w : MethodView) → Has w → method_name_of T w.id ≡ x → is_among w.id kept ≡ not (is_replaced T k (shape w.id))
+    among_told w h e = as_true (is_among w.id kept) (not (is_replaced T k (shape w.id))) there back
       where
-        there : is_among w.id kept ≡ true → not (is_replaced T k group w.id) ≡ true
+        there : is_among w.id kept ≡ true → not (is_replaced T k (shape w.id)) ≡ true
         there f =
             let found = in_any (λ (u : MethodView). u.id.0 == w.id.0) kept f in
             let u = found.0 in
             let inside = in_without every every u found.1 in
             let same : u.id ≡ w.id = ap (λ j. record { 0 = j }) (number u.id.0 w.id.0 found.2) in
-            ap not (ap (is_replaced T k group) (sym same) ∙ sym (replaced_there u (has_of u inside.0) (ap (method_name_of T) same ∙ e)) ∙ inside.1)
+            ap not (ap (λ i. is_replaced T k (shape i)) (sym same) ∙ sym (replaced_there u (has_of u inside.0) (ap (method_name_of T) same ∙ e)) ∙ inside.1)
 
-        back : not (is_replaced T k group w.id) ≡ true → is_among w.id kept ≡ true
+        back : not (is_replaced T k (shape w.id)) ≡ true → is_among w.id kept ≡ true
         back f =
             any_in (λ (u : MethodView). u.id.0 == w.id.0) w kept
-            (without_in every every w (of_has w h) (replaced_there w h e ∙ not_false (is_replaced T k group w.id) f)) (is_self w.id.0)
-
-    abbrev shape : MethodId → Shape
-    shape m = shape_of T all m
+            (without_in every every w (of_has w h) (replaced_there w h e ∙ not_false (is_replaced T k (shape w.id)) f)) (is_self w.id.0)
 
     -- a clash by its ids
-    clash_told : (v w : MethodView) → Has v → Has w → method_name_of T v.id ≡ x → method_name_of T w.id ≡ x → clash_at T k group (shape v.id) (shape w.id) ≡ clashes T k kept v w
+    clash_told : (v w : MethodView) → Has v → Has w → method_name_of T v.id ≡ x → method_name_of T w.id ≡ x → clash_at T k (shape v.id) (shape w.id) ≡ clashes T k kept v w
     unfolding clash_at
     clash_told v w hv hw ev ew =
-        ap (λ b. not (v.id.0 == w.id.0) && b && belongs T k w.id && views_clash T k group (class_view T k v.id) (class_view T k w.id)) (meet_told T v.id w.id x ev ew)
-        ∙ ap (λ b. not (v.id.0 == w.id.0) && erasures_meet T v.id w.id 0 T.methods && b && views_clash T k group (class_view T k v.id) (class_view T k w.id)) (has_belongs w hw)
-        ∙ ap (λ o. not (v.id.0 == w.id.0) && erasures_meet T v.id w.id 0 T.methods && true && views_clash T k group o (class_view T k w.id)) hv.view
-        ∙ ap (λ o. not (v.id.0 == w.id.0) && erasures_meet T v.id w.id 0 T.methods && true && views_clash T k group (Some v) o) hw.view
+        ap (λ b. not (v.id.0 == w.id.0) && b && belongs T k w.id && views_clash T k (shape w.id) (class_view T k v.id) (class_view T k w.id)) (meet_told T v.id w.id x ev ew)
+        ∙ ap (λ b. not (v.id.0 == w.id.0) && erasures_meet T v.id w.id 0 T.methods && b && views_clash T k (shape w.id) (class_view T k v.id) (class_view T k w.id)) (has_belongs w hw)
+        ∙ ap (λ o. not (v.id.0 == w.id.0) && erasures_meet T v.id w.id 0 T.methods && true && views_clash T k (shape w.id) o (class_view T k w.id)) hv.view
+        ∙ ap (λ o. not (v.id.0 == w.id.0) && erasures_meet T v.id w.id 0 T.methods && true && views_clash T k (shape w.id) (Some v) o) hw.view
         ∙ ap (λ b. not (v.id.0 == w.id.0) && erasures_meet T v.id w.id 0 T.methods && true && (not (subsignature T v w) && not (not (same_class (owner T v.id) k) && b && subsignature T w v && (not (with_body T v) || with_body T w)))) (sym (among_told w hw ew))
         ∙ turned (not (v.id.0 == w.id.0)) (erasures_meet T v.id w.id 0 T.methods) (not (subsignature T v w)) (not (is_settled T k kept v w))
         ∙ ap (λ b. not (v.id.0 == w.id.0) && b && not (subsignature T v w) && not (is_settled T k kept v w) && erasures_meet T v.id w.id 0 T.methods) (sym (ap (λ y. bytes_eq y (method_name_of T w.id)) (ev ∙ sym ew) ∙ own_bytes (method_name_of T w.id)))
@@ -307,10 +305,10 @@ module _ (T : Table) (k : ClassId) where
         turned true false c d = none (c && d)
         turned false b c d = refl
 
-    beyond : (m n : MethodId) → clash_at T k group (shape m) (shape n) ≡ true → belongs T k n ≡ true
+    beyond : (m n : MethodId) → clash_at T k (shape m) (shape n) ≡ true → belongs T k n ≡ true
     unfolding clash_at
     beyond m n e =
-        let views = views_clash T k group (class_view T k m) (class_view T k n) in
+        let views = views_clash T k (shape n) (class_view T k m) (class_view T k n) in
         let first = not (m.0 == n.0) && share_some (erasures_in T m all) (erasures_in T n all) in
         (and_both first (belongs T k n) (and_both (first && belongs T k n) views e).0).1
 
@@ -408,32 +406,32 @@ module _ (T : Table) (k : ClassId) where
 
     -- .. and one that is found name by name
     module _ (all : List Shape) where
-      beside_of : (s : Shape) (us : List Shape) → IsOf b (beside_broken T k place all s us) → (u : Shape) × In u us × IsOf b (broken_if (clash_at T k all s u) 801 (clash_place T k place s.id u.id))
+      beside_of : (s : Shape) (us : List Shape) → IsOf b (beside_broken T k place s us) → (u : Shape) × In u us × IsOf b (broken_if (clash_at T k s u) 801 (clash_place T k place s.id u.id))
       beside_of s [] h = absurd h
-      beside_of s (u ∷ us) h = by (of_either b (broken_if (clash_at T k all s u) 801 (clash_place T k place s.id u.id)) (beside_broken T k place all s us) h) (λ h. beside_of s us h)
+      beside_of s (u ∷ us) h = by (of_either b (broken_if (clash_at T k s u) 801 (clash_place T k place s.id u.id)) (beside_broken T k place s us) h) (λ h. beside_of s us h)
         where
-          by : IsOf b (broken_if (clash_at T k all s u) 801 (clash_place T k place s.id u.id)) ⊎ IsOf b (beside_broken T k place all s us)
-              → (IsOf b (beside_broken T k place all s us) → (t : Shape) × In t us × IsOf b (broken_if (clash_at T k all s t) 801 (clash_place T k place s.id t.id)))
-              → (t : Shape) × In t (u ∷ us) × IsOf b (broken_if (clash_at T k all s t) 801 (clash_place T k place s.id t.id))
+          by : IsOf b (broken_if (clash_at T k s u) 801 (clash_place T k place s.id u.id)) ⊎ IsOf b (beside_broken T k place s us)
+              → (IsOf b (beside_broken T k place s us) → (t : Shape) × In t us × IsOf b (broken_if (clash_at T k s t) 801 (clash_place T k place s.id t.id)))
+              → (t : Shape) × In t (u ∷ us) × IsOf b (broken_if (clash_at T k s t) 801 (clash_place T k place s.id t.id))
           by (inl h) g = (u, inl refl, h)
           by (inr h) g = let rest = g h in (rest.0, inr rest.1, rest.2)
 
-      of_beside : (s u : Shape) (us : List Shape) → In u us → IsOf b (broken_if (clash_at T k all s u) 801 (clash_place T k place s.id u.id)) → IsOf b (beside_broken T k place all s us)
+      of_beside : (s u : Shape) (us : List Shape) → In u us → IsOf b (broken_if (clash_at T k s u) 801 (clash_place T k place s.id u.id)) → IsOf b (beside_broken T k place s us)
       of_beside s u [] h m = absurd h
       of_beside s u (t ∷ us) (inl is) m =
-          of_left b (broken_if (clash_at T k all s t) 801 (clash_place T k place s.id t.id)) (beside_broken T k place all s us)
-          (subst (λ (z : Shape). IsOf b (broken_if (clash_at T k all s z) 801 (clash_place T k place s.id z.id))) is m)
-      of_beside s u (t ∷ us) (inr h) m = of_right b (broken_if (clash_at T k all s t) 801 (clash_place T k place s.id t.id)) (beside_broken T k place all s us) (of_beside s u us h m)
+          of_left b (broken_if (clash_at T k s t) 801 (clash_place T k place s.id t.id)) (beside_broken T k place s us)
+          (subst (λ (z : Shape). IsOf b (broken_if (clash_at T k s z) 801 (clash_place T k place s.id z.id))) is m)
+      of_beside s u (t ∷ us) (inr h) m = of_right b (broken_if (clash_at T k s t) 801 (clash_place T k place s.id t.id)) (beside_broken T k place s us) (of_beside s u us h m)
 
-      member_at : (s : Shape) → IsOf b (member_broken T k place all s) → (is_member T k all s.id ≡ true) × IsOf b (beside_broken T k place all s all)
-      member_at s h = by (is_member T k all s.id) h
+      member_at : (s : Shape) → IsOf b (member_broken T k place all s) → (is_member T k s ≡ true) × IsOf b (beside_broken T k place s all)
+      member_at s h = by (is_member T k s) h
         where
-          by : (c : Bool) → IsOf b (cond c (beside_broken T k place all s all) []) → (c ≡ true) × IsOf b (beside_broken T k place all s all)
+          by : (c : Bool) → IsOf b (cond c (beside_broken T k place s all) []) → (c ≡ true) × IsOf b (beside_broken T k place s all)
           by true h = (refl, h)
           by false h = absurd h
 
-      at_member : (s : Shape) → is_member T k all s.id ≡ true → IsOf b (beside_broken T k place all s all) → IsOf b (member_broken T k place all s)
-      at_member s e h = subst (λ c. IsOf b (cond c (beside_broken T k place all s all) [])) (sym e) h
+      at_member : (s : Shape) → is_member T k s ≡ true → IsOf b (beside_broken T k place s all) → IsOf b (member_broken T k place all s)
+      at_member s e h = subst (λ c. IsOf b (cond c (beside_broken T k place s all) [])) (sym e) h
 
       group_of : (ss : List Shape) → IsOf b (group_broken T k place all ss) → (s : Shape) × In s ss × IsOf b (member_broken T k place all s)
       group_of [] h = absurd h
@@ -470,25 +468,25 @@ module _ (T : Table) (k : ClassId) where
         let named = group_told T first.0 first.1 in
         by named.0 (subst (λ g. IsOf b (group_broken T k place g g)) named.1 first.2)
       where
-        by_ids : (x : List ℕ) (m n : MethodId) → IsNamed T x m → IsNamed T x n → is_member T k (group_named T x) m ≡ true
-            → IsOf b (broken_if (clash_at T k (group_named T x) (shape_of T (all_named T x) m) (shape_of T (all_named T x) n)) 801 (clash_place T k place m n)) → Clash
+        by_ids : (x : List ℕ) (m n : MethodId) → IsNamed T x m → IsNamed T x n → is_member T k (shape_of T (all_named T x) m) ≡ true
+            → IsOf b (broken_if (clash_at T k (shape_of T (all_named T x) m) (shape_of T (all_named T x) n)) 801 (clash_place T k place m n)) → Clash
         by_ids x m n hm hn e found =
             let group = group_named T x in
             let ids = all_named T x in
-            let member = and_both (belongs T k m) (not (is_replaced T k group m)) e in
+            let member = and_both (belongs T k m) (not (is_replaced T k (shape_of T ids m))) e in
             let v = belongs_has m hm.within member.0 in
-            let w = belongs_has n hn.within (beyond x m n (broken_true b (clash_at T k group (shape_of T ids m) (shape_of T ids n)) 801 (clash_place T k place m n) found)) in
+            let w = belongs_has n hn.within (beyond x m n (broken_true b (clash_at T k (shape_of T ids m) (shape_of T ids n)) 801 (clash_place T k place m n) found)) in
             let ev : method_name_of T v.view.id ≡ x = ap (method_name_of T) v.is ∙ hm.name in
             let ew : method_name_of T w.view.id ≡ x = ap (method_name_of T) w.is ∙ hn.name in
-            let out : replaced T v.view every ≡ false = replaced_there x v.view v.has ev ∙ ap (is_replaced T k group) v.is ∙ not_false (is_replaced T k group m) member.1 in
+            let out : replaced T v.view every ≡ false = replaced_there x v.view v.has ev ∙ ap (λ i. is_replaced T k (shape_of T ids i)) v.is ∙ not_false (is_replaced T k (shape_of T ids m)) member.1 in
             record {
               one = v.view;
               other = w.view;
               member = without_in every every v.view (of_has v.view v.has) out;
               has = of_has w.view w.has;
               broken = subst (λ c. IsOf b (broken_if c 801 (clash_place T k place v.view.id w.view.id))) (clash_told x v.view w.view v.has w.has ev ew)
-                  (subst (λ i. IsOf b (broken_if (clash_at T k group (shape_of T ids v.view.id) (shape_of T ids i)) 801 (clash_place T k place v.view.id i))) (sym w.is)
-                  (subst (λ i. IsOf b (broken_if (clash_at T k group (shape_of T ids i) (shape_of T ids n)) 801 (clash_place T k place i n))) (sym v.is) found));
+                  (subst (λ i. IsOf b (broken_if (clash_at T k (shape_of T ids v.view.id) (shape_of T ids i)) 801 (clash_place T k place v.view.id i))) (sym w.is)
+                  (subst (λ i. IsOf b (broken_if (clash_at T k (shape_of T ids i) (shape_of T ids n)) 801 (clash_place T k place i n))) (sym v.is) found));
             }
 
         by : (x : List ℕ) → IsOf b (group_broken T k place (group_named T x) (group_named T x)) → Clash
@@ -502,8 +500,8 @@ module _ (T : Table) (k : ClassId) where
             let third = beside_of group (shape_of T ids m) group at.1 in
             let u = of_shape T ids third.0 ids third.1 in
             let n = u.0 in
-            let found : IsOf b (broken_if (clash_at T k group (shape_of T ids m) (shape_of T ids n)) 801 (clash_place T k place m n)) =
-            subst (λ (z : Shape). IsOf b (broken_if (clash_at T k group (shape_of T ids m) z) 801 (clash_place T k place m z.id))) u.2 third.2 in
+            let found : IsOf b (broken_if (clash_at T k (shape_of T ids m) (shape_of T ids n)) 801 (clash_place T k place m n)) =
+            subst (λ (z : Shape). IsOf b (broken_if (clash_at T k (shape_of T ids m) z) 801 (clash_place T k place m z.id))) u.2 third.2 in
             by_ids x m n (named_in T x m s.1) (named_in T x n u.1) at.0 found
 
     -- .. and each is found
@@ -520,9 +518,9 @@ module _ (T : Table) (k : ClassId) where
         let hard : plain_name T x ≡ false = is_false (plain_name T x) (λ e. plain_clear x e v w hv hw refl ew clash) in
         let ids = all_named T x in
         let group = group_named T x in
-        let member : is_member T k group v.id ≡ true =
-        and_true (belongs T k v.id) (not (is_replaced T k group v.id)) (has_belongs v hv) (ap not (sym (replaced_there x v hv refl) ∙ inside.1)) in
-        let found : IsOf b (broken_if (clash_at T k group (shape_of T ids v.id) (shape_of T ids w.id)) 801 (clash_place T k place v.id w.id)) =
+        let member : is_member T k (shape_of T ids v.id) ≡ true =
+        and_true (belongs T k v.id) (not (is_replaced T k (shape_of T ids v.id))) (has_belongs v hv) (ap not (sym (replaced_there x v hv refl) ∙ inside.1)) in
+        let found : IsOf b (broken_if (clash_at T k (shape_of T ids v.id) (shape_of T ids w.id)) 801 (clash_place T k place v.id w.id)) =
         subst (λ c. IsOf b (broken_if c 801 (clash_place T k place v.id w.id))) (sym (clash_told x v w hv hw refl ew)) h.broken in
         of_groups group (groups T) (group_in T x v.id (named x v hv refl) hard)
         (of_group group (shape_of T ids v.id) group (shape_in T ids v.id ids (in_named T x v.id (named x v hv refl)))

@@ -22,48 +22,41 @@ use Rattle.jc_clashes.specs.declared.shapes.Shape.{Shape}
 abbrev pub belongs : Table → ClassId → MethodId → Bool
 belongs T k m = is_method T m && (same_class k (owner T m) || is_inheritable T k m) && has_method T (own_type T k) m
 
-abbrev pub is_listed : MethodId → List MethodId → Bool
-is_listed m ids = list_any (λ (n : MethodId). n.0 == m.0) ids
+-- one that the class has overrides or hides this method
+abbrev pub is_replaced : Table → ClassId → Shape → Bool
+is_replaced T k s = list_any (belongs T k) s.above
 
-abbrev pub replaces_there : Table → ClassId → MethodId → Shape → Bool
-replaces_there T k m s = is_listed m s.below && belongs T k s.id
-
--- one of these that the class has overrides or hides method m
-abbrev pub is_replaced : Table → ClassId → List Shape → MethodId → Bool
-is_replaced T k all m = list_any (replaces_there T k m) all
-
--- method m is a member of the class
-abbrev pub is_member : Table → ClassId → List Shape → MethodId → Bool
-is_member T k all m = belongs T k m && not (is_replaced T k all m)
+-- the method is a member of the class
+abbrev pub is_member : Table → ClassId → Shape → Bool
+is_member T k s = belongs T k s.id && not (is_replaced T k s)
 
 abbrev pub share_some : List (List Ty) → List (List Ty) → Bool
 share_some es fs = list_any (λ e. list_any (same_all e) fs) es
 
--- of two inherited members b stands in a's place
-abbrev pub settles : Table → ClassId → List Shape → MethodView → MethodView → Bool
-settles T k all a b =
-    not (same_class (owner T a.id) k) && not (is_replaced T k all b.id) && subsignature T b a && (not (with_body T a) || with_body T b)
+-- of two inherited members b, whose shape is u, stands in a's place
+abbrev pub settles : Table → ClassId → Shape → MethodView → MethodView → Bool
+settles T k u a b = not (same_class (owner T a.id) k) && not (is_replaced T k u) && subsignature T b a && (not (with_body T a) || with_body T b)
 
-abbrev pub views_clash : Table → ClassId → List Shape → Option MethodView → Option MethodView → Bool
-views_clash T k all (Some a) (Some b) = not (subsignature T a b) && not (settles T k all a b)
-views_clash T k all _ _ = false
+abbrev pub views_clash : Table → ClassId → Shape → Option MethodView → Option MethodView → Bool
+views_clash T k u (Some a) (Some b) = not (subsignature T a b) && not (settles T k u a b)
+views_clash T k u _ _ = false
 
 -- a member of the class, and another method that it has
-unfoldable pub clash_at : Table → ClassId → List Shape → Shape → Shape → Bool
-clash_at T k all s u =
-    not (s.id.0 == u.id.0) && share_some s.erasures u.erasures && belongs T k u.id && views_clash T k all (class_view T k s.id) (class_view T k u.id)
+unfoldable pub clash_at : Table → ClassId → Shape → Shape → Bool
+clash_at T k s u =
+    not (s.id.0 == u.id.0) && share_some s.erasures u.erasures && belongs T k u.id && views_clash T k u (class_view T k s.id) (class_view T k u.id)
 
 -- a member beside another method
-abbrev pub pair_broken : Table → ClassId → Place → List Shape → Shape → Shape → List Refusal
-pair_broken T k place all s u = broken_if (clash_at T k all s u) 801 (clash_place T k place s.id u.id)
+abbrev pub pair_broken : Table → ClassId → Place → Shape → Shape → List Refusal
+pair_broken T k place s u = broken_if (clash_at T k s u) 801 (clash_place T k place s.id u.id)
 
 -- .. and beside each of these
-abbrev pub beside_broken : Table → ClassId → Place → List Shape → Shape → List Shape → List Refusal
-beside_broken T k place all s [] = []
-beside_broken T k place all s (u ∷ us) = pair_broken T k place all s u ++ beside_broken T k place all s us
+abbrev pub beside_broken : Table → ClassId → Place → Shape → List Shape → List Refusal
+beside_broken T k place s [] = []
+beside_broken T k place s (u ∷ us) = pair_broken T k place s u ++ beside_broken T k place s us
 
 abbrev pub member_broken : Table → ClassId → Place → List Shape → Shape → List Refusal
-member_broken T k place all s = cond (is_member T k all s.id) (beside_broken T k place all s all) []
+member_broken T k place all s = cond (is_member T k s) (beside_broken T k place s all) []
 
 abbrev pub group_broken : Table → ClassId → Place → List Shape → List Shape → List Refusal
 group_broken T k place all [] = []

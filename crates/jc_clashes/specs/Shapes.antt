@@ -1,5 +1,6 @@
 -- The methods of a name, with what erasures tell of them.
 use Rattle.std.specs.Prelude.{◌≡◌, ℕ, zero, suc, ◌==◌, Bool, true, false, not, ◌&&◌, cond, List, [], ◌∷◌, ◌++◌, length}
+use Rattle.std.specs.List.{list_any}
 use Rattle.jc_types.specs.declared.form.Ty.{Ty}
 use Rattle.jc_types.specs.declared.ids.MethodId.{MethodId}
 use Rattle.jc_types.specs.declared.ids.VarId.{VarId}
@@ -33,6 +34,15 @@ abbrev pub belows_of : Table → List MethodId → List MethodId → List (List 
 belows_of T all [] = []
 belows_of T all (m ∷ ms) = below_in T m all ∷ belows_of T all ms
 
+abbrev pub is_listed : MethodId → List MethodId → Bool
+is_listed m ids = list_any (λ (n : MethodId). n.0 == m.0) ids
+
+-- of these methods, beside what each overrides or hides, those that override or hide method m
+abbrev pub above_at : MethodId → List MethodId → List (List MethodId) → List MethodId
+above_at m [] belows = []
+above_at m (j ∷ js) [] = []
+above_at m (j ∷ js) (below ∷ belows) = cond (is_listed m below) (j ∷ []) [] ++ above_at m js belows
+
 -- the erased parameters of m, and of those that it overrides or hides, directly or indirectly
 abbrev pub erasures_in : Table → MethodId → List MethodId → List (List Ty)
 erasures_in T m [] = []
@@ -45,7 +55,7 @@ erasures_at T (j ∷ js) [] = []
 erasures_at T (j ∷ js) (b ∷ bs) = cond b (erased_params T j ∷ []) [] ++ erasures_at T js bs
 
 abbrev pub shape_of : Table → List MethodId → MethodId → Shape
-shape_of T all m = record { id = m; below = below_in T m all; erasures = erasures_in T m all }
+shape_of T all m = record { id = m; above = above_at m all (belows_of T all all); erasures = erasures_in T m all }
 
 abbrev pub shapes_of : Table → List MethodId → List MethodId → List Shape
 shapes_of T all [] = []

@@ -7,7 +7,7 @@ ghost use Rattle.jc_overriding.specs.Signatures.{same_all};
 ghost use Rattle.jc_overriding.specs.Viewing.{class_view, own_type};
 ghost use Rattle.jc_members.specs.Listing.{has_method};
 ghost use Rattle.jc_members.specs.Supertypes.{IsSupertypes};
-ghost use Rattle.jc_clashes.specs.Clashing.{belongs, beside_broken, clash_at, group_broken, groups_broken, is_listed, is_member, is_replaced, member_broken, pair_broken, replaces_there, settles, share_some, views_clash};
+ghost use Rattle.jc_clashes.specs.Clashing.{belongs, beside_broken, clash_at, group_broken, groups_broken, is_member, is_replaced, member_broken, pair_broken, settles, share_some, views_clash};
 
 use crate::places::clash_place;
 use crate::shapes::Shape;
@@ -56,53 +56,21 @@ fn belongs(
     has_method(alloc, table, above, m)
 }
 
-fn is_listed(m: MethodId, ids: &[MethodId]) -> bool
-    ensures { result ≡ is_listed m ids.now }
-{
-    let mut rest = ids;
-    while let [n, more @ ..] = rest {
-        if n.0 == m.0 {
-            return true;
-        }
-        rest = more;
-    }
-    false
-}
-
-fn replaces_there(
-    alloc: Global,
-    table: &Table,
-    above: &Supertypes,
-    k: ClassId,
-    m: MethodId,
-    s: &Shape,
-) -> Result<bool, WantOfMemory>
-    requires known { IsSupertypes table.now above.now }
-    requires own { above.now.of ≡ own_type table.now k }
-    ensures { IfOk result (λ r. r ≡ replaces_there table.now k m s.now) }
-{
-    if !is_listed(m, s.below.slice()) {
-        return Ok(false);
-    }
-    belongs(alloc, table, above, k, s.id)
-}
-
-// Whether one of these that the class has overrides or hides method m.
+// Whether one that the class has overrides or hides this method.
 fn is_replaced(
     alloc: Global,
     table: &Table,
     above: &Supertypes,
     k: ClassId,
-    all: &[Shape],
-    m: MethodId,
+    s: &Shape,
 ) -> Result<bool, WantOfMemory>
     requires known { IsSupertypes table.now above.now }
     requires own { above.now.of ≡ own_type table.now k }
-    ensures { IfOk result (λ r. r ≡ is_replaced table.now k all.now m) }
+    ensures { IfOk result (λ r. r ≡ is_replaced table.now k s.now) }
 {
-    let mut rest = all;
-    while let [s, more @ ..] = rest {
-        if replaces_there(alloc, table, above, k, m, s)? {
+    let mut rest = s.above.slice();
+    while let [m, more @ ..] = rest {
+        if belongs(alloc, table, above, k, *m)? {
             return Ok(true);
         }
         rest = more;
@@ -115,17 +83,16 @@ fn is_member(
     table: &Table,
     above: &Supertypes,
     k: ClassId,
-    all: &[Shape],
-    m: MethodId,
+    s: &Shape,
 ) -> Result<bool, WantOfMemory>
     requires known { IsSupertypes table.now above.now }
     requires own { above.now.of ≡ own_type table.now k }
-    ensures { IfOk result (λ r. r ≡ is_member table.now k all.now m) }
+    ensures { IfOk result (λ r. r ≡ is_member table.now k s.now) }
 {
-    if !belongs(alloc, table, above, k, m)? {
+    if !belongs(alloc, table, above, k, s.id)? {
         return Ok(false);
     }
-    let replaced = is_replaced(alloc, table, above, k, all, m)?;
+    let replaced = is_replaced(alloc, table, above, k, s)?;
     Ok(!replaced)
 }
 
@@ -157,24 +124,24 @@ fn share_some(es: &[Items<Ty>], fs: &[Items<Ty>]) -> bool
     false
 }
 
-// Whether of two inherited members b stands in a's place.
+// Whether of two inherited members b, whose shape is u, stands in a's place.
 fn settles(
     alloc: Global,
     table: &Table,
     above: &Supertypes,
     k: ClassId,
-    all: &[Shape],
+    u: &Shape,
     a: &MethodView,
     b: &MethodView,
 ) -> Result<bool, WantOfMemory>
     requires known { IsSupertypes table.now above.now }
     requires own { above.now.of ≡ own_type table.now k }
-    ensures { IfOk result (λ r. r ≡ settles table.now k all.now a.now b.now) }
+    ensures { IfOk result (λ r. r ≡ settles table.now k u.now a.now b.now) }
 {
     if same_class(owner(table, a.id), k) {
         return Ok(false);
     }
-    if is_replaced(alloc, table, above, k, all, b.id)? {
+    if is_replaced(alloc, table, above, k, u)? {
         return Ok(false);
     }
     if !subsignature(alloc, table, b, a)? {
@@ -188,18 +155,18 @@ fn both_clash(
     table: &Table,
     above: &Supertypes,
     k: ClassId,
-    all: &[Shape],
+    u: &Shape,
     a: &MethodView,
     b: &MethodView,
 ) -> Result<bool, WantOfMemory>
     requires known { IsSupertypes table.now above.now }
     requires own { above.now.of ≡ own_type table.now k }
-    ensures { IfOk result (λ r. r ≡ views_clash table.now k all.now (Some a.now) (Some b.now)) }
+    ensures { IfOk result (λ r. r ≡ views_clash table.now k u.now (Some a.now) (Some b.now)) }
 {
     if subsignature(alloc, table, a, b)? {
         return Ok(false);
     }
-    let settled = settles(alloc, table, above, k, all, a, b)?;
+    let settled = settles(alloc, table, above, k, u, a, b)?;
     Ok(!settled)
 }
 
@@ -208,19 +175,19 @@ fn views_clash(
     table: &Table,
     above: &Supertypes,
     k: ClassId,
-    all: &[Shape],
+    u: &Shape,
     a: Option<&MethodView>,
     b: Option<&MethodView>,
 ) -> Result<bool, WantOfMemory>
     requires known { IsSupertypes table.now above.now }
     requires own { above.now.of ≡ own_type table.now k }
-    ensures { IfOk result (λ r. r ≡ views_clash table.now k all.now (option_copied a.entry) (option_copied b.entry)) }
+    ensures { IfOk result (λ r. r ≡ views_clash table.now k u.now (option_copied a.entry) (option_copied b.entry)) }
 {
     match a {
         None => Ok(false),
         Some(a) => match b {
             None => Ok(false),
-            Some(b) => both_clash(alloc, table, above, k, all, a, b),
+            Some(b) => both_clash(alloc, table, above, k, u, a, b),
         },
     }
 }
@@ -232,7 +199,6 @@ fn clash_at(
     table: &Table,
     above: &Supertypes,
     k: ClassId,
-    all: &[Shape],
     s: &Shape,
     a: Option<&MethodView>,
     u: &Shape,
@@ -240,7 +206,7 @@ fn clash_at(
     requires known { IsSupertypes table.now above.now }
     requires own { above.now.of ≡ own_type table.now k }
     requires is { option_copied a ≡ class_view table.now k s.now.id }
-    ensures { IfOk result (λ r. r ≡ clash_at table.now k all.now s.now u.now) }
+    ensures { IfOk result (λ r. r ≡ clash_at table.now k s.now u.now) }
 {
     if s.id.0 == u.id.0 || !share_some(s.erasures.slice(), u.erasures.slice()) {
         return Ok(false);
@@ -249,7 +215,7 @@ fn clash_at(
         return Ok(false);
     }
     let b = method_in(alloc, table, above, u.id)?;
-    views_clash(alloc, table, above, k, all, a, b.as_ref())
+    views_clash(alloc, table, above, k, u, a, b.as_ref())
 }
 
 // What a member breaks beside another method.
@@ -260,7 +226,6 @@ fn pair_broken(
     above: &Supertypes,
     k: ClassId,
     place: Place,
-    all: &[Shape],
     s: &Shape,
     a: Option<&MethodView>,
     u: &Shape,
@@ -268,9 +233,9 @@ fn pair_broken(
     requires known { IsSupertypes table.now above.now }
     requires own { above.now.of ≡ own_type table.now k }
     requires is { option_copied a ≡ class_view table.now k s.now.id }
-    ensures { IfOk result (λ r. r ≡ least found (pair_broken table.now k place all.now s.now u.now)) }
+    ensures { IfOk result (λ r. r ≡ least found (pair_broken table.now k place s.now u.now)) }
 {
-    let clashes = clash_at(alloc, table, above, k, all, s, a, u)?;
+    let clashes = clash_at(alloc, table, above, k, s, a, u)?;
     let at = clash_place(table, k, place, s.id, u.id);
     Ok(if_broken(found, clashes, Rule::known(801), at))
 }
@@ -290,12 +255,12 @@ fn beside_broken(
     requires known { IsSupertypes table.now above.now }
     requires own { above.now.of ≡ own_type table.now k }
     requires is { option_copied a ≡ class_view table.now k s.now.id }
-    ensures { IfOk result (λ r. r ≡ least found (beside_broken table.now k place all.now s.now all.now)) }
+    ensures { IfOk result (λ r. r ≡ least found (beside_broken table.now k place s.now all.now)) }
 {
     let mut found = found;
     let mut rest = all;
     while let [u, more @ ..] = rest {
-        found = pair_broken(alloc, table, found, above, k, place, all, s, a, u)?;
+        found = pair_broken(alloc, table, found, above, k, place, s, a, u)?;
         rest = more;
     }
     Ok(found)
@@ -315,7 +280,7 @@ fn member_broken(
     requires own { above.now.of ≡ own_type table.now k }
     ensures { IfOk result (λ r. r ≡ least found (member_broken table.now k place all.now s.now)) }
 {
-    if !is_member(alloc, table, above, k, all, s.id)? {
+    if !is_member(alloc, table, above, k, s)? {
         return Ok(found);
     }
     let a = method_in(alloc, table, above, s.id)?;

@@ -6,7 +6,7 @@ ghost use Rattle.jc_overriding.specs.Viewing.{class_view, own_type};
 ghost use Rattle.jc_header_rules.specs.Clashes.{erased_params};
 ghost use Rattle.jc_members.specs.Named.{IsMethodIndex};
 ghost use Rattle.jc_members.specs.Supertypes.{IsSupertypes};
-ghost use Rattle.jc_clashes.specs.Shapes.{AreOfName, all_plain, below_in, belows_of, erasures_at, erasures_in, group_of, groups, has_none, is_plain, leads, shapes_of};
+ghost use Rattle.jc_clashes.specs.Shapes.{AreOfName, above_at, all_plain, below_in, belows_of, erasures_at, erasures_in, group_of, groups, has_none, is_listed, is_plain, leads, shapes_of};
 
 use crate::walking::walked;
 use jc_members::{
@@ -17,12 +17,12 @@ use jc_rules::{Items, WantOfMemory};
 use jc_types::{MethodId, Table, Ty, VarId, method_name, method_params, method_vars};
 use std::alloc::Global;
 
-/// A method beside those of its name: which of them it overrides or hides, and the erased parameters of itself and of all that it overrides or hides,
+/// A method beside those of its name: which of them override or hide it, and the erased parameters of itself and of all that it overrides or hides,
 /// directly or indirectly.
 #[derive(Drop)]
 pub struct Shape {
     pub id: MethodId,
-    pub below: Items<MethodId>,
+    pub above: Items<MethodId>,
     pub erasures: Items<Items<Ty>>,
 }
 
@@ -126,6 +126,46 @@ fn belows_of(
     Ok(out)
 }
 
+fn is_listed(m: MethodId, ids: &[MethodId]) -> bool
+    ensures { result ≡ is_listed m ids.now }
+{
+    let mut rest = ids;
+    while let [n, more @ ..] = rest {
+        if n.0 == m.0 {
+            return true;
+        }
+        rest = more;
+    }
+    false
+}
+
+// Of these methods, beside what each overrides or hides, those that override or hide method m.
+fn above_at(
+    alloc: Global,
+    m: MethodId,
+    ids: &[MethodId],
+    belows: &[Items<MethodId>],
+) -> Result<Items<MethodId>, WantOfMemory>
+    ensures { IfOk result (λ r. r ≡ above_at m ids.now belows.now) }
+{
+    let mut out = Items::new(alloc);
+    let mut rest = ids;
+    let mut left = belows;
+    while let [j, more @ ..] = rest {
+        match left {
+            [] => return Ok(out),
+            [below, others @ ..] => {
+                if is_listed(m, below.slice()) {
+                    out.push(*j)?;
+                }
+                left = others;
+            }
+        }
+        rest = more;
+    }
+    Ok(out)
+}
+
 // The erased parameters of the marked ones of these methods.
 fn erasures_at(
     alloc: Global,
@@ -177,19 +217,12 @@ fn shapes_of(alloc: Global, table: &Table, all: &[MethodId]) -> Result<Items<Sha
     let belows = belows_of(alloc, table, all)?;
     let mut out = Items::new(alloc);
     let mut rest = all;
-    let mut left = belows.slice();
     while let [m, more @ ..] = rest {
-        match left {
-            [] => return Ok(out),
-            [below, others @ ..] => {
-                out.push(Shape {
-                    id: *m,
-                    below: Items::of(Vec::from_slice(alloc, below.slice())?),
-                    erasures: erasures_in(alloc, table, all, belows.slice(), *m)?,
-                })?;
-                left = others;
-            }
-        }
+        out.push(Shape {
+            id: *m,
+            above: above_at(alloc, *m, all, belows.slice())?,
+            erasures: erasures_in(alloc, table, all, belows.slice(), *m)?,
+        })?;
         rest = more;
     }
     Ok(out)

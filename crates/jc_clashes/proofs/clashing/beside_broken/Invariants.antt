@@ -4,7 +4,7 @@ use Rattle.jc_clashes.specs.Clashing.{beside_broken}
 use Rattle.jc_clashes.proofs.clashing.beside_broken.Given as goal
 
 abbrev pub invariant-loop-rest : goal.invariant-loop-rest
-invariant-loop-rest l = least l.found (beside_broken l.table l.k l.place l.all l.s l.rest) ≡ least l.fn.found (beside_broken l.table l.k l.place l.all l.s l.fn.all)
+invariant-loop-rest l = least l.found (beside_broken l.table l.k l.place l.s l.rest) ≡ least l.fn.found (beside_broken l.table l.k l.place l.s l.fn.all)
 
 abbrev pub decreases-loop-rest : goal.decreases-loop-rest
 decreases-loop-rest l = length l.rest
