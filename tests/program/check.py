@@ -2,7 +2,7 @@
 """check.py JAVAG: the program as a user calls it: statuses, last lines, which stream gets what, folders and devices that fail.
 
 What is expected stands in README.md: the exit statuses, and the lines that go to the stream of errors."""
-import os, subprocess, sys, tempfile
+import os, resource, subprocess, sys, tempfile
 
 HI = "class Main { public static void main(String[] args) { System.out.write(70 + 2); System.out.write(105); } }"
 USAGE = "javag: usage: javag [--out DIR] [--run CLASS] [--steps N] FILE.java ... [ARGUMENT ...]\n"
@@ -68,6 +68,16 @@ def devices(program):
         yield "a full device for errors", (run.returncode, run.stdout) == (3, b"")
 
 
+def memory(program):
+    """A job that wants some 80 MB, where half of that may be taken: the line is put without memory."""
+    methods = "".join(f" int m{number}(int it) {{ return it; }}\n" for number in range(50))
+    heads = ["class Main {"] + [f"class Main{number} extends Main{number - 1 or ''} {{" for number in range(1, 300)]
+    limit = 40 << 20
+    run = subprocess.run([program, "Main.java"], cwd=fresh("".join(f"{head}\n{methods}}}\n" for head in heads)), stdin=subprocess.DEVNULL, timeout=100,
+                         stdout=subprocess.PIPE, stderr=subprocess.PIPE, preexec_fn=lambda: resource.setrlimit(resource.RLIMIT_AS, (limit, limit)))
+    yield "want of memory", (run.returncode, run.stdout, run.stderr) == (5, b"", b"javag: out of memory\n")
+
+
 def long_source(program):
     run = piped(program, ["--run", "Main", "Main.java"], fresh("/*" + " " * (3 << 20) + "*/" + HI))
     yield "a source of 3 MiB", (run.returncode, run.stdout, run.stderr) == (0, b"Hi", b"")
@@ -75,7 +85,7 @@ def long_source(program):
 
 def main():
     program = os.path.abspath(sys.argv[1])
-    done = [it for group in (calls, class_files, devices, long_source) for it in group(program)]
+    done = [it for group in (calls, class_files, devices, memory, long_source) for it in group(program)]
     failed = [name for name, passed in done if not passed]
     print(f"the program: {len(done) - len(failed)} calls passed, {len(failed)} failed")
     print(*failed, sep="\n", end="\n" if failed else "")
