@@ -14,11 +14,12 @@ use Rattle.jc_overriding.specs.Overriding.{candidates_from, inherits_in, is_cand
 use Rattle.jc_overriding.specs.Signatures.{override_equivalent, subsignature}
 use Rattle.jc_overriding.specs.Viewing.{Seeing, With, Raised, class_view, declared_view, is_static, own_type, seeing_of, view_of_method, view_of_owner, viewed_by, viewed_in}
 use Rattle.jc_judge.specs.Kinds.{class_of}
+use Rattle.jc_header_rules.specs.Checked.{IsAmong}
 use Rattle.jc_header_rules.specs.Clashes.{all_methods, headers_breaks}
 use Rattle.jc_header_rules.specs.Headers.{is_same_sort, method_breaks, pair_broken, repeats, replaces, replacing_broken, statics_meet}
 use Rattle.jc_header_rules.specs.Inheriting.{all_members, class_breaks, disagrees, fits_badly, meets, members_disagree}
 use Rattle.jc_header_rules.specs.Places.{broken_if, of_each}
-use Rattle.jc_header_laws.specs.Facts.{HasNoParameters, IsAmong, IsNumber, IsOwnOrMember, OneBody, OneDeclaration, OneSelected}
+use Rattle.jc_header_laws.specs.Facts.{HasNoParameters, IsNumber, IsOwnOrMember, OneBody, OneDeclaration, OneSelected}
 use Rattle.jc_header_laws.proofs.Fitting.{conflicting, disagreeing, generic, left_open, of_class, overriding_none, throwing_others, unsettled, without_body, first_one}
 use Rattle.jc_header_laws.proofs.Lists.{each_unbroken, fore, none_is, not_broken, rear}
 use Rattle.jc_header_laws.proofs.Owned.{declared_here}

@@ -9,11 +9,12 @@ use Rattle.jc_types.specs.Accessors.{method_name_of}
 use Rattle.jc_overriding.specs.declared.view.MethodView.{MethodView}
 use Rattle.jc_overriding.specs.Overriding.{remaining}
 use Rattle.jc_overriding.specs.Signatures.{subsignature}
+use Rattle.jc_header_rules.specs.Checked.{IsAmong}
 use Rattle.jc_header_rules.specs.Places.{broken_if}
 use Rattle.jc_header_rules.specs.Clashes.{all_methods, clash_place, clashes, clashes_breaks, clashes_in, erasures_meet, is_settled, members_broken, pairs_broken}
 use Rattle.jc_clashes.specs.Stage.{HasNoClash}
 use Rattle.jc_clashes.specs.Constructors.{constructors_breaks}
-use Rattle.jc_header_laws.specs.Facts.{ErasuresStand, IsAmong, IsNumber}
+use Rattle.jc_header_laws.specs.Facts.{ErasuresStand, IsNumber}
 use Rattle.jc_header_laws.proofs.Lists.{each_unbroken, fore, not_broken, rear}
 
 one_of : (x b y z m : Bool) → (not x && b && not y && not z && m) ≡ false → b ≡ true → m ≡ true → (x ≡ true) ⊎ ((y ≡ true) ⊎ (z ≡ true))

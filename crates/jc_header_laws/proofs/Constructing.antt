@@ -8,11 +8,12 @@ use Rattle.jc_types.specs.declared.ids.MethodId.{MethodId}
 use Rattle.jc_types.specs.declared.table.Table.{Table}
 use Rattle.jc_types.specs.Accessors.{method_place_of}
 use Rattle.jc_overriding.specs.Signatures.{same_all}
+use Rattle.jc_header_rules.specs.Checked.{IsAmong}
 use Rattle.jc_header_rules.specs.Clashes.{clashes_breaks, erased_params, place_or}
 use Rattle.jc_header_rules.specs.Places.{broken_if}
 use Rattle.jc_clashes.specs.Constructors.{constructors_breaks, constructors_from, constructors_in, is_constructor, is_repeated, with_erasure}
 use Rattle.jc_clashes.specs.Stage.{HasNoClash}
-use Rattle.jc_header_laws.specs.Facts.{ErasuresDiffer, IsAmong, IsNumber}
+use Rattle.jc_header_laws.specs.Facts.{ErasuresDiffer, IsNumber}
 use Rattle.jc_header_laws.proofs.Lists.{and_rest, each_unbroken, fore, none_is, not_broken, rear}
 
 among_left : {X : Type 0} (x : X) (xs ys : List X) → IsAmong x xs → IsAmong x (xs ++ ys)

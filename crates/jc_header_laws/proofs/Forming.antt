@@ -28,9 +28,10 @@ use Rattle.jc_judge.specs.Kinds.{Layer}
 use Rattle.jc_judge.specs.Trees.{both}
 use Rattle.jc_judge.specs.WellFormed.{bare, is_primitive_arg, lower_parts, upper_parts}
 use Rattle.jc_judge_laws.proofs.Decides.{formed_right}
+use Rattle.jc_header_rules.specs.Checked.{IsAmong}
 use Rattle.jc_header_rules.specs.Places.{broken_if, of_each, of_written}
 use Rattle.jc_header_rules.specs.Types.{bounds_broken, class_broken, depends_on_itself, class_types_broken, faults_broken, field_broken, has_wildcard_at, kind_broken, method_broken, supertype_broken, type_broken, types_breaks, types_broken, use_broken, variable_broken, written_broken}
-use Rattle.jc_header_laws.specs.Facts.{IsAmong, IsNumber, IsPair, IsThere, IsWritten}
+use Rattle.jc_header_laws.specs.Facts.{IsNumber, IsPair, IsThere, IsWritten}
 use Rattle.jc_header_laws.proofs.Lists.{each_unbroken, fore, not_broken, or_false, rear, some_number}
 
 less_one : {m n : ℕ} → suc m ≡ suc n → m ≡ n

@@ -16,6 +16,7 @@ use Rattle.jc_overriding.specs.Overriding.{is_above, is_inheritable, is_instance
 use Rattle.jc_overriding.specs.Overriding.{hides}
 use Rattle.jc_overriding.specs.Signatures.{subsignature}
 use Rattle.jc_overriding.specs.Viewing.{class_view, is_static, own_type, view_of_owner, viewed_in}
+use Rattle.jc_header_rules.specs.Checked.{IsAmong}
 use Rattle.jc_header_rules.specs.Clashes.{all_methods, erased_params, erasures_meet, is_among, is_settled, reaches, reaches_within}
 use Rattle.jc_header_rules.specs.Inheriting.{with_body}
 use Rattle.jc_members.specs.Below.{replaces}
@@ -27,7 +28,7 @@ use Rattle.jc_clashes.proofs.Lists.{In, and_both, and_true, is_false, is_self, n
 use Rattle.jc_clashes.proofs.Plain.{self_same}
 use Rattle.jc_clashes.proofs.Reaching.{here, in_more, reached_told, reaches_named, step}
 use Rattle.jc_clashes.proofs.Told.{View, belongs_has, has_of, in_replaced, of_has, viewed, without_in}
-use Rattle.jc_header_laws.specs.Facts.{ErasuresStand, IsAmong, IsNumber, OverridesBeyond, ReplacesReached, SignsReached}
+use Rattle.jc_header_laws.specs.Facts.{ErasuresStand, IsNumber, OverridesBeyond, ReplacesReached, SignsReached}
 use Rattle.jc_header_laws.proofs.Above.{Up, above_up, no_round, of_table, up_above, up_is_above, up_up, viewed_above}
 use Rattle.jc_header_laws.proofs.Clashing.{erasures_stand, of_methods}
 

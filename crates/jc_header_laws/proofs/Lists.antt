@@ -3,8 +3,9 @@ use Rattle.std.proofs.Common.{◌≡◌, ℕ, suc, Bool, true, false, not, ◌&&
 use Rattle.std.specs.List.{list_any}
 use Rattle.jc_rules.specs.declared.rule.Place.{Place}
 use Rattle.jc_rules.specs.declared.rule.Refusal.{Refusal}
+use Rattle.jc_header_rules.specs.Checked.{IsAmong}
 use Rattle.jc_header_rules.specs.Places.{broken_if, of_each}
-use Rattle.jc_header_laws.specs.Facts.{IsAmong, IsNumber}
+use Rattle.jc_header_laws.specs.Facts.{IsNumber}
 
 pub fore : {X : Type 0} (xs ys : List X) → xs ++ ys ≡ [] → xs ≡ []
 fore [] ys e = refl

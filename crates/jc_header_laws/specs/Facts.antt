@@ -21,6 +21,7 @@ use Rattle.jc_overriding.specs.declared.view.MethodView.{MethodView}
 use Rattle.jc_overriding.specs.Overriding.{access_of, is_inheritable, is_instance, overrides, owner, remaining, same_class, select, stands_for, is_abstract}
 use Rattle.jc_overriding.specs.Signatures.{adapted, erased_in, override_equivalent, same_all, subsignature}
 use Rattle.jc_overriding.specs.Viewing.{class_view, declared_view}
+use Rattle.jc_header_rules.specs.Checked.{IsAmong}
 use Rattle.jc_header_rules.specs.Clashes.{all_methods, erased_params, erasures_meet, is_settled, reaches}
 use Rattle.jc_header_rules.specs.Headers.{is_final, is_same_sort, is_weaker, replaces, throws_more}
 use Rattle.jc_header_rules.specs.Inheriting.{all_above, all_members, is_concrete, is_member_above}
@@ -31,10 +32,6 @@ use Rattle.jc_clashes.specs.Constructors.{is_constructor}
 abbrev pub IsNumber : {X : Type 0} → ℕ → ℕ → X → List X → Type 0
 IsNumber i n x [] = ⊥
 IsNumber i n x (y ∷ ys) = ((n ≡ i) × (x ≡ y)) ⊎ IsNumber (suc i) n x ys
-
-abbrev pub IsAmong : {X : Type 0} → X → List X → Type 0
-IsAmong x [] = ⊥
-IsAmong x (y ∷ ys) = (x ≡ y) ⊎ IsAmong x ys
 
 -- ---- written types
 

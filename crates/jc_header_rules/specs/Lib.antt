@@ -3,4 +3,5 @@ pub mod Types
 pub mod Results
 pub mod Headers
 pub mod Inheriting
+pub mod Checked
 pub mod Clashes

@@ -8,7 +8,8 @@ use Rattle.jc_types.specs.declared.ids.VarId.{VarId}
 use Rattle.jc_types.proofs.Sameness.{same_self}
 use Rattle.jc_lub.specs.Columns.{one_raw, or_any, column, all_same, upper_at, upper_of, with_upper, uppers, joined_uppers, joined, joined_from}
 use Rattle.jc_lub.specs.Uncaptured.{same_args, same_arg_at, args_of}
-use Rattle.jc_lub_laws.specs.Under.{IsAmong, IsIn, as_it_is, any, AllIn}
+use Rattle.jc_header_rules.specs.Checked.{IsAmong}
+use Rattle.jc_lub_laws.specs.Under.{IsIn, as_it_is, any, AllIn}
 
 pub both_first : (a b : Bool) → (a && b) ≡ true → a ≡ true
 both_first true b e = refl

@@ -10,7 +10,8 @@ use Rattle.jc_types.specs.Sameness.{same}
 use Rattle.jc_judge.specs.Kinds.{is_null}
 use Rattle.jc_lub.specs.Lubs.{depth, stripped, over}
 use Rattle.jc_lub.specs.Uncaptured.{object, args_of, up_view}
-use Rattle.jc_lub_laws.specs.Under.{IsAmong, IsUnder, itself, null, top, as_raw, as_class, parts, elements, AllIn}
+use Rattle.jc_header_rules.specs.Checked.{IsAmong}
+use Rattle.jc_lub_laws.specs.Under.{IsUnder, itself, null, top, as_raw, as_class, parts, elements, AllIn}
 
 pub data Beneath (T : Table) (env : List Bounds) (N : Ty → Type 0) (R : Ty → Ty → Type 0) : Ty → Ty → Type 0 where
   by_itself : (t u : Ty) → same t u ≡ true → Beneath T env N R t u

@@ -23,9 +23,9 @@ use Rattle.jc_meaning.specs.declared.frame.Binding.{Binding}
 use Rattle.jc_meaning.specs.Kept.{bound_to, close}
 use Rattle.jc_meaning.specs.Levels.{BelowAll, BelowAt, PrimitivesBelow, FitsOver, to_object, to_raw, to_class, to_primitives, to_array, to_meet, FitsAll, none, more, is_raw, is_raw_at, SoundOver}
 use Rattle.jc_meaning.proofs.Levels.{below_trans, below_smaller}
-use Rattle.jc_lub_laws.specs.Headers.{HasHeaders}
+use Rattle.jc_header_rules.specs.Checked.{IsAmong, HasHeaders}
 use Rattle.jc_lub_laws.specs.Standing.{Stand, IsOperand, OperandsAreBelow}
-use Rattle.jc_lub_laws.specs.Under.{IsAmong, IsIn, any, extending, AllIn}
+use Rattle.jc_lub_laws.specs.Under.{IsIn, any, extending, AllIn}
 use Rattle.jc_lub_laws.proofs.Beneath.{Beneath, by_itself, by_null, by_top, by_raw, by_class, by_parts, by_elements}
 use Rattle.jc_lub_laws.proofs.Closing.{close_arg, closing, close_variable, close_captured, inner, element_over}
 use Rattle.jc_lub_laws.proofs.Homs.{hom_over}

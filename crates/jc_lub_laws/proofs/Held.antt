@@ -18,8 +18,8 @@ use Rattle.jc_meaning.specs.declared.frame.Binding.{Binding}
 use Rattle.jc_meaning.specs.Kept.{close}
 use Rattle.jc_meaning.specs.Levels.{Holds_at, AllHeld, BelowAt}
 use Rattle.jc_meaning.proofs.Levels.{below_trans}
-use Rattle.jc_lub_laws.specs.Headers.{IsOver}
-use Rattle.jc_lub_laws.specs.Under.{IsAmong, IsIn, as_it_is, any, extending, AllIn}
+use Rattle.jc_header_rules.specs.Checked.{IsAmong, IsOver}
+use Rattle.jc_lub_laws.specs.Under.{IsIn, as_it_is, any, extending, AllIn}
 use Rattle.jc_lub_laws.proofs.Closing.{close_arg, closing}
 use Rattle.jc_lub_laws.proofs.Homs.{Hom, substitution, composed, agree_on, narrow, over_along}
 use Rattle.jc_lub_laws.proofs.Layers.{as_exact, as_any, as_extends, as_super, as_variable}

@@ -10,7 +10,7 @@ use Rattle.jc_types.specs.declared.ids.VarId.{VarId}
 use Rattle.jc_types.specs.Arrays.{array_over}
 use Rattle.jc_types.specs.Substitution.{subst, subst_arg}
 use Rattle.jc_types.proofs.Substituted.{subst-Prim, subst-Class, subst-Raw, subst-Array, subst-Meet, subst-NullTy, subst_arg-Exact, subst_arg-Any, subst_arg-Extends, subst_arg-Super}
-use Rattle.jc_lub_laws.specs.Headers.{IsOver, over_primitive, over_class, over_raw, over_array, over_variable, over_meet, over_null, AreOver, none, more, AreArgsOver, no_args, exact, any, extends, super}
+use Rattle.jc_header_rules.specs.Checked.{IsOver, over_primitive, over_class, over_raw, over_array, over_variable, over_meet, over_null, AreOver, none, more, AreArgsOver, no_args, exact, any, extends, super}
 use Rattle.jc_lub_laws.proofs.Layers.{as_prim, as_class_type, as_raw_type, as_array, as_variable, as_meet, as_null, as_exact, as_any, as_extends, as_super, class_parts, meet_parts, exact_parts, extends_parts, super_parts, Dimensions, on_array, on_other, dimensions, array_twice, array_over_same}
 
 pub record Hom (g : Ty → Ty) (h : Arg → Arg) : Type 0 where

@@ -16,7 +16,8 @@ use Rattle.jc_judge.specs.Meeting.{as_one}
 use Rattle.jc_lub.specs.Columns.{one_raw, upper_of, joined_from, joined_views}
 use Rattle.jc_lub.specs.Lubs.{all_same_types, numbers_from, is_above_all, common, least_class, least_interface, candidates, if_there, views, joined_at, by_supers, depth, shared_with, shared, stripped, unless_same, not_null, arrays_and_supers, through, join}
 use Rattle.jc_lub.specs.Uncaptured.{args_of, up_view}
-use Rattle.jc_lub_laws.specs.Under.{IsAmong, IsIn, any, extending, IsUnderWithin, OperandsAreUnder}
+use Rattle.jc_header_rules.specs.Checked.{IsAmong}
+use Rattle.jc_lub_laws.specs.Under.{IsIn, any, extending, IsUnderWithin, OperandsAreUnder}
 use Rattle.jc_lub_laws.proofs.Lists.{among_map, of_map, among_parts, passed, kept}
 use Rattle.jc_lub_laws.proofs.Arguments.{both_first, both_second, AreBounded, all_in, as_many}
 use Rattle.jc_lub_laws.proofs.Beneath.{Beneath, by_itself, by_null, by_top, by_raw, by_class, by_parts, by_elements, forget}

@@ -11,10 +11,9 @@ use Rattle.jc_judge.specs.Kinds.{class_of}
 use Rattle.jc_judge.specs.Supers.{IsIn, IsSuper, Path}
 use Rattle.jc_judge.specs.Views.{supers}
 use Rattle.jc_judge.proofs.ShortPaths.{path_is_short}
+use Rattle.jc_header_rules.specs.Checked.{IsAmong, HasHeaders}
 use Rattle.jc_header_rules.specs.Inheriting.{with_above, above_within}
 use Rattle.jc_sub.specs.Reaching.{own_arg}
-use Rattle.jc_lub_laws.specs.Headers.{HasHeaders}
-use Rattle.jc_lub_laws.specs.Under.{IsAmong}
 use Rattle.jc_lub_laws.proofs.Viewed.{up_of}
 
 -- a supertype of a type, itself included

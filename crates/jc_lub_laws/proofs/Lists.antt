@@ -2,7 +2,7 @@
 use Rattle.std.proofs.Common.{◌≡◌, ◌⊎◌, inl, inr, Bool, true, false, List, [], ◌∷◌, ◌++◌, map, refl, sym, ap, subst, ◌∙◌}
 use Rattle.std.specs.Prelude.{cond}
 use Rattle.std.specs.List.{filter}
-use Rattle.jc_lub_laws.specs.Under.{IsAmong}
+use Rattle.jc_header_rules.specs.Checked.{IsAmong}
 
 pub among_map : {X Y : Type 0} (g : X → Y) (x : X) (xs : List X) → IsAmong x xs → IsAmong (g x) (map g xs)
 among_map g x [] o = absurd o

@@ -23,9 +23,9 @@ use Rattle.jc_lub.specs.Uncaptured.{args_at, args_of, all_passed, class_view, fi
 use Rattle.jc_meaning.specs.declared.frame.Binding.{Binding}
 use Rattle.jc_meaning.specs.Kept.{bound_to, close}
 use Rattle.jc_meaning.specs.Levels.{BelowAll, BelowAt, Views, AllHeld, FitsOver, to_object, to_raw, to_class, to_primitives, to_array, to_meet, FitsAll, more, is_raw, is_raw_at, SoundOver, sound_class, sound_array}
-use Rattle.jc_lub_laws.specs.Headers.{IsOver, over_class, over_primitive, over_raw, over_array, over_variable, over_meet, over_null, AreArgsOver, no_args, exact, any, extends, super, IsSupertype, with_arguments, without, HasHeaders}
+use Rattle.jc_header_rules.specs.Checked.{IsAmong, IsOver, over_class, over_primitive, over_raw, over_array, over_variable, over_meet, over_null, AreArgsOver, no_args, exact, any, extends, super, IsSupertype, with_arguments, without, HasHeaders}
 use Rattle.jc_lub_laws.specs.Standing.{Stand}
-use Rattle.jc_lub_laws.specs.Under.{IsAmong, AllIn}
+use Rattle.jc_lub_laws.specs.Under.{AllIn}
 use Rattle.jc_lub_laws.proofs.Closing.{close_arg, closing, close_variable, close_captured}
 use Rattle.jc_lub_laws.proofs.Held.{exact_held, passed_held}
 use Rattle.jc_lub_laws.proofs.Homs.{substitution, put_over}

@@ -18,8 +18,7 @@ use Rattle.jc_judge.specs.Supers.{IsIn, IsAbove}
 use Rattle.jc_judge.specs.Views.{exacts, exact_at, erased, erased_at, class_supers, supers, supers_at, or_else, first_of, is_class, view_within, view}
 use Rattle.jc_judge.proofs.Finds.{views_found}
 use Rattle.jc_sub.specs.Reaching.{own_arg}
-use Rattle.jc_lub_laws.specs.Headers.{AreDistinct, IsSupertype, with_arguments, without, HasHeaders}
-use Rattle.jc_lub_laws.specs.Under.{IsAmong}
+use Rattle.jc_header_rules.specs.Checked.{IsAmong, AreDistinct, IsSupertype, with_arguments, without, HasHeaders}
 use Rattle.jc_lub_laws.proofs.Homs.{Hom, substitution}
 use Rattle.jc_lub_laws.proofs.Listed.{IsUp, itself, above, own_type, one_up}
 use Rattle.jc_lub_laws.proofs.Viewed.{HasClass, in_mapped, into_mapped, class_kept, up_of, supers_mapped}

@@ -18,8 +18,7 @@ use Rattle.jc_judge.specs.Supers.{IsIn, IsSuper}
 use Rattle.jc_judge.specs.Views.{exacts, exact_at, erased, erased_at, class_supers, supers, supers_at, or_else, first_of, is_class, view_within, view}
 use Rattle.jc_judge.proofs.Finds.{put_class, erased_class}
 use Rattle.jc_judge_laws.specs.Hierarchy.{IsOfTable}
-use Rattle.jc_lub_laws.specs.Headers.{HasHeaders}
-use Rattle.jc_lub_laws.specs.Under.{IsAmong}
+use Rattle.jc_header_rules.specs.Checked.{IsAmong, HasHeaders}
 use Rattle.jc_lub_laws.proofs.Homs.{Hom, substitution, composed, agree_on, over_along}
 use Rattle.jc_lub_laws.proofs.Layers.{as_class_type, as_raw_type, as_exact, as_any, as_extends, as_super}
 

@@ -1,3 +1,2 @@
-pub mod Headers
 pub mod Standing
 pub mod Under

@@ -16,8 +16,7 @@ use Rattle.jc_lub.specs.Uncaptured.{args_of, up_view}
 use Rattle.jc_meaning.specs.declared.frame.Binding.{Binding}
 use Rattle.jc_meaning.specs.Kept.{bound_to, close}
 use Rattle.jc_meaning.specs.Levels.{BelowAll, BelowAt}
-use Rattle.jc_lub_laws.specs.Headers.{HasHeaders}
-use Rattle.jc_lub_laws.specs.Under.{IsAmong}
+use Rattle.jc_header_rules.specs.Checked.{IsAmong, HasHeaders}
 
 -- what variables and captured variables stand for are reference types, each below its upper bounds at a level
 pub record Stand (T : Table) (n : ℕ) (env : List Bounds) (vars : List Binding) (captured : List Ty) : Type 0 where

@@ -1,5 +1,5 @@
 -- A type under another by its supertypes as they stand (JLS 4.5.1, 4.10.2, 4.10.3): nothing is captured, and no question of bounds is asked.
-use Rattle.std.specs.Prelude.{◌≡◌, ◌≤◌, ◌⊎◌, ℕ, zero, suc, true, Some, List, [], ◌∷◌}
+use Rattle.std.specs.Prelude.{◌≡◌, ◌≤◌, ℕ, zero, suc, true, Some, List, [], ◌∷◌}
 use Rattle.jc_types.specs.declared.environment.Bounds.{Bounds}
 use Rattle.jc_types.specs.declared.form.Arg.{Arg}
 use Rattle.jc_types.specs.declared.form.Arg.TheVariants.{Any, Extends}
@@ -9,13 +9,10 @@ use Rattle.jc_types.specs.declared.ids.ClassId.{ClassId}
 use Rattle.jc_types.specs.declared.table.Table.{Table}
 use Rattle.jc_types.specs.Sameness.{same}
 use Rattle.jc_judge.specs.Kinds.{is_null}
+use Rattle.jc_header_rules.specs.Checked.{IsAmong}
 use Rattle.jc_lub.specs.Columns.{upper_of}
 use Rattle.jc_lub.specs.Lubs.{depth, stripped, over, lub}
 use Rattle.jc_lub.specs.Uncaptured.{object, same_args, args_of, up_view}
-
-abbrev pub IsAmong : {X : Type 0} → X → List X → Type 0
-IsAmong x [] = ⊥
-IsAmong x (y ∷ ys) = (x ≡ y) ⊎ IsAmong x ys
 
 -- an argument is contained in another, where R tells which types are under which
 pub data IsIn (R : Ty → Ty → Type 0) : Arg → Arg → Type 0 where

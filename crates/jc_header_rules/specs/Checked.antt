@@ -1,5 +1,5 @@
--- What the headers of checked classes keep (JLS 8.1.4, 8.1.5, 9.1.3).
-use Rattle.std.specs.Prelude.{◌≡◌, ◌≢◌, ℕ, Some, List, [], ◌∷◌, length, map}
+-- What classes keep whose headers break no rule (JLS 4.5, 8.1.2, 8.1.4, 8.1.5, 9.1.3).
+use Rattle.std.specs.Prelude.{◌≡◌, ◌≢◌, ◌⊎◌, ℕ, Some, List, [], ◌∷◌, length, map}
 use Rattle.jc_types.specs.declared.form.Arg.{Arg, Arg-F, out-Arg}
 use Rattle.jc_types.specs.declared.form.Arg.TheVariants.{Exact}
 use Rattle.jc_types.specs.declared.form.Primitive.{Primitive}
@@ -13,7 +13,10 @@ use Rattle.jc_judge.specs.Kinds.{class_of}
 use Rattle.jc_judge.specs.Supers.{IsIn}
 use Rattle.jc_judge_laws.specs.Hierarchy.{IsHierarchy}
 use Rattle.jc_header_rules.specs.Inheriting.{all_above}
-use Rattle.jc_lub_laws.specs.Under.{IsAmong}
+
+abbrev pub IsAmong : {X : Type 0} → X → List X → Type 0
+IsAmong x [] = ⊥
+IsAmong x (y ∷ ys) = (x ≡ y) ⊎ IsAmong x ys
 
 -- only type variables of V occur in a type, and no captured one
 mutual
@@ -37,6 +40,7 @@ mutual
     extends : {a : Arg} {t : Ty} {args : List Arg} → out-Arg a ≡ Arg-F.Extends t → IsOver V t → AreArgsOver V args → AreArgsOver V (a ∷ args)
     super : {a : Arg} {t : Ty} {args : List Arg} → out-Arg a ≡ Arg-F.Super t → IsOver V t → AreArgsOver V args → AreArgsOver V (a ∷ args)
 
+-- no two of them are one
 abbrev pub AreDistinct : List VarId → Type 0
 AreDistinct [] = Unit {0}
 AreDistinct (v ∷ vs) = (IsAmong v vs → ⊥) × AreDistinct vs
