@@ -7,12 +7,11 @@ use Rattle.jc_headers.specs.Stages.{IsHeadersStop, IsUnbroken}
 use Rattle.jc_clashes.specs.Stage.{HasNoClash, IsClashesStop}
 use Rattle.jc_lexer.specs.declared.token.Token.{Token}
 use Rattle.jc_types.specs.declared.table.Table.{Table}
-use Rattle.jc_types.specs.Accessors.{supers_of}
 use Rattle.jc_declares.specs.declared.unit.SourceUnit.{SourceUnit}
 use Rattle.jc_names.specs.Stage.{IsNamed}
-use Rattle.jc_front.specs.Stages.{AreSources, HaveTable, HaveTrees, IsBreak}
+use Rattle.jc_front.specs.Stages.{AreSources, BeginsWithObject, HaveTable, HaveTrees, IsBreak}
 
-pub have_table : (texts : List (List ℕ)) (lists : List (List Token)) (units : List SourceUnit) (table : Table) → HaveTrees texts lists units → IsNamed units table → supers_of table (record { 0 = 0 }) ≡ [] → HaveTable texts lists units table
+pub have_table : (texts : List (List ℕ)) (lists : List (List Token)) (units : List SourceUnit) (table : Table) → HaveTrees texts lists units → IsNamed units table → BeginsWithObject table → HaveTable texts lists units table
 have_table texts lists units table trees names object = record { trees = trees; names = names; object = object }
 
 pub are_sources : (texts : List (List ℕ)) (lists : List (List Token)) (units : List SourceUnit) (table : Table) → HaveTable texts lists units table → IsUnbroken table → HasNoClash table → AreSources texts (record { tokens = lists; units = units; table = table })

@@ -1,6 +1,6 @@
 -- The stages that are built, one behind the other: what sources are that break no rule of them, and which break is named. A stage is entered where those before it
 -- have no break.
-use Rattle.std.specs.Prelude.{◌≡◌, ◌⊎◌, ℕ, ◌+◌, List, [], ◌∷◌, ◌++◌, Ok, Err}
+use Rattle.std.specs.Prelude.{◌≡◌, ◌⊎◌, ℕ, ◌+◌, ◌<◌, List, [], ◌∷◌, ◌++◌, Ok, Err}
 use Rattle.jc_rules.specs.declared.rule.Refusal.{Refusal}
 use Rattle.jc_rules.specs.declared.stop.Stop.{Stop}
 use Rattle.jc_rules.specs.declared.stop.Stop.TheVariants as stop_of
@@ -15,7 +15,7 @@ use Rattle.jc_declares.specs.Breaks.{BreaksNames}
 use Rattle.jc_names.specs.Stage.{IsNamed}
 use Rattle.jc_headers.specs.Stages.{BreaksHeaders, IsUnbroken}
 use Rattle.jc_clashes.specs.Stage.{HasNoClash, IsLeastClash}
-use Rattle.jc_types.specs.Accessors.{supers_of}
+use Rattle.jc_types.specs.Accessors.{class_count, supers_of, vars_of}
 use Rattle.jc_types.specs.Breaks.{IsLeast}
 use Rattle.jc_types.specs.declared.table.Table.{Table}
 use Rattle.jc_front.specs.declared.reading.Sources.{Sources}
@@ -38,11 +38,17 @@ pub record HaveTrees (texts : List (List ℕ)) (lists : List (List Token)) (unit
   pub is_library : AreLibrary library
   pub all : units ≡ library ++ numbered_from 1 files
 
--- the table of what the units of a job declare, whose names break no rule; its first class is Object, which alone has no supertypes (JLS 8.1.4)
+-- the first class is Object, which alone has no supertypes, and has no type parameters; and there are other classes (JLS 4.3.2, 8.1.4)
+pub record BeginsWithObject (table : Table) : Type 0 where
+  pub supers : supers_of table (record { 0 = 0 }) ≡ []
+  pub parameters : vars_of table (record { 0 = 0 }) ≡ []
+  pub others : 1 < class_count table
+
+-- the table of what the units of a job declare, whose names break no rule; it begins with the library's Object
 pub record HaveTable (texts : List (List ℕ)) (lists : List (List Token)) (units : List SourceUnit) (table : Table) : Type 0 where
   pub trees : HaveTrees texts lists units
   pub names : IsNamed units table
-  pub object : supers_of table (record { 0 = 0 }) ≡ []
+  pub object : BeginsWithObject table
 
 -- sources that break no rule of a stage that is built, and what they are: their tokens, the trees of the library and of the sources, and the table of what these
 -- declare, the types and headers of which break no rule, and which has no clash (JLS 4, 8, 9)

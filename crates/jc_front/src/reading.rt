@@ -1,7 +1,6 @@
 //! The stages one behind the other.
-ghost use Rattle.std.specs.Prelude.{◌≡◌, ◌↔◌, [], IfErr, IfOk, IsTrue};
-ghost use Rattle.jc_types.specs.Accessors.{supers_of};
-ghost use Rattle.jc_front.specs.Stages.{AreRead, AreSources, IsBreak};
+ghost use Rattle.std.specs.Prelude.{◌↔◌, IfErr, IfOk, IsTrue};
+ghost use Rattle.jc_front.specs.Stages.{AreRead, AreSources, BeginsWithObject, IsBreak};
 
 use crate::units::all_units;
 use jc_clashes::check_clashes;
@@ -10,7 +9,7 @@ use jc_headers::check_headers;
 use jc_lexer::{Token, lex_all};
 use jc_names::names;
 use jc_rules::{Items, Refusal, Stop};
-use jc_types::{ClassId, Table, class_supers};
+use jc_types::{ClassId, Table, class_supers, class_vars};
 use std::alloc::Global;
 
 /// What sources are that break no rule of a stage that is built: the tokens of each, the trees of the library and of the sources, and the table of
@@ -22,11 +21,15 @@ pub struct Sources {
     pub table: Table,
 }
 
-/// Whether the first class has no supertypes. It is the library's Object, which alone has none (JLS 8.1.4).
+/// Whether the first class has no supertypes and no type parameters, and there are others. It is the library's Object, which alone has no supertypes
+/// (JLS 8.1.4).
 fn begins_with_object(table: &Table) -> bool
-    ensures { IsTrue result ↔ supers_of table.now (record { 0 = 0 }) ≡ [] }
+    ensures { IsTrue result ↔ BeginsWithObject table.now }
 {
-    class_supers(table, ClassId(0)).is_empty()
+    let object = ClassId(0);
+    class_supers(table, object).is_empty()
+        && class_vars(table, object).is_empty()
+        && table.classes.len() > 1
 }
 
 /// Reads the sources with these texts through all stages that are built. A refusal is the least break of the first stage that has one. Want of memory

@@ -124,7 +124,7 @@ have_table texts sources a =
 pub have_no_cycle : (texts : List (List ℕ)) (sources : Sources) → AreSources texts sources → HasNoCycle sources.table
 have_no_cycle texts sources a =
     subst HasNoCycle (sym a.declared.names.is_table)
-    (acyclic (sites_of sources.units) (subst (λ (t : Table). supers_of t (record { 0 = 0 }) ≡ []) a.declared.names.is_table a.declared.object) a.declared.names.unbroken)
+    (acyclic (sites_of sources.units) (subst (λ (t : Table). supers_of t (record { 0 = 0 }) ≡ []) a.declared.names.is_table a.declared.object.supers) a.declared.names.unbroken)
 
 pub have_order : (texts : List (List ℕ)) (sources : Sources) → AreSources texts sources → IdsAscend sources.table
 have_order texts sources a = subst IdsAscend (sym a.declared.names.is_table) (ids_ascend sources.units (are_job texts sources.tokens sources.units a.declared.trees))
