@@ -1,5 +1,6 @@
 pub mod Alike
 pub mod Built
+pub mod Climbed
 pub mod Grown
 pub mod Lists
 pub mod Marked

@@ -13,9 +13,9 @@ use Rattle.jc_judge.specs.Kinds.{class_at, class_of}
 use Rattle.jc_judge.specs.Supers.{numbered}
 use Rattle.jc_overriding.specs.Overriding.{is_inheritable, is_method, is_viewed, or_object, owner, same_class}
 use Rattle.jc_overriding.specs.Viewing.{own_type, view_of_owner}
-use Rattle.jc_members.specs.Climbing.{AllIn, ClassIn, IsClosed, IsNumberIn}
+use Rattle.jc_clashes.specs.Climbing.{AllIn, ClassIn, IsClosed, IsNumberIn}
 use Rattle.jc_members.specs.Listing.{has_method}
-use Rattle.jc_members.proofs.Climbed.{outside}
+use Rattle.jc_clashes.proofs.Climbed.{outside}
 use Rattle.jc_clashes.specs.declared.shapes.Shape.{Shape}
 use Rattle.jc_clashes.specs.Clashing.{belongs, beside_broken, group_broken, groups_broken, is_replaced}
 use Rattle.jc_clashes.specs.Clear.{AreClear, all_apart, all_clear, class_clear, is_clear, keeps_clear, none_clear, stays_from}

@@ -1,4 +1,3 @@
-pub mod Climbed
 pub mod Dims
 pub mod Lengths
 pub mod Numbering

@@ -175,6 +175,10 @@ fixed_told T m e =
     let two = and_both (is_some (method_owner_of T m)) (has_none (method_vars_of T m)) both.0 in
     record { owned = two.0; vars = no_vars (method_vars_of T m) two.1; params = both.1 }
 
+-- each of its parameters' types is its own erasure
+pub params_erased : (T : Table) (m : MethodId) → is_fixed T m ≡ true → map (plain T) (params_of T m) ≡ params_of T m
+params_erased T m e = plain_all T (params_of T m) (fixed_told T m e).params
+
 record FixedView (T : Table) (m : MethodId) (a : MethodView) : Type 0 where
   pub id : a.id ≡ m
   pub vars : a.vars ≡ []
@@ -187,6 +191,17 @@ seen_fixed T m true s p =
 seen_fixed T m false (With vars by) p =
     record { id = refl; vars = p.vars; bounds = ap (bounds_with T vars by) p.vars; params = put_all T vars by (params_of T m) p.params }
 seen_fixed T m false Raised p = record { id = refl; vars = refl; bounds = refl; params = plain_all T (params_of T m) p.params }
+
+view_fixed : (T : Table) (k : ClassId) (m : MethodId) (a : MethodView) → is_fixed T m ≡ true → class_view T k m ≡ Some a → FixedView T m a
+view_fixed T k m a e is = by (view_of_owner T (own_type T k) (method_owner_of T m)) is
+  where
+    a_or : Option MethodView → MethodView
+    a_or None = a
+    a_or (Some b) = b
+
+    by : (o : Option Ty) → viewed_in T m o ≡ Some a → FixedView T m a
+    by None g = cc
+    by (Some u) g = subst (FixedView T m) (ap a_or g) (seen_fixed T m (is_static T m) (seeing_of T u) (fixed_told T m e))
 
 record Seen (T : Table) (k : ClassId) (m : MethodId) : Type 0 where
   pub view : MethodView
@@ -248,20 +263,28 @@ fixed_signature T k a n up e =
     let seen = seen_above T k n e (viewed_above T k (owner T n) up) in
     ap (subsignature_of T (Some a)) seen.is ∙ declared_told T n a seen.view (fixed_told T n e) seen.fixed
 
--- two fixed methods
-pub fixed_alike : (T : Table) (k : ClassId) (m n : MethodId) → is_fixed T m ≡ true → is_fixed T n ≡ true → is_viewed (view T (owner T m) (own_type T k)) ≡ true → is_above T k (owner T n) ≡ true
-    → subsignature_of T (class_view T k m) (class_view T k n) ≡ are_declared_alike T m n
-fixed_alike T k m n e f own up =
-    let seen = seen_above T k m e own in
-    ap (λ o. subsignature_of T o (class_view T k n)) seen.is ∙ fixed_signature T k seen.view n up f
-    ∙ ap (λ (i : MethodId). bytes_eq (method_name_of T i) (method_name_of T n) && has_no_variables seen.view && same_all seen.view.params (params_of T n)) seen.fixed.id
-    ∙ ap (λ (vs : List VarId). bytes_eq (method_name_of T m) (method_name_of T n) && (length vs == 0) && same_all seen.view.params (params_of T n)) seen.fixed.vars
-    ∙ ap (λ ps. bytes_eq (method_name_of T m) (method_name_of T n) && true && same_all ps (params_of T n)) seen.fixed.params
+so_alike : (T : Table) (m n : MethodId) (a : MethodView) → FixedView T m a → is_declared_so T a n ≡ are_declared_alike T m n
+so_alike T m n a p =
+    ap (λ (i : MethodId). bytes_eq (method_name_of T i) (method_name_of T n) && has_no_variables a && same_all a.params (params_of T n)) p.id
+    ∙ ap (λ (vs : List VarId). bytes_eq (method_name_of T m) (method_name_of T n) && (length vs == 0) && same_all a.params (params_of T n)) p.vars
+    ∙ ap (λ ps. bytes_eq (method_name_of T m) (method_name_of T n) && true && same_all ps (params_of T n)) p.params
     ∙ without_true (bytes_eq (method_name_of T m) (method_name_of T n)) (same_all (params_of T m) (params_of T n))
   where
     without_true : (x s : Bool) → (x && true && s) ≡ (x && s)
     without_true true s = refl
     without_true false s = refl
+
+-- two fixed methods
+pub fixed_alike : (T : Table) (k : ClassId) (m n : MethodId) → is_fixed T m ≡ true → is_fixed T n ≡ true → is_viewed (view T (owner T m) (own_type T k)) ≡ true → is_above T k (owner T n) ≡ true
+    → subsignature_of T (class_view T k m) (class_view T k n) ≡ are_declared_alike T m n
+fixed_alike T k m n e f own up =
+    let seen = seen_above T k m e own in
+    ap (λ o. subsignature_of T o (class_view T k n)) seen.is ∙ fixed_signature T k seen.view n up f ∙ so_alike T m n seen.view seen.fixed
+
+-- .. as a class has both
+pub viewed_alike : (T : Table) (k : ClassId) (m n : MethodId) (a b : MethodView) → is_fixed T m ≡ true → is_fixed T n ≡ true → class_view T k m ≡ Some a → class_view T k n ≡ Some b
+    → subsignature T a b ≡ are_declared_alike T m n
+viewed_alike T k m n a b e f va vb = declared_told T n a b (fixed_told T n f) (view_fixed T k n b f vb) ∙ so_alike T m n a (view_fixed T k m a e va)
 
 pub ruleset fixed_laws = (fixed_signature, fixed_alike)
 

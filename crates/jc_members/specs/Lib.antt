@@ -1,5 +1,4 @@
 pub mod Below
-pub mod Climbing
 pub mod Fixed
 pub mod Listing
 pub mod Named

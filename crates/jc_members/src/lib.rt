@@ -17,8 +17,8 @@ mod walking;
 
 pub use adapting::{adapted, erased_in};
 pub use belonging::{as_super, candidate_ids, members, remaining_ids, views_of};
-pub use erasing::plain;
-pub use fixed::is_own_erasure;
+pub use erasing::{plain, plain_all};
+pub use fixed::{is_fixed, is_own_erasure};
 pub use jc_overriding::MethodView;
 pub use kinds::{
     access_of, is_abstract, is_inheritable, is_instance, is_method, is_open_to, is_static, owner,

@@ -9,7 +9,7 @@ use Rattle.jc_judge.specs.Kinds.{class_of}
 use Rattle.jc_judge.specs.Supers.{numbered}
 use Rattle.jc_judge.specs.Views.{view, view_within, first_of, or_else, is_class, supers}
 use Rattle.jc_sub.specs.Reaching.{super_with}
-use Rattle.jc_members.specs.Climbing.{IsNumberIn, ClassIn, AllIn, IsClosed}
+use Rattle.jc_clashes.specs.Climbing.{IsNumberIn, ClassIn, AllIn, IsClosed}
 use Rattle.jc_members.proofs.Reached.{keeps, of_class}
 
 module _ (T : Table) (from l : ℕ) (cs : List ℕ) (closed : IsClosed T from cs) (out : IsNumberIn l cs → ⊥) where
