@@ -1,11 +1,13 @@
 pub mod Alike
+pub mod Beside
 pub mod Built
 pub mod Climbed
+pub mod Fixed
 pub mod Grown
 pub mod Lists
 pub mod Marked
-pub mod Plain
-pub mod Reached
+pub mod Named
 pub mod Reaching
+pub mod Rounds
+pub mod Spread
 pub mod Told
-pub mod Walk

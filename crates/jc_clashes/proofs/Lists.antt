@@ -4,6 +4,10 @@ use Rattle.std.proofs.lemmas.Slice.Eq.{bytes_eq-Decides}
 use Rattle.std.proofs.Common.{◌≡◌, ◌⊎◌, inl, inr, ℕ, ◌==◌, arith, Bool, true, false, not, ◌&&◌, ◌||◌, List, [], ◌∷◌, ◌++◌, refl, sym, ap, ◌∙◌}
 use Rattle.std.specs.List.{list_any}
 use Rattle.std.specs.Str.{bytes_eq}
+use Rattle.jc_types.specs.declared.form.Ty.{Ty}
+use Rattle.jc_types.specs.Sameness.{same}
+use Rattle.jc_types.proofs.Sameness.{same_self, same_told}
+use Rattle.jc_overriding.specs.Signatures.{same_all}
 
 abbrev pub In : {X : Type 0} → X → List X → Type 0
 In x [] = ⊥
@@ -88,3 +92,17 @@ same_bytes a b e = (bytes_eq-Decides a b).0 e
 
 pub own_bytes : (a : List ℕ) → bytes_eq a a ≡ true
 own_bytes a = (bytes_eq-Decides a a).1 refl
+
+-- ---- lists of types
+
+pub all_same : (xs ys : List Ty) → same_all xs ys ≡ true → xs ≡ ys
+all_same [] [] e = refl
+all_same [] (y ∷ ys) e = cc
+all_same (x ∷ xs) [] e = cc
+all_same (x ∷ xs) (y ∷ ys) e =
+    let both = and_both (same x y) (same_all xs ys) e in
+    ap (λ z. z ∷ xs) (same_told x y both.0) ∙ ap (λ zs. y ∷ zs) (all_same xs ys both.1)
+
+pub self_same : (xs : List Ty) → same_all xs xs ≡ true
+self_same [] = refl
+self_same (x ∷ xs) = and_true (same x x) (same_all xs xs) (same_self x) (self_same xs)

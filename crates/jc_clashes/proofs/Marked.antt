@@ -17,8 +17,9 @@ use Rattle.jc_clashes.specs.Climbing.{AllIn, ClassIn, IsClosed, IsNumberIn}
 use Rattle.jc_members.specs.Listing.{has_method}
 use Rattle.jc_clashes.proofs.Climbed.{outside}
 use Rattle.jc_clashes.specs.declared.shapes.Shape.{Shape}
-use Rattle.jc_clashes.specs.Clashing.{belongs, beside_broken, group_broken, groups_broken, is_replaced}
-use Rattle.jc_clashes.specs.Clear.{AreClear, all_apart, all_clear, class_clear, is_clear, keeps_clear, none_clear, stays_from}
+use Rattle.jc_clashes.specs.Clashing.{belongs, beside_broken, group_broken, groups_broken, is_replaced, passed_over}
+use Rattle.jc_clashes.specs.Marks.{is_marked}
+use Rattle.jc_clashes.specs.Clear.{AreClear, all_apart, all_clear, class_clear, keeps_clear, none_clear, stays_from}
 use Rattle.jc_clashes.proofs.Lists.{and_both, and_false, not_both, not_false}
 
 -- ---- one class further
@@ -57,22 +58,22 @@ number_right : (x : ℕ) (b : Bool) (i : ℕ) (xs : List ℕ) → IsNumberIn x x
 number_right x true i xs m = inr m
 number_right x false i xs m = m
 
-clear_listed : (bs : List Bool) (i j x : ℕ) → is_clear bs j ≡ true → x ≡ i + j → IsNumberIn x (listed bs i)
+clear_listed : (bs : List Bool) (i j x : ℕ) → is_marked bs j ≡ true → x ≡ i + j → IsNumberIn x (listed bs i)
 unfolding listed
 clear_listed [] i j x e is = cc
 clear_listed (b ∷ bs) i zero x e is = subst (λ c. IsNumberIn x (cond c (i ∷ []) [] ++ listed bs (suc i))) (sym e) (inl (omega arith))
 clear_listed (b ∷ bs) i (suc j) x e is = number_right x b i (listed bs (suc i)) (clear_listed bs (suc i) j x e (omega arith))
 
-listed_clear : (bs : List Bool) (i x : ℕ) → IsNumberIn x (listed bs i) → (j : ℕ) × (x ≡ i + j) × (is_clear bs j ≡ true) × (j < length bs)
+listed_clear : (bs : List Bool) (i x : ℕ) → IsNumberIn x (listed bs i) → (j : ℕ) × (x ≡ i + j) × (is_marked bs j ≡ true) × (j < length bs)
 unfolding listed
 listed_clear [] i x m = absurd m
 listed_clear (b ∷ bs) i x m = by b refl m (λ m. listed_clear bs (suc i) x m)
   where
-    next : (j : ℕ) × (x ≡ suc i + j) × (is_clear bs j ≡ true) × (j < length bs) → (j : ℕ) × (x ≡ i + j) × (is_clear (b ∷ bs) j ≡ true) × (j < length (b ∷ bs))
+    next : (j : ℕ) × (x ≡ suc i + j) × (is_marked bs j ≡ true) × (j < length bs) → (j : ℕ) × (x ≡ i + j) × (is_marked (b ∷ bs) j ≡ true) × (j < length (b ∷ bs))
     next h = let is : x ≡ suc i + h.0 = h.1 in let low : h.0 < length bs = h.3 in (suc h.0, omega arith, h.2, omega arith)
 
-    by : (c : Bool) → b ≡ c → IsNumberIn x (cond c (i ∷ []) [] ++ listed bs (suc i)) → (IsNumberIn x (listed bs (suc i)) → (j : ℕ) × (x ≡ suc i + j) × (is_clear bs j ≡ true) × (j < length bs))
-        → (j : ℕ) × (x ≡ i + j) × (is_clear (b ∷ bs) j ≡ true) × (j < length (b ∷ bs))
+    by : (c : Bool) → b ≡ c → IsNumberIn x (cond c (i ∷ []) [] ++ listed bs (suc i)) → (IsNumberIn x (listed bs (suc i)) → (j : ℕ) × (x ≡ suc i + j) × (is_marked bs j ≡ true) × (j < length bs))
+        → (j : ℕ) × (x ≡ i + j) × (is_marked (b ∷ bs) j ≡ true) × (j < length (b ∷ bs))
     by true e (inl is) g = (zero, omega arith, e, omega arith)
     by true e (inr m) g = next (g m)
     by false e m g = next (g m)
@@ -104,15 +105,15 @@ module _ (T : Table) (marks : List Bool) (gs : List (List Shape)) (clear : AreCl
       or_second true b e f = f
       or_second false b e f = cc
 
-      by : (j : ℕ) × (x ≡ 0 + j) × (is_clear marks j ≡ true) × (j < length marks) → AllIn cs (supers_of T (numbered x))
+      by : (j : ℕ) × (x ≡ 0 + j) × (is_marked marks j ≡ true) × (j < length marks) → AllIn cs (supers_of T (numbered x))
       by h =
           let is : 0 + h.0 ≡ x = sym h.1 in
           let same : h.0 ≡ x = omega arith in
           let kept : keeps_clear T marks x ≡ true = subst (λ y. keeps_clear T marks y ≡ true) is (keeps_at T marks 0 (length marks) h.0 clear.stay h.3) in
-          let marked : is_clear marks x ≡ true = subst (λ y. is_clear marks y ≡ true) same h.2 in
-          all_in (supers_of T (numbered x)) (or_second (is_clear marks x) (all_clear marks (supers_of T (numbered x))) marked kept)
+          let marked : is_marked marks x ≡ true = subst (λ y. is_marked marks y ≡ true) same h.2 in
+          all_in (supers_of T (numbered x)) (or_second (is_marked marks x) (all_clear marks (supers_of T (numbered x))) marked kept)
 
-  module _ (k : ClassId) (here : is_clear marks k.0 ≡ true) where
+  module _ (k : ClassId) (here : is_marked marks k.0 ≡ true) where
     closed : IsClosed T k.0 cs
     closed = record { first = clear_listed marks 0 k.0 k.0 here (omega arith); above = supers_clear }
 
@@ -120,29 +121,29 @@ module _ (T : Table) (marks : List Bool) (gs : List (List Shape)) (clear : AreCl
     unfolding class_of
     class_own = ap class_at (outs-Class k _)
 
-    out : (l : ℕ) → is_clear marks l ≡ false → IsNumberIn l cs → ⊥
+    out : (l : ℕ) → is_marked marks l ≡ false → IsNumberIn l cs → ⊥
     out l e m =
         let h = listed_clear marks 0 l m in
         let is : l ≡ 0 + h.0 = h.1 in
         let same : h.0 ≡ l = omega arith in
-        not_both (is_clear marks l) (subst (λ y. is_clear marks y ≡ true) same h.2) e
+        not_both (is_marked marks l) (subst (λ y. is_marked marks y ≡ true) same h.2) e
 
-    none_there : (m : MethodId) → is_clear marks (owner T m).0 ≡ false → has_method T (own_type T k) m ≡ false
+    none_there : (m : MethodId) → is_marked marks (owner T m).0 ≡ false → has_method T (own_type T k) m ≡ false
     none_there m e = by (method_owner_of T m) e
       where
-        by : (o : Option ClassId) → is_clear marks (or_object o).0 ≡ false → is_viewed (view_of_owner T (own_type T k) o) ≡ false
+        by : (o : Option ClassId) → is_marked marks (or_object o).0 ≡ false → is_viewed (view_of_owner T (own_type T k) o) ≡ false
         by None e = refl
         by (Some l) e = ap is_viewed (outside T k.0 l.0 cs closed (out l.0 e) (own_type T k) class_own)
 
-    none_belongs : (m : MethodId) → is_clear marks (owner T m).0 ≡ false → belongs T k m ≡ false
+    none_belongs : (m : MethodId) → is_marked marks (owner T m).0 ≡ false → belongs T k m ≡ false
     none_belongs m e = and_false (is_method T m && (same_class k (owner T m) || is_inheritable T k m)) (has_method T (own_type T k) m) (none_there m e)
 
     nothing_in : (place : Place) (all ss : List Shape) → none_clear T marks ss ≡ true → group_broken T k place all ss ≡ []
     nothing_in place all [] e = refl
     nothing_in place all (s ∷ ss) e =
-        let both = and_both (not (is_clear marks (owner T s.id).0)) (none_clear T marks ss) e in
-        let apart : belongs T k s.id ≡ false = none_belongs s.id (not_false (is_clear marks (owner T s.id).0) both.0) in
-        ap (λ b. cond (b && not (is_replaced T k s)) (beside_broken T k place s all) [] ++ group_broken T k place all ss) apart ∙ nothing_in place all ss both.1
+        let both = and_both (not (is_marked marks (owner T s.id).0)) (none_clear T marks ss) e in
+        let apart : belongs T k s.id ≡ false = none_belongs s.id (not_false (is_marked marks (owner T s.id).0) both.0) in
+        ap (λ b. cond (b && not (is_replaced T k s)) (beside_broken T k place s (passed_over T k s) all) [] ++ group_broken T k place all ss) apart ∙ nothing_in place all ss both.1
 
     nothing_broken : (place : Place) (fs : List (List Shape)) → all_apart T marks fs ≡ true → groups_broken T k place fs ≡ []
     nothing_broken place [] e = refl
@@ -150,6 +151,6 @@ module _ (T : Table) (marks : List Bool) (gs : List (List Shape)) (clear : AreCl
         let both = and_both (none_clear T marks g) (all_apart T marks fs) e in
         ap (λ bs. bs ++ groups_broken T k place fs) (nothing_in place g g both.0) ∙ nothing_broken place fs both.1
 
-pub clear_told : (T : Table) (marks : List Bool) (gs : List (List Shape)) (k : ClassId) (place : Place) (found : Option Refusal) → AreClear T marks gs → is_clear marks k.0 ≡ true
+pub clear_told : (T : Table) (marks : List Bool) (gs : List (List Shape)) (k : ClassId) (place : Place) (found : Option Refusal) → AreClear T marks gs → is_marked marks k.0 ≡ true
     → least found (groups_broken T k place gs) ≡ found
 clear_told T marks gs k place found clear here = ap (least found) (nothing_broken T marks gs clear k here place gs clear.apart)

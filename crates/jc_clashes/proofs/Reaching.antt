@@ -1,5 +1,5 @@
 -- What a method overrides or hides, directly or indirectly.
-use Rattle.std.proofs.Common.{◌≡◌, ◌⊎◌, inl, inr, ℕ, zero, suc, ◌+◌, ◌==◌, ◌<◌, ◌≤◌, arith, Bool, true, false, ◌&&◌, ◌||◌, List, [], ◌∷◌, length, refl, sym, ap, subst, ◌∙◌}
+use Rattle.std.proofs.Common.{◌≡◌, ◌⊎◌, inl, inr, ℕ, zero, suc, ◌+◌, ◌==◌, ◌<◌, ◌≤◌, arith, Bool, true, false, ◌&&◌, ◌||◌, List, [], ◌∷◌, length, refl, ap, subst, ◌∙◌}
 use Rattle.std.proofs.lemmas.Bool.Decides.{nat_tests}
 use Rattle.std.specs.Str.{bytes_eq}
 use Rattle.jc_types.specs.declared.declarations.MethodDecl.{MethodDecl}
@@ -114,7 +114,7 @@ module _ (T : Table) (m : MethodId) where
           let low : q.id.0 < 0 + length T.methods = q.within in
           inr (record { id = q.id; within = omega arith; holds = q.holds })
 
-  first_told : (p : MethodId) → reaches_within T 0 m p ≡ true → m ≡ p
+  pub first_told : (p : MethodId) → reaches_within T 0 m p ≡ true → m ≡ p
   unfolding reaches_within
   first_told p e = same_method m p e
 
@@ -127,12 +127,6 @@ module _ (T : Table) (m : MethodId) where
       by (inr q) h =
           let both = and_both (reaches_within T n m q.id) (replaces T q.id p) q.holds in
           step (suc n) q.id p q.within (h q.id both.0) both.1
-
-  pub in_more : (k n : ℕ) (p : MethodId) → reaches_within T n m p ≡ true → reaches_within T (k + n) m p ≡ true
-  in_more zero n p e = let none : 0 + n ≡ n = omega arith in subst (λ j. reaches_within T j m p ≡ true) (sym none) e
-  in_more (suc k) n p e =
-      let one : suc k + n ≡ suc (k + n) = omega arith in
-      subst (λ j. reaches_within T j m p ≡ true) (sym one) (further (k + n) p (in_more k n p e))
 
   -- what holds of m, and goes from each method to those that it replaces
   module _ (P : MethodId → Type 0) (first : P m) (next : (q p : MethodId) → q.0 < length T.methods → P q → replaces T q p ≡ true → P p) where

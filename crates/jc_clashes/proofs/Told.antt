@@ -1,5 +1,5 @@
 -- The clashes of a table are those that are found name by name.
-use Rattle.std.proofs.Common.{◌≡◌, ◌⊎◌, inl, inr, ℕ, suc, ◌+◌, ◌==◌, ◌<◌, ◌≤◌, arith, Bool, true, false, not, ◌&&◌, ◌||◌, cond, Option, Some, None, List, [], ◌∷◌, ◌++◌, length, refl, sym, ap, subst, ◌∙◌}
+use Rattle.std.proofs.Common.{◌≡◌, ◌⊎◌, inl, inr, ℕ, suc, ◌+◌, ◌==◌, ◌<◌, ◌≤◌, arith, Bool, true, false, not, ◌&&◌, ◌||◌, cond, Option, Some, None, List, [], ◌∷◌, ◌++◌, map, length, refl, sym, ap, subst, ◌∙◌}
 use Rattle.std.proofs.lemmas.Bool.Decides.{nat_tests}
 use Rattle.std.specs.Str.{bytes_eq}
 use Rattle.jc_rules.specs.declared.rule.Place.{Place}
@@ -24,17 +24,22 @@ use Rattle.jc_header_rules.specs.Clashes.{all_methods, clash_place, clashes, cla
 use Rattle.jc_header_rules.specs.Inheriting.{with_body}
 use Rattle.jc_header_rules.specs.Places.{broken_if, of_each}
 use Rattle.jc_members.specs.Below.{replaces}
+use Rattle.jc_members.specs.Fixed.{is_fixed}
 use Rattle.jc_members.specs.Listing.{has_method}
 use Rattle.jc_members.specs.Named.{all_named}
 use Rattle.jc_members.proofs.Remaining.{id_of_view}
 use Rattle.jc_clashes.specs.declared.shapes.Shape.{Shape}
-use Rattle.jc_clashes.specs.Clashing.{belongs, beside_broken, clash_at, class_clashes, group_broken, groups_broken, is_member, is_replaced, member_broken, share_some, views_clash}
+use Rattle.jc_clashes.specs.Clashing.{belongs, beside_broken, clash_at, class_clashes, group_broken, groups_broken, is_member, is_replaced, member_broken, passed_over, settles, views_clash}
 use Rattle.jc_clashes.specs.Constructors.{constructors_breaks}
-use Rattle.jc_clashes.specs.Shapes.{above_at, below_in, belows_of, erasures_in, groups, is_plain, shape_of}
+use Rattle.jc_clashes.specs.Erasures.{share_some}
+use Rattle.jc_clashes.specs.Marks.{behind_first, first_mark}
+use Rattle.jc_clashes.specs.Shapes.{above_in, groups, shape_of, shapes_of}
+use Rattle.jc_clashes.specs.Spreading.{below_in, erasures_within}
 use Rattle.jc_clashes.specs.Stage.{IsFirstClash, all_clashes}
-use Rattle.jc_clashes.proofs.Lists.{In, and_both, and_true, any_in, as_true, in_any, in_either, in_left, in_right, is_false, is_self, not_both, not_false, number, or_right, own_bytes, same_bytes}
-use Rattle.jc_clashes.proofs.Plain.{all_same, same_erasure, same_plain}
-use Rattle.jc_clashes.proofs.Alike.{above_in, in_above, IsNamed, Meeting, group_in, group_named, group_told, in_listed, in_named, listed_in, meet_told, meeting_of, named_in, of_shape, plain_name, plain_of, shape_in}
+use Rattle.jc_clashes.proofs.Lists.{In, all_same, and_both, and_false, and_true, any_in, as_true, in_any, in_either, in_left, in_right, is_false, is_self, not_both, not_false, number, or_right, own_bytes, same_bytes}
+use Rattle.jc_clashes.proofs.Fixed.{same_erasure, same_fixed}
+use Rattle.jc_clashes.proofs.Alike.{Meeting, above_told, fixed_name, fixed_of, group_in, group_named, group_told, in_above, meet_told, meeting_of, of_shape, shape_in}
+use Rattle.jc_clashes.proofs.Named.{IsNamed, in_named, named_in}
 use Rattle.jc_clashes.proofs.Reaching.{reached_told, replaces_named, replaces_signed}
 
 -- ---- breaks in lists
@@ -253,16 +258,15 @@ module _ (T : Table) (k : ClassId) where
             let w = found.0 in
             let has : Has w = has_of w found.1 in
             let wn : method_name_of T w.id ≡ x = replaces_named T w.id v.id found.2 ∙ e in
-            any_in (belongs T k) w.id (above_at v.id all (belows_of T all all))
-            (in_above T all v.id w.id all (in_named T x w.id (named w has wn)) (listed_in T w.id v.id all (in_named T x v.id (named v h e)) found.2)) (has_belongs w has)
+            any_in (belongs T k) w.id (above_in T v.id all) (in_above T v.id w.id all (in_named T x w.id (named w has wn)) found.2) (has_belongs w has)
 
         back : is_replaced T k (shape v.id) ≡ true → replaced T v every ≡ true
         back f =
-            let found = in_any (belongs T k) (above_at v.id all (belows_of T all all)) f in
+            let found = in_any (belongs T k) (above_in T v.id all) f in
             let w = found.0 in
-            let above = above_in T all v.id w all found.1 in
+            let above = above_told T v.id w all found.1 in
             let at = belongs_has w (named_in T x w above.0).within found.2 in
-            replaced_in v at.view every (of_has at.view at.has) (ap (λ n. replaces T n v.id) at.is ∙ in_listed T w v.id all above.1)
+            replaced_in v at.view every (of_has at.view at.has) (ap (λ n. replaces T n v.id) at.is ∙ above.1)
 
     among_told : (w : MethodView) → Has w → method_name_of T w.id ≡ x → is_among w.id kept ≡ not (is_replaced T k (shape w.id))
     among_told w h e = as_true (is_among w.id kept) (not (is_replaced T k (shape w.id))) there back
@@ -284,7 +288,7 @@ module _ (T : Table) (k : ClassId) where
     clash_told : (v w : MethodView) → Has v → Has w → method_name_of T v.id ≡ x → method_name_of T w.id ≡ x → clash_at T k (shape v.id) (shape w.id) ≡ clashes T k kept v w
     unfolding clash_at
     clash_told v w hv hw ev ew =
-        ap (λ b. not (v.id.0 == w.id.0) && b && belongs T k w.id && views_clash T k (shape w.id) (class_view T k v.id) (class_view T k w.id)) (meet_told T v.id w.id x ev ew)
+        ap (λ b. not (v.id.0 == w.id.0) && b && belongs T k w.id && views_clash T k (shape w.id) (class_view T k v.id) (class_view T k w.id)) (meet_told T v.id w.id x (named v hv ev) (named w hw ew))
         ∙ ap (λ b. not (v.id.0 == w.id.0) && erasures_meet T v.id w.id 0 T.methods && b && views_clash T k (shape w.id) (class_view T k v.id) (class_view T k w.id)) (has_belongs w hw)
         ∙ ap (λ o. not (v.id.0 == w.id.0) && erasures_meet T v.id w.id 0 T.methods && true && views_clash T k (shape w.id) o (class_view T k w.id)) hv.view
         ∙ ap (λ o. not (v.id.0 == w.id.0) && erasures_meet T v.id w.id 0 T.methods && true && views_clash T k (shape w.id) (Some v) o) hw.view
@@ -309,15 +313,33 @@ module _ (T : Table) (k : ClassId) where
     unfolding clash_at
     beyond m n e =
         let views = views_clash T k (shape n) (class_view T k m) (class_view T k n) in
-        let first = not (m.0 == n.0) && share_some (erasures_in T m all) (erasures_in T n all) in
+        let first = not (m.0 == n.0) && share_some (erasures_within T all (length T.methods) m) (erasures_within T all (length T.methods) n) in
         (and_both first (belongs T k n) (and_both (first && belongs T k n) views e).0).1
 
-    -- plain methods of one name don't clash
-    plain_at : (j : MethodId) → plain_name T x ≡ true → IsNamed T x j → is_plain T j ≡ true
-    plain_at j plain h = plain_of T j all plain (in_named T x j h)
+    -- what a method overrides or hides doesn't clash with it in its own class
+    overridden_clear : (m n : MethodId) → same_class (owner T m) k ≡ true → replaces T m n ≡ true → clash_at T k (shape m) (shape n) ≡ false
+    unfolding clash_at
+    overridden_clear m n e r =
+        and_false (not (m.0 == n.0) && share_some (erasures_within T all (length T.methods) m) (erasures_within T all (length T.methods) n) && belongs T k n)
+        (views_clash T k (shape n) (class_view T k m) (class_view T k n)) (by (class_view T k m) (class_view T k n) signed)
+      where
+        is : owner T m ≡ k
+        is = ap (λ j. record { 0 = j }) (number (owner T m).0 k.0 e)
 
-    plain_step : (q p : MethodId) → is_plain T q ≡ true → is_plain T p ≡ true → replaces T q p ≡ true → erased_params T q ≡ erased_params T p
-    plain_step q p eq ep r = by (class_view T (owner T q) q) (class_view T (owner T q) p) refl refl (replaces_signed T q p r)
+        signed : subsignature_of T (class_view T k m) (class_view T k n) ≡ true
+        signed = subst (λ c. subsignature_of T (class_view T c m) (class_view T c n) ≡ true) is (replaces_signed T m n r)
+
+        by : (a b : Option MethodView) → subsignature_of T a b ≡ true → views_clash T k (shape n) a b ≡ false
+        by None b s = refl
+        by (Some a) None s = refl
+        by (Some a) (Some b) s = ap (λ c. not c && not (settles T k (shape n) a b)) s
+
+    -- fixed methods of one name don't clash
+    fixed_at : (j : MethodId) → fixed_name T x ≡ true → IsNamed T x j → is_fixed T j ≡ true
+    fixed_at j fixed h = fixed_of T j all fixed (in_named T x j h)
+
+    fixed_step : (q p : MethodId) → is_fixed T q ≡ true → is_fixed T p ≡ true → replaces T q p ≡ true → erased_params T q ≡ erased_params T p
+    fixed_step q p eq ep r = by (class_view T (owner T q) q) (class_view T (owner T q) p) refl refl (replaces_signed T q p r)
       where
         by : (a b : Option MethodView) → class_view T (owner T q) q ≡ a → class_view T (owner T q) p ≡ b → subsignature_of T a b ≡ true → erased_params T q ≡ erased_params T p
         by None b f g s = cc
@@ -325,30 +347,30 @@ module _ (T : Table) (k : ClassId) where
         by (Some a) (Some b) f g s = same_erasure T (owner T q) q p a b eq ep f g s
 
     -- a method of the name, where it is one of the table, with the erasure of m
-    record PlainLike (m p : MethodId) : Type 0 where
+    record FixedLike (m p : MethodId) : Type 0 where
       pub name : method_name_of T p ≡ x
       pub same : p.0 < length T.methods → erased_params T m ≡ erased_params T p
 
-    plain_erasure : (m i : MethodId) → plain_name T x ≡ true → IsNamed T x m → IsNamed T x i → reaches T m i ≡ true → erased_params T m ≡ erased_params T i
-    plain_erasure m i plain hm hi e = (reached_told T m (PlainLike m) (record { name = hm.name; same = λ lt. refl }) next i e).same hi.within
+    fixed_erasure : (m i : MethodId) → fixed_name T x ≡ true → IsNamed T x m → IsNamed T x i → reaches T m i ≡ true → erased_params T m ≡ erased_params T i
+    fixed_erasure m i fixed hm hi e = (reached_told T m (FixedLike m) (record { name = hm.name; same = λ lt. refl }) next i e).same hi.within
       where
-        next : (q p : MethodId) → q.0 < length T.methods → PlainLike m q → replaces T q p ≡ true → PlainLike m p
+        next : (q p : MethodId) → q.0 < length T.methods → FixedLike m q → replaces T q p ≡ true → FixedLike m p
         next q p within like r =
             let name : method_name_of T p ≡ x = sym (replaces_named T q p r) ∙ like.name in
             record {
               name = name;
-              same = λ lt. like.same within ∙ plain_step q p (plain_at q plain (record { within = within; name = like.name })) (plain_at p plain (record { within = lt; name = name })) r;
+              same = λ lt. like.same within ∙ fixed_step q p (fixed_at q fixed (record { within = within; name = like.name })) (fixed_at p fixed (record { within = lt; name = name })) r;
             }
 
-    plain_clear : plain_name T x ≡ true → (v w : MethodView) → Has v → Has w → method_name_of T v.id ≡ x → method_name_of T w.id ≡ x → clashes T k kept v w ≡ true → ⊥
-    plain_clear plain v w hv hw ev ew e =
+    fixed_clear : fixed_name T x ≡ true → (v w : MethodView) → Has v → Has w → method_name_of T v.id ≡ x → method_name_of T w.id ≡ x → clashes T k kept v w ≡ true → ⊥
+    fixed_clear fixed v w hv hw ev ew e =
         let parts = clash_parts v w e in
         let meet : Meeting T v.id w.id x = meeting_of T v.id w.id x ev ew parts.2 in
-        let left = plain_erasure v.id meet.left plain (named v hv ev) meet.left_named meet.left_below in
-        let right = plain_erasure w.id meet.right plain (named w hw ew) meet.right_named meet.right_below in
+        let left = fixed_erasure v.id meet.left fixed (named v hv ev) meet.left_named meet.left_below in
+        let right = fixed_erasure w.id meet.right fixed (named w hw ew) meet.right_named meet.right_below in
         let same : erased_params T v.id ≡ erased_params T w.id = left ∙ all_same (erased_params T meet.left) (erased_params T meet.right) meet.same ∙ sym right in
         not_both (subsignature T v w)
-        (same_plain T k v.id w.id v w (plain_of T v.id all plain (in_named T x v.id (named v hv ev))) (plain_of T w.id all plain (in_named T x w.id (named w hw ew))) hv.view hw.view parts.0 same)
+        (same_fixed T k v.id w.id v w (fixed_of T v.id all fixed (in_named T x v.id (named v hv ev))) (fixed_of T w.id all fixed (in_named T x w.id (named w hw ew))) hv.view hw.view parts.0 same)
         (not_false (subsignature T v w) parts.1)
 
   -- ---- a class's breaks
@@ -406,32 +428,36 @@ module _ (T : Table) (k : ClassId) where
 
     -- .. and one that is found name by name
     module _ (all : List Shape) where
-      beside_of : (s : Shape) (us : List Shape) → IsOf b (beside_broken T k place s us) → (u : Shape) × In u us × IsOf b (broken_if (clash_at T k s u) 801 (clash_place T k place s.id u.id))
-      beside_of s [] h = absurd h
-      beside_of s (u ∷ us) h = by (of_either b (broken_if (clash_at T k s u) 801 (clash_place T k place s.id u.id)) (beside_broken T k place s us) h) (λ h. beside_of s us h)
+      beside_of : (s : Shape) (marks : List Bool) (us : List Shape) → IsOf b (beside_broken T k place s marks us) → (u : Shape) × In u us × IsOf b (broken_if (clash_at T k s u) 801 (clash_place T k place s.id u.id))
+      beside_of s marks [] h = absurd h
+      beside_of s marks (u ∷ us) h =
+          by (first_mark marks) (of_either b (cond (first_mark marks) [] (broken_if (clash_at T k s u) 801 (clash_place T k place s.id u.id))) (beside_broken T k place s (behind_first marks) us) h)
+          (λ h. beside_of s (behind_first marks) us h)
         where
-          by : IsOf b (broken_if (clash_at T k s u) 801 (clash_place T k place s.id u.id)) ⊎ IsOf b (beside_broken T k place s us)
-              → (IsOf b (beside_broken T k place s us) → (t : Shape) × In t us × IsOf b (broken_if (clash_at T k s t) 801 (clash_place T k place s.id t.id)))
+          by : (c : Bool) → IsOf b (cond c [] (broken_if (clash_at T k s u) 801 (clash_place T k place s.id u.id))) ⊎ IsOf b (beside_broken T k place s (behind_first marks) us)
+              → (IsOf b (beside_broken T k place s (behind_first marks) us) → (t : Shape) × In t us × IsOf b (broken_if (clash_at T k s t) 801 (clash_place T k place s.id t.id)))
               → (t : Shape) × In t (u ∷ us) × IsOf b (broken_if (clash_at T k s t) 801 (clash_place T k place s.id t.id))
-          by (inl h) g = (u, inl refl, h)
-          by (inr h) g = let rest = g h in (rest.0, inr rest.1, rest.2)
+          by true (inl h) g = absurd h
+          by false (inl h) g = (u, inl refl, h)
+          by true (inr h) g = let rest = g h in (rest.0, inr rest.1, rest.2)
+          by false (inr h) g = let rest = g h in (rest.0, inr rest.1, rest.2)
 
-      of_beside : (s u : Shape) (us : List Shape) → In u us → IsOf b (broken_if (clash_at T k s u) 801 (clash_place T k place s.id u.id)) → IsOf b (beside_broken T k place s us)
-      of_beside s u [] h m = absurd h
-      of_beside s u (t ∷ us) (inl is) m =
-          of_left b (broken_if (clash_at T k s t) 801 (clash_place T k place s.id t.id)) (beside_broken T k place s us)
+      of_rest : (s u : Shape) (us : List Shape) → In u us → IsOf b (broken_if (clash_at T k s u) 801 (clash_place T k place s.id u.id)) → IsOf b (beside_broken T k place s [] us)
+      of_rest s u [] h m = absurd h
+      of_rest s u (t ∷ us) (inl is) m =
+          of_left b (broken_if (clash_at T k s t) 801 (clash_place T k place s.id t.id)) (beside_broken T k place s [] us)
           (subst (λ (z : Shape). IsOf b (broken_if (clash_at T k s z) 801 (clash_place T k place s.id z.id))) is m)
-      of_beside s u (t ∷ us) (inr h) m = of_right b (broken_if (clash_at T k s t) 801 (clash_place T k place s.id t.id)) (beside_broken T k place s us) (of_beside s u us h m)
+      of_rest s u (t ∷ us) (inr h) m = of_right b (broken_if (clash_at T k s t) 801 (clash_place T k place s.id t.id)) (beside_broken T k place s [] us) (of_rest s u us h m)
 
-      member_at : (s : Shape) → IsOf b (member_broken T k place all s) → (is_member T k s ≡ true) × IsOf b (beside_broken T k place s all)
+      member_at : (s : Shape) → IsOf b (member_broken T k place all s) → (is_member T k s ≡ true) × IsOf b (beside_broken T k place s (passed_over T k s) all)
       member_at s h = by (is_member T k s) h
         where
-          by : (c : Bool) → IsOf b (cond c (beside_broken T k place s all) []) → (c ≡ true) × IsOf b (beside_broken T k place s all)
+          by : (c : Bool) → IsOf b (cond c (beside_broken T k place s (passed_over T k s) all) []) → (c ≡ true) × IsOf b (beside_broken T k place s (passed_over T k s) all)
           by true h = (refl, h)
           by false h = absurd h
 
-      at_member : (s : Shape) → is_member T k s ≡ true → IsOf b (beside_broken T k place s all) → IsOf b (member_broken T k place all s)
-      at_member s e h = subst (λ c. IsOf b (cond c (beside_broken T k place s all) [])) (sym e) h
+      at_member : (s : Shape) → is_member T k s ≡ true → IsOf b (beside_broken T k place s (passed_over T k s) all) → IsOf b (member_broken T k place all s)
+      at_member s e h = subst (λ c. IsOf b (cond c (beside_broken T k place s (passed_over T k s) all) [])) (sym e) h
 
       group_of : (ss : List Shape) → IsOf b (group_broken T k place all ss) → (s : Shape) × In s ss × IsOf b (member_broken T k place all s)
       group_of [] h = absurd h
@@ -446,6 +472,34 @@ module _ (T : Table) (k : ClassId) where
       of_group s [] h m = absurd h
       of_group s (t ∷ ss) (inl is) m = of_left b (member_broken T k place all t) (group_broken T k place all ss) (subst (λ z. IsOf b (member_broken T k place all z)) is m)
       of_group s (t ∷ ss) (inr h) m = of_right b (member_broken T k place all t) (group_broken T k place all ss) (of_group s ss h m)
+
+    module _ (x : List ℕ) (m n : MethodId) (found : IsOf b (broken_if (clash_at T k (shape_of T (all_named T x) m) (shape_of T (all_named T x) n)) 801 (clash_place T k place m n))) where
+      abbrev ids : List MethodId
+      ids = all_named T x
+
+      abbrev pair : MethodId → List Refusal
+      pair p = broken_if (clash_at T k (shape_of T ids m) (shape_of T ids p)) 801 (clash_place T k place m p)
+
+      of_marked : same_class (owner T m) k ≡ true → (ms : List MethodId) → In n ms → IsOf b (beside_broken T k place (shape_of T ids m) (map (replaces T m) ms) (shapes_of T ids ms))
+      of_marked own [] h = absurd h
+      of_marked own (p ∷ ms) (inl is) =
+          of_left b (cond (replaces T m p) [] (pair p)) (beside_broken T k place (shape_of T ids m) (map (replaces T m) ms) (shapes_of T ids ms)) (by (replaces T m p) refl)
+        where
+          here : IsOf b (pair p)
+          here = subst (λ q. IsOf b (pair q)) is found
+
+          by : (c : Bool) → replaces T m p ≡ c → IsOf b (cond c [] (pair p))
+          by true r =
+              absurd (not_both (clash_at T k (shape_of T ids m) (shape_of T ids p)) (broken_true b (clash_at T k (shape_of T ids m) (shape_of T ids p)) 801 (clash_place T k place m p) here) (overridden_clear x m p own r))
+          by false r = here
+      of_marked own (p ∷ ms) (inr h) = of_right b (cond (replaces T m p) [] (pair p)) (beside_broken T k place (shape_of T ids m) (map (replaces T m) ms) (shapes_of T ids ms)) (of_marked own ms h)
+
+      of_beside : In n ids → IsOf b (beside_broken T k place (shape_of T ids m) (passed_over T k (shape_of T ids m)) (group_named T x))
+      of_beside h = by (same_class (owner T m) k) refl
+        where
+          by : (c : Bool) → same_class (owner T m) k ≡ c → IsOf b (beside_broken T k place (shape_of T ids m) (cond c (below_in T ids m) []) (group_named T x))
+          by true own = of_marked own ids h
+          by false own = of_rest (group_named T x) (shape_of T ids m) (shape_of T ids n) (group_named T x) (shape_in T ids n ids h) found
 
     groups_of : (gs : List (List Shape)) → IsOf b (groups_broken T k place gs) → (g : List Shape) × In g gs × IsOf b (group_broken T k place g g)
     groups_of [] h = absurd h
@@ -497,7 +551,7 @@ module _ (T : Table) (k : ClassId) where
             let s = of_shape T ids second.0 ids second.1 in
             let m = s.0 in
             let at = member_at group (shape_of T ids m) (subst (λ z. IsOf b (member_broken T k place group z)) s.2 second.2) in
-            let third = beside_of group (shape_of T ids m) group at.1 in
+            let third = beside_of group (shape_of T ids m) (passed_over T k (shape_of T ids m)) group at.1 in
             let u = of_shape T ids third.0 ids third.1 in
             let n = u.0 in
             let found : IsOf b (broken_if (clash_at T k (shape_of T ids m) (shape_of T ids n)) 801 (clash_place T k place m n)) =
@@ -515,7 +569,7 @@ module _ (T : Table) (k : ClassId) where
         let hw = has_of w h.has in
         let clash = broken_true b (clashes T k kept v w) 801 (clash_place T k place v.id w.id) h.broken in
         let ew : method_name_of T w.id ≡ x = sym (same_bytes (method_name_of T v.id) (method_name_of T w.id) (clash_parts v w clash).0) in
-        let hard : plain_name T x ≡ false = is_false (plain_name T x) (λ e. plain_clear x e v w hv hw refl ew clash) in
+        let hard : fixed_name T x ≡ false = is_false (fixed_name T x) (λ e. fixed_clear x e v w hv hw refl ew clash) in
         let ids = all_named T x in
         let group = group_named T x in
         let member : is_member T k (shape_of T ids v.id) ≡ true =
@@ -525,7 +579,7 @@ module _ (T : Table) (k : ClassId) where
         of_groups group (groups T) (group_in T x v.id (named x v hv refl) hard)
         (of_group group (shape_of T ids v.id) group (shape_in T ids v.id ids (in_named T x v.id (named x v hv refl)))
         (at_member group (shape_of T ids v.id) member
-        (of_beside group (shape_of T ids v.id) (shape_of T ids w.id) group (shape_in T ids w.id ids (in_named T x w.id (named x w hw ew))) found)))
+        (of_beside x v.id w.id found (in_named T x w.id (named x w hw ew)))))
 
 -- ---- all classes
 

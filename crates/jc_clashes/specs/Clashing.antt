@@ -4,19 +4,20 @@ use Rattle.std.specs.List.{list_any}
 use Rattle.jc_rules.specs.declared.rule.Place.{Place}
 use Rattle.jc_rules.specs.declared.rule.Refusal.{Refusal}
 use Rattle.jc_types.specs.declared.declarations.ClassDecl.{ClassDecl}
-use Rattle.jc_types.specs.declared.form.Ty.{Ty}
 use Rattle.jc_types.specs.declared.ids.ClassId.{ClassId}
 use Rattle.jc_types.specs.declared.ids.MethodId.{MethodId}
 use Rattle.jc_types.specs.declared.table.Table.{Table}
 use Rattle.jc_overriding.specs.declared.view.MethodView.{MethodView}
 use Rattle.jc_overriding.specs.Overriding.{is_inheritable, is_method, owner, same_class}
-use Rattle.jc_overriding.specs.Signatures.{same_all, subsignature}
+use Rattle.jc_overriding.specs.Signatures.{subsignature}
 use Rattle.jc_overriding.specs.Viewing.{class_view, own_type}
 use Rattle.jc_header_rules.specs.Clashes.{clash_place}
 use Rattle.jc_header_rules.specs.Inheriting.{with_body}
 use Rattle.jc_header_rules.specs.Places.{broken_if}
 use Rattle.jc_members.specs.Listing.{has_method}
 use Rattle.jc_clashes.specs.declared.shapes.Shape.{Shape}
+use Rattle.jc_clashes.specs.Erasures.{share_some}
+use Rattle.jc_clashes.specs.Marks.{behind_first, first_mark}
 
 -- class k declares method m, or may inherit it
 abbrev pub belongs : Table → ClassId → MethodId → Bool
@@ -29,9 +30,6 @@ is_replaced T k s = list_any (belongs T k) s.above
 -- the method is a member of the class
 abbrev pub is_member : Table → ClassId → Shape → Bool
 is_member T k s = belongs T k s.id && not (is_replaced T k s)
-
-abbrev pub share_some : List (List Ty) → List (List Ty) → Bool
-share_some es fs = list_any (λ e. list_any (same_all e) fs) es
 
 -- of two inherited members b, whose shape is u, stands in a's place
 abbrev pub settles : Table → ClassId → Shape → MethodView → MethodView → Bool
@@ -50,13 +48,17 @@ clash_at T k s u =
 abbrev pub pair_broken : Table → ClassId → Place → Shape → Shape → List Refusal
 pair_broken T k place s u = broken_if (clash_at T k s u) 801 (clash_place T k place s.id u.id)
 
--- .. and beside each of these
-abbrev pub beside_broken : Table → ClassId → Place → Shape → List Shape → List Refusal
-beside_broken T k place s [] = []
-beside_broken T k place s (u ∷ us) = pair_broken T k place s u ++ beside_broken T k place s us
+-- .. and beside each of these that isn't marked
+abbrev pub beside_broken : Table → ClassId → Place → Shape → List Bool → List Shape → List Refusal
+beside_broken T k place s marks [] = []
+beside_broken T k place s marks (u ∷ us) = cond (first_mark marks) [] (pair_broken T k place s u) ++ beside_broken T k place s (behind_first marks) us
+
+-- What a method overrides or hides doesn't clash with it in its own class.
+abbrev pub passed_over : Table → ClassId → Shape → List Bool
+passed_over T k s = cond (same_class (owner T s.id) k) s.below []
 
 abbrev pub member_broken : Table → ClassId → Place → List Shape → Shape → List Refusal
-member_broken T k place all s = cond (is_member T k s) (beside_broken T k place s all) []
+member_broken T k place all s = cond (is_member T k s) (beside_broken T k place s (passed_over T k s) all) []
 
 abbrev pub group_broken : Table → ClassId → Place → List Shape → List Shape → List Refusal
 group_broken T k place all [] = []

@@ -1,5 +1,5 @@
 -- Classes that have no method of these, nor any class above them.
-use Rattle.std.specs.Prelude.{◌≡◌, ℕ, zero, suc, Bool, true, false, not, ◌&&◌, ◌||◌, List, [], ◌∷◌, length, Option, Some, None, slice_get}
+use Rattle.std.specs.Prelude.{◌≡◌, ℕ, zero, suc, Bool, true, false, not, ◌&&◌, ◌||◌, List, [], ◌∷◌, length, Option, Some, None}
 use Rattle.jc_types.specs.declared.form.Ty.{Ty}
 use Rattle.jc_types.specs.declared.ids.ClassId.{ClassId}
 use Rattle.jc_types.specs.declared.table.Table.{Table}
@@ -7,18 +7,11 @@ use Rattle.jc_types.specs.Accessors.{supers_of}
 use Rattle.jc_judge.specs.Kinds.{class_of}
 use Rattle.jc_overriding.specs.Overriding.{owner}
 use Rattle.jc_clashes.specs.declared.shapes.Shape.{Shape}
-
-abbrev pub mark_in : Option Bool → Bool
-mark_in None = false
-mark_in (Some b) = b
-
--- a class is marked
-abbrev pub is_clear : List Bool → ℕ → Bool
-is_clear marks x = mark_in (slice_get marks x)
+use Rattle.jc_clashes.specs.Marks.{is_marked}
 
 abbrev pub class_clear : List Bool → Option ClassId → Bool
 class_clear marks None = false
-class_clear marks (Some k) = is_clear marks k.0
+class_clear marks (Some k) = is_marked marks k.0
 
 -- each of these types is of a marked class
 abbrev pub all_clear : List Bool → List Ty → Bool
@@ -27,7 +20,7 @@ all_clear marks (t ∷ ts) = class_clear marks (class_of t) && all_clear marks t
 
 -- a class isn't marked, or its supertypes are of marked classes
 unfoldable pub keeps_clear : Table → List Bool → ℕ → Bool
-keeps_clear T marks x = not (is_clear marks x) || all_clear marks (supers_of T (record { 0 = x }))
+keeps_clear T marks x = not (is_marked marks x) || all_clear marks (supers_of T (record { 0 = x }))
 
 -- .. for n classes from number i on
 abbrev pub stays_from : Table → List Bool → ℕ → ℕ → Bool
@@ -37,7 +30,7 @@ stays_from T marks i (suc n) = keeps_clear T marks i && stays_from T marks (suc 
 -- the class of none of these methods is marked
 abbrev pub none_clear : Table → List Bool → List Shape → Bool
 none_clear T marks [] = true
-none_clear T marks (s ∷ ss) = not (is_clear marks (owner T s.id).0) && none_clear T marks ss
+none_clear T marks (s ∷ ss) = not (is_marked marks (owner T s.id).0) && none_clear T marks ss
 
 abbrev pub all_apart : Table → List Bool → List (List Shape) → Bool
 all_apart T marks [] = true

@@ -1,7 +1,9 @@
-pub mod Shapes
 pub mod Clashing
-pub mod Stage
 pub mod Clear
 pub mod Climbing
-pub mod Walking
 pub mod Constructors
+pub mod Erasures
+pub mod Marks
+pub mod Shapes
+pub mod Spreading
+pub mod Stage

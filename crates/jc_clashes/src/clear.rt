@@ -1,8 +1,9 @@
 //! Classes that have no method of certain names, nor any class above them: nothing is asked of these.
 ghost use Rattle.std.specs.Prelude.{◌≡◌, ◌||◌, ℕ, true, IfOk, length, not};
-ghost use Rattle.jc_clashes.specs.Clear.{AreClear, all_apart, all_clear, class_clear, is_clear, keeps_clear, none_clear, stays_from};
+ghost use Rattle.jc_clashes.specs.Clear.{AreClear, all_apart, all_clear, class_clear, keeps_clear, none_clear, stays_from};
 ghost use Rattle.jc_judge.specs.Kinds.{class_of};
 
+use crate::marks::is_marked;
 use crate::shapes::Shape;
 use jc_members::owner;
 use jc_rules::{Items, WantOfMemory};
@@ -10,21 +11,11 @@ use jc_sub::class_of;
 use jc_types::{ClassId, Table, Ty, class_supers};
 use std::alloc::Global;
 
-/// Whether a class is marked.
-pub fn is_clear(marks: &[bool], class: u64) -> bool
-    ensures { result ≡ is_clear marks.now class }
-{
-    match marks.get(class as usize) {
-        Some(mark) => *mark,
-        None => false,
-    }
-}
-
 fn class_clear(marks: &[bool], t: &Ty) -> bool
     ensures { result ≡ class_clear marks.now (class_of t.now) }
 {
     match class_of(t) {
-        Some(k) => is_clear(marks, k.0),
+        Some(k) => is_marked(marks, k.0),
         None => false,
     }
 }
@@ -46,7 +37,7 @@ fn all_clear(marks: &[bool], types: &[Ty]) -> bool
 fn keeps_clear(table: &Table, marks: &[bool], class: u64) -> bool
     ensures { result ≡ keeps_clear table.now marks.now class }
 {
-    !is_clear(marks, class) || all_clear(marks, class_supers(table, ClassId(class)))
+    !is_marked(marks, class) || all_clear(marks, class_supers(table, ClassId(class)))
 }
 
 // Whether the supertypes of each marked class are of marked classes.
@@ -67,7 +58,7 @@ fn none_clear(table: &Table, marks: &[bool], group: &[Shape]) -> bool
 {
     let mut rest = group;
     while let [s, more @ ..] = rest {
-        if is_clear(marks, owner(table, s.id).0) {
+        if is_marked(marks, owner(table, s.id).0) {
             return false;
         }
         rest = more;

@@ -6,9 +6,8 @@ ghost use Rattle.jc_header_rules.specs.Clashes.{place_or};
 ghost use Rattle.jc_header_rules.specs.Places.{broken_if, of_each};
 ghost use Rattle.jc_clashes.specs.Constructors.{constructors_breaks, constructors_from, is_constructor, is_constructor_kind, is_repeated, with_erasure};
 
-use crate::clashing::is_one;
+use crate::erasures::{erased_params, is_one};
 use crate::places::place_or;
-use crate::shapes::erased_params;
 use jc_header_rules::if_broken;
 use jc_rules::{Items, Place, Refusal, Rule, WantOfMemory};
 use jc_types::{MethodId, MethodKind, Table, Ty, method_kind};

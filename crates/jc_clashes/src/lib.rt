@@ -5,9 +5,11 @@
 mod clashing;
 mod clear;
 mod constructors;
+mod erasures;
+mod marks;
 mod places;
 mod shapes;
+mod spreading;
 mod stage;
-mod walking;
 
 pub use stage::check_clashes;

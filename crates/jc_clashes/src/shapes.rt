@@ -1,70 +1,42 @@
 //! The methods of each name that may clash, with what erasures tell of them, found once for all classes.
-ghost use Rattle.std.specs.Prelude.{◌≡◌, ◌++◌, IfOk, OnOk};
+ghost use Rattle.std.specs.Prelude.{◌≡◌, ◌++◌, IfOk, OnOk, map, slice_get};
 ghost use Rattle.std.specs.Option.{option_copied};
 ghost use Rattle.jc_overriding.specs.Overriding.{owner};
 ghost use Rattle.jc_overriding.specs.Viewing.{class_view, own_type};
 ghost use Rattle.jc_header_rules.specs.Clashes.{erased_params};
+ghost use Rattle.jc_members.specs.Below.{replaces};
 ghost use Rattle.jc_members.specs.Named.{IsMethodIndex};
 ghost use Rattle.jc_members.specs.Supertypes.{IsSupertypes};
-ghost use Rattle.jc_clashes.specs.Shapes.{AreOfName, above_at, all_plain, below_in, belows_of, erasures_at, erasures_in, group_of, groups, has_none, is_listed, is_plain, leads, shapes_of};
+ghost use Rattle.jc_clashes.specs.Shapes.{above_at, all_fixed, group_of, groups, leads, row_in, set_in, shapes_of};
+ghost use Rattle.jc_clashes.specs.Spreading.{below_in, belows_of, erasures_within};
 
-use crate::walking::walked;
+use crate::erasures::{Erasures, copied, erased_params};
+use crate::marks::is_marked;
+use crate::spreading::spread;
 use jc_members::{
-    MethodIndex, MethodView, Supertypes, method_in, own_supertypes, owner, plain, replaces,
-    same_all,
+    MethodIndex, MethodView, Supertypes, is_fixed, method_in, own_supertypes, owner, replaces,
 };
 use jc_rules::{Items, WantOfMemory};
-use jc_types::{MethodId, Table, Ty, VarId, method_name, method_params, method_vars};
+use jc_types::{MethodId, Table, method_name};
 use std::alloc::Global;
 
-/// A method beside those of its name: which of them override or hide it, and the erased parameters of itself and of all that it overrides or hides,
-/// directly or indirectly.
+/// A method beside those of its name: marks for those that it overrides or hides, which of them override or hide it, and the erased parameters
+/// of itself and of all that it overrides or hides, directly or indirectly, each once.
 #[derive(Drop)]
 pub struct Shape {
     pub id: MethodId,
+    pub below: Items<bool>,
     pub above: Items<MethodId>,
-    pub erasures: Items<Items<Ty>>,
+    pub erasures: Erasures,
 }
 
-/// The erasures of a method's parameters.
-pub fn erased_params(alloc: Global, table: &Table, m: MethodId) -> Result<Items<Ty>, WantOfMemory>
-    ensures { IfOk result (λ r. r ≡ erased_params table.now m) }
-{
-    let mut out = Items::new(alloc);
-    let params = method_params(table, m);
-    for i in 0..params.len() {
-        out.push(plain(alloc, table, &params[i])?)?;
-    }
-    Ok(out)
-}
-
-fn has_none(vars: &[VarId]) -> bool
-    ensures { result ≡ has_none vars.now }
-{
-    match vars {
-        [] => true,
-        [_, ..] => false,
-    }
-}
-
-// Whether a method has no type parameters, and each of its parameters' types is its own erasure.
-#[tactic(auto, unfolding(crate::specs::Shapes::is_plain))]
-fn is_plain(alloc: Global, table: &Table, m: MethodId) -> Result<bool, WantOfMemory>
-    ensures { IfOk result (λ r. r ≡ is_plain table.now m) }
-{
-    if !has_none(method_vars(table, m)) {
-        return Ok(false);
-    }
-    let erased = erased_params(alloc, table, m)?;
-    Ok(same_all(erased.slice(), method_params(table, m)))
-}
-
-fn all_plain(alloc: Global, table: &Table, ids: &[MethodId]) -> Result<bool, WantOfMemory>
-    ensures { IfOk result (λ r. r ≡ all_plain table.now ids.now) }
+// Whether these methods have no type parameters, and each of their parameters' types is its own erasure.
+fn all_fixed(alloc: Global, table: &Table, ids: &[MethodId]) -> Result<bool, WantOfMemory>
+    ensures { IfOk result (λ r. r ≡ all_fixed table.now ids.now) }
 {
     let mut rest = ids;
     while let [m, more @ ..] = rest {
-        if !is_plain(alloc, table, *m)? {
+        if !is_fixed(alloc, table, *m)? {
             return Ok(false);
         }
         rest = more;
@@ -72,7 +44,7 @@ fn all_plain(alloc: Global, table: &Table, ids: &[MethodId]) -> Result<bool, Wan
     Ok(true)
 }
 
-// Of these methods of its name those that method m overrides or hides.
+// Which of these methods of its name method m overrides or hides, as its class has it.
 fn below_in(
     alloc: Global,
     table: &Table,
@@ -80,18 +52,16 @@ fn below_in(
     a: Option<&MethodView>,
     all: &[MethodId],
     m: MethodId,
-) -> Result<Items<MethodId>, WantOfMemory>
+) -> Result<Items<bool>, WantOfMemory>
     requires known { IsSupertypes table.now above.now }
     requires own { above.now.of ≡ own_type table.now (owner table.now m) }
     requires is { option_copied a ≡ class_view table.now (owner table.now m) m }
-    ensures { IfOk result (λ r. r ≡ below_in table.now m all.now) }
+    ensures { IfOk result (λ r. r ≡ below_in table.now all.now m) }
 {
     let mut below = Items::new(alloc);
     let mut rest = all;
     while let [j, more @ ..] = rest {
-        if replaces(alloc, table, above, a, m, *j)? {
-            below.push(*j)?;
-        }
+        below.push(replaces(alloc, table, above, a, m, *j)?)?;
         rest = more;
     }
     Ok(below)
@@ -102,19 +72,20 @@ fn below_of(
     table: &Table,
     all: &[MethodId],
     m: MethodId,
-) -> Result<Items<MethodId>, WantOfMemory>
-    ensures { IfOk result (λ r. r ≡ below_in table.now m all.now) }
+) -> Result<Items<bool>, WantOfMemory>
+    ensures { IfOk result (λ r. r ≡ below_in table.now all.now m) }
 {
     let above = own_supertypes(alloc, table, owner(table, m))?;
     let a = method_in(alloc, table, &above, m)?;
     below_in(alloc, table, &above, a.as_ref(), all, m)
 }
 
+// Marks for what each of these methods overrides or hides.
 fn belows_of(
     alloc: Global,
     table: &Table,
     all: &[MethodId],
-) -> Result<Items<Items<MethodId>>, WantOfMemory>
+) -> Result<Items<Items<bool>>, WantOfMemory>
     ensures { IfOk result (λ r. r ≡ belows_of table.now all.now all.now) }
 {
     let mut out = Items::new(alloc);
@@ -126,27 +97,14 @@ fn belows_of(
     Ok(out)
 }
 
-fn is_listed(m: MethodId, ids: &[MethodId]) -> bool
-    ensures { result ≡ is_listed m ids.now }
-{
-    let mut rest = ids;
-    while let [n, more @ ..] = rest {
-        if n.0 == m.0 {
-            return true;
-        }
-        rest = more;
-    }
-    false
-}
-
-// Of these methods, beside what each overrides or hides, those that override or hide method m.
+// Of these methods, each beside its marks, those that have one at this place.
 fn above_at(
     alloc: Global,
-    m: MethodId,
+    at: u64,
     ids: &[MethodId],
-    belows: &[Items<MethodId>],
+    belows: &[Items<bool>],
 ) -> Result<Items<MethodId>, WantOfMemory>
-    ensures { IfOk result (λ r. r ≡ above_at m ids.now belows.now) }
+    ensures { IfOk result (λ r. r ≡ above_at at ids.now belows.now) }
 {
     let mut out = Items::new(alloc);
     let mut rest = ids;
@@ -155,7 +113,7 @@ fn above_at(
         match left {
             [] => return Ok(out),
             [below, others @ ..] => {
-                if is_listed(m, below.slice()) {
+                if is_marked(below.slice(), at) {
                     out.push(*j)?;
                 }
                 left = others;
@@ -166,69 +124,65 @@ fn above_at(
     Ok(out)
 }
 
-// The erased parameters of the marked ones of these methods.
-fn erasures_at(
+// The erased parameters of each of these methods.
+fn own_erasures(
     alloc: Global,
     table: &Table,
     ids: &[MethodId],
-    marks: &[bool],
-) -> Result<Items<Items<Ty>>, WantOfMemory>
-    ensures { IfOk result (λ r. r ≡ erasures_at table.now ids.now marks.now) }
+) -> Result<Items<Erasures>, WantOfMemory>
+    ensures { IfOk result (λ r. r ≡ map (erasures_within table.now ids.now 0) ids.now) }
 {
     let mut out = Items::new(alloc);
     let mut rest = ids;
-    let mut left = marks;
-    while let [j, more @ ..] = rest {
-        match left {
-            [] => return Ok(out),
-            [mark, others @ ..] => {
-                if *mark {
-                    out.push(erased_params(alloc, table, *j)?)?;
-                }
-                left = others;
-            }
-        }
+    while let [m, more @ ..] = rest {
+        let mut own = Items::new(alloc);
+        own.push(erased_params(alloc, table, *m)?)?;
+        out.push(own)?;
         rest = more;
     }
     Ok(out)
 }
 
-// The erased parameters of m, and of those of its name that it overrides or hides, directly or indirectly.
-fn erasures_in(
-    alloc: Global,
-    table: &Table,
-    all: &[MethodId],
-    belows: &[Items<MethodId>],
-    m: MethodId,
-) -> Result<Items<Items<Ty>>, WantOfMemory>
-    requires name { AreOfName table.now all.now }
-    requires below { belows.now ≡ belows_of table.now all.now all.now }
-    ensures { IfOk result (λ r. r ≡ erasures_in table.now m all.now) }
+fn row_at(alloc: Global, belows: &[Items<bool>], at: usize) -> Result<Items<bool>, WantOfMemory>
+    ensures { IfOk result (λ r. r ≡ row_in (slice_get belows.now at)) }
 {
-    let marks = walked(alloc, all, belows, m, table.methods.len())?;
-    let erasures = erasures_at(alloc, table, all, marks.slice())?;
-    Ok(erasures)
+    match belows.get(at) {
+        None => Ok(Items::new(alloc)),
+        Some(below) => Ok(Items::of(Vec::from_slice(alloc, below.slice())?)),
+    }
+}
+
+fn set_at(alloc: Global, sets: &[Erasures], at: usize) -> Result<Erasures, WantOfMemory>
+    ensures { IfOk result (λ r. r ≡ set_in (slice_get sets.now at)) }
+{
+    match sets.get(at) {
+        None => Ok(Items::new(alloc)),
+        Some(set) => copied(alloc, set.slice()),
+    }
 }
 
 fn shapes_of(alloc: Global, table: &Table, all: &[MethodId]) -> Result<Items<Shape>, WantOfMemory>
-    requires { AreOfName table.now all.now }
     ensures { IfOk result (λ r. r ≡ shapes_of table.now all.now all.now) }
 {
     let belows = belows_of(alloc, table, all)?;
+    let own = own_erasures(alloc, table, all)?;
+    let sets = spread(alloc, belows.slice(), own, table.methods.len())?;
     let mut out = Items::new(alloc);
-    let mut rest = all;
-    while let [m, more @ ..] = rest {
+    for at in 0..all.len() {
+        let below = row_at(alloc, belows.slice(), at)?;
+        let above = above_at(alloc, at as u64, all, belows.slice())?;
+        let erasures = set_at(alloc, sets.slice(), at)?;
         out.push(Shape {
-            id: *m,
-            above: above_at(alloc, *m, all, belows.slice())?,
-            erasures: erasures_in(alloc, table, all, belows.slice(), *m)?,
+            id: all[at],
+            below,
+            above,
+            erasures,
         })?;
-        rest = more;
     }
     Ok(out)
 }
 
-// Whether a method is the first of these, which aren't all plain.
+// Whether a method is the first of these, which aren't all fixed.
 fn leads(alloc: Global, table: &Table, m: MethodId, ids: &[MethodId]) -> Result<bool, WantOfMemory>
     ensures { IfOk result (λ r. r ≡ leads table.now m ids.now) }
 {
@@ -238,12 +192,12 @@ fn leads(alloc: Global, table: &Table, m: MethodId, ids: &[MethodId]) -> Result<
             if n.0 != m.0 {
                 return Ok(false);
             }
-            Ok(!all_plain(alloc, table, ids)?)
+            Ok(!all_fixed(alloc, table, ids)?)
         }
     }
 }
 
-// Adds the methods of the name of m, where it is the first of them, and they aren't all plain.
+// Adds the methods of the name of m, where it is the first of them, and they aren't all fixed.
 fn push_group(
     alloc: Global,
     table: &Table,
@@ -251,7 +205,6 @@ fn push_group(
     ids: &[MethodId],
     out: &mut Items<Items<Shape>>,
 ) -> Result<(), WantOfMemory>
-    requires { AreOfName table.now ids.now }
     ensures { OnOk result (out.new ≡ out.old ++ group_of table.now m ids.now) }
 {
     if !leads(alloc, table, m, ids)? {
@@ -260,7 +213,7 @@ fn push_group(
     out.push(shapes_of(alloc, table, ids)?)
 }
 
-/// The methods of each name that has one that isn't plain. Methods of other names don't clash.
+/// The methods of each name that has one whose parameters aren't the same in each class. Methods of other names don't clash.
 pub fn groups(
     alloc: Global,
     table: &Table,

@@ -7,52 +7,63 @@ ghost use Rattle.jc_clashes.specs.Clear.{AreClear};
 ghost use Rattle.jc_clashes.specs.Shapes.{groups};
 ghost use Rattle.jc_clashes.specs.Stage.{HasNoClash, IsClashesStop, IsFirstClash};
 
-use crate::clashing::groups_broken;
-use crate::clear::{clear_marks, is_clear};
+use crate::clashing::Setting;
+use crate::clear::clear_marks;
 use crate::constructors::constructors_broken;
+use crate::marks::is_marked;
 use crate::shapes::{Shape, groups};
 use jc_members::{method_index, own_supertypes};
 use jc_rules::{Items, Refusal, Stop, WantOfMemory};
 use jc_types::{ClassDecl, ClassId, Table};
 use std::alloc::Global;
 
-// What a class breaks: nothing, where it is marked.
-#[tactic(auto, using(crate::proofs::Marked::clear_told))]
-fn class_broken(
-    alloc: Global,
-    table: &Table,
-    found: Option<Refusal>,
-    k: ClassId,
-    class: &ClassDecl,
-    groups: &[Items<Shape>],
-    marks: &[bool],
-) -> Result<Option<Refusal>, WantOfMemory>
-    requires { AreClear table.now marks.now groups.now }
-    ensures { IfOk result (λ r. r ≡ least found (class_clashes table.now groups.now k.0 class.now)) }
-{
-    if is_clear(marks, k.0) {
-        return Ok(found);
-    }
-    let above = own_supertypes(alloc, table, k)?;
-    groups_broken(alloc, table, found, &above, k, class.place, groups)
+/// The methods of each name that may clash, with marks for the classes that have none of them.
+#[derive(Clone, Copy)]
+struct Compared<'a> {
+    table: &'a Table,
+    groups: &'a [Items<Shape>],
+    marks: &'a [bool],
 }
 
-fn classes_broken(
-    alloc: Global,
-    table: &Table,
-    groups: &[Items<Shape>],
-    marks: &[bool],
-) -> Result<Option<Refusal>, WantOfMemory>
-    requires { AreClear table.now marks.now groups.now }
-    ensures { IfOk result (λ r. r ≡ least None (of_each (class_clashes table.now groups.now) 0 table.now.classes)) }
-{
-    let mut found = None;
-    let classes = table.classes.slice();
-    for number in 0..classes.len() {
-        let k = ClassId(number as u64);
-        found = class_broken(alloc, table, found, k, &classes[number], groups, marks)?;
+impl<'a> Compared<'a> {
+    // What a class breaks: nothing, where it is marked.
+    #[tactic(auto, using(crate::proofs::Marked::clear_told))]
+    fn class_broken(
+        &self,
+        alloc: Global,
+        found: Option<Refusal>,
+        k: ClassId,
+        class: &ClassDecl,
+    ) -> Result<Option<Refusal>, WantOfMemory>
+        requires { AreClear self.now.table.now self.now.marks.now self.now.groups.now }
+        ensures { IfOk result (λ r. r ≡ least found (class_clashes self.now.table.now self.now.groups.now k.0 class.now)) }
+    {
+        if is_marked(self.marks, k.0) {
+            return Ok(found);
+        }
+        let above = own_supertypes(alloc, self.table, k)?;
+        let setting = Setting {
+            alloc,
+            table: self.table,
+            above: &above,
+            class: k,
+            place: class.place,
+        };
+        setting.groups_broken(found, self.groups)
     }
-    Ok(found)
+
+    fn classes_broken(&self, alloc: Global) -> Result<Option<Refusal>, WantOfMemory>
+        requires { AreClear self.now.table.now self.now.marks.now self.now.groups.now }
+        ensures { IfOk result (λ r. r ≡ least None (of_each (class_clashes self.now.table.now self.now.groups.now) 0 self.now.table.now.classes)) }
+    {
+        let mut found = None;
+        let classes = self.table.classes.slice();
+        for number in 0..classes.len() {
+            let k = ClassId(number as u64);
+            found = self.class_broken(alloc, found, k, &classes[number])?;
+        }
+        Ok(found)
+    }
 }
 
 // The first clash.
@@ -63,7 +74,12 @@ fn first_clash(alloc: Global, table: &Table) -> Result<Option<Refusal>, WantOfMe
     let index = method_index(alloc, table)?;
     let groups = groups(alloc, table, &index)?;
     let marks = clear_marks(alloc, table, groups.slice())?;
-    let found = classes_broken(alloc, table, groups.slice(), marks.slice())?;
+    let compared = Compared {
+        table,
+        groups: groups.slice(),
+        marks: marks.slice(),
+    };
+    let found = compared.classes_broken(alloc)?;
     constructors_broken(alloc, table, found)
 }
 

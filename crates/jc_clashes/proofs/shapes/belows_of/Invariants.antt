@@ -1,5 +1,5 @@
 use Rattle.std.proofs.Common.{◌≡◌, ◌++◌, length}
-use Rattle.jc_clashes.specs.Shapes.{belows_of}
+use Rattle.jc_clashes.specs.Spreading.{belows_of}
 use Rattle.jc_clashes.proofs.shapes.belows_of.Given as goal
 
 abbrev pub invariant-loop-rest : goal.invariant-loop-rest

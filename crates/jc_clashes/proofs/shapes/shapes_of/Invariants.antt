@@ -1,9 +1,6 @@
-use Rattle.std.proofs.Common.{◌≡◌, ◌++◌, length}
+use Rattle.std.proofs.Common.{◌≡◌, ◌++◌, drop}
 use Rattle.jc_clashes.specs.Shapes.{shapes_of}
 use Rattle.jc_clashes.proofs.shapes.shapes_of.Given as goal
 
-abbrev pub invariant-loop-rest : goal.invariant-loop-rest
-invariant-loop-rest l = l.out ++ shapes_of l.table l.all l.rest ≡ shapes_of l.table l.all l.all
-
-abbrev pub decreases-loop-rest : goal.decreases-loop-rest
-decreases-loop-rest l = length l.rest
+abbrev pub invariant-loop-at : goal.invariant-loop-at
+invariant-loop-at l = l.out ++ shapes_of l.table l.all (drop l.at l.all) ≡ shapes_of l.table l.all l.all
