@@ -3,4 +3,7 @@
 
 mod laws;
 
-pub use laws::{ids_ascend_with_places, no_class_is_its_own_supertype, sources_have_a_table};
+pub use laws::{
+    ids_ascend_with_places, no_class_is_its_own_supertype, sources_form_a_hierarchy,
+    sources_have_a_table, sources_have_headers,
+};

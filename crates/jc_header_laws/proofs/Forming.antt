@@ -221,3 +221,10 @@ pub exact : (T : Table) → types_breaks T ≡ [] → (n : ℕ) (c : ClassDecl) 
 exact T unbroken n c at t places h =
     let supers : of_written supertype_broken c.supers.types c.supers.places ≡ [] = rear (types_broken T c.supers) (of_written supertype_broken c.supers.types c.supers.places) (at_number T unbroken n c at) in
     not_broken (has_wildcard_at (out-Ty t)) 408 places.first (of_pair supertype_broken t places c.supers.types c.supers.places supers h)
+
+-- a written supertype has no fault
+pub super_faultless : (T : Table) → types_breaks T ≡ [] → (n : ℕ) (c : ClassDecl) → IsNumber 0 n c T.classes → (t : Ty) (places : TypePlaces) → IsPair t places c.supers.types c.supers.places
+    → length places.classes ≡ length (inside t) → all_faults T [] (inside t) ≡ []
+super_faultless T unbroken n c at t places h l =
+    let supers : types_broken T c.supers ≡ [] = fore (types_broken T c.supers) (of_written supertype_broken c.supers.types c.supers.places) (at_number T unbroken n c at) in
+    no_faults T (inside t) places.classes l (of_pair (type_broken T) t places c.supers.types c.supers.places supers h)

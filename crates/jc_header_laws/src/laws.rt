@@ -1,14 +1,19 @@
 //! The laws.
-ghost use Rattle.std.specs.Prelude.{◌≡◌, [], false, length, ℕ};
+ghost use Rattle.std.specs.Prelude.{◌≡◌, ◌≢◌, [], false, length, Some, ℕ};
 ghost use Rattle.jc_types.specs.declared.declarations.ClassDecl.{ClassDecl};
 ghost use Rattle.jc_types.specs.declared.declarations.MethodDecl.{MethodDecl};
 ghost use Rattle.jc_types.specs.declared.declarations.TypePlaces.{TypePlaces};
 ghost use Rattle.jc_types.specs.declared.form.Ty.{Ty, out-Ty};
+ghost use Rattle.jc_types.specs.declared.form.Ty.TheVariants.{Raw};
+ghost use Rattle.jc_types.specs.declared.ids.ClassId.{ClassId};
 ghost use Rattle.jc_types.specs.declared.ids.MethodId.{MethodId};
 ghost use Rattle.jc_types.specs.declared.table.Table.{Table};
+ghost use Rattle.jc_types.specs.Accessors.{vars_of};
 ghost use Rattle.jc_types.specs.Inside.{inside};
 ghost use Rattle.jc_judge.specs.Forming.{IsWellFormed};
+ghost use Rattle.jc_judge.specs.Kinds.{class_of};
 ghost use Rattle.jc_judge_laws.specs.Hierarchy.{IsHierarchy};
+ghost use Rattle.jc_header_rules.specs.Checked.{IsSupertype};
 ghost use Rattle.jc_header_rules.specs.Headers.{wants_body};
 ghost use Rattle.jc_header_rules.specs.Types.{has_wildcard_at};
 ghost use Rattle.jc_headers.specs.Stages.{IsUnbroken};
@@ -24,6 +29,11 @@ pub fn written_types_are_well_formed()
 /// .. and no supertype has a wildcard as one of its own arguments (JLS 8.1.4, 9.1.3).
 pub fn supertypes_are_exact()
     ensures { (T : Table) → IsUnbroken T → (n : ℕ) (c : ClassDecl) → IsNumber 0 n c T.classes → (t : Ty) (places : TypePlaces) → IsPair t places c.supers.types c.supers.places → has_wildcard_at (out-Ty t) ≡ false }
+{}
+
+/// .. a written supertype that is of a class has an exact argument for each parameter of that class, or is raw (JLS 4.5, 4.8, 8.1.4, 8.1.5).
+pub fn written_supertypes_are_supertypes()
+    ensures { (T : Table) → IsUnbroken T → (n : ℕ) (c : ClassDecl) → IsNumber 0 n c T.classes → (t : Ty) (places : TypePlaces) → IsPair t places c.supers.types c.supers.places → length places.classes ≡ length (inside t) → (k : ClassId) → class_of t ≡ Some k → (t ≡ Raw k → vars_of T k ≢ []) → IsSupertype T t }
 {}
 
 /// .. the supertypes of a class that have one class are one type (JLS 8.1.5, 9.1.3).

@@ -114,7 +114,7 @@ module _ (H : Heads) (K : Knowledge) (c b : ℕ) where
 
 -- ---- the classes of the table are those that are declared
 
-declared_at : (f : ℕ → ClassSite → ClassDecl) (i : ℕ) (ss : List ClassSite) (a : ℕ) (t : Ty) → IsIn t (supers_in (slice_get (counted f i ss) a))
+pub declared_at : (f : ℕ → ClassSite → ClassDecl) (i : ℕ) (ss : List ClassSite) (a : ℕ) (t : Ty) → IsIn t (supers_in (slice_get (counted f i ss) a))
     → (s : ClassSite) × (slice_get ss a ≡ Some s) × IsIn t (supers_in (Some (f (i + a) s)))
 declared_at f i [] zero t m = absurd m
 declared_at f i [] (suc a) t m = absurd m

@@ -2,8 +2,10 @@ pub mod Acyclic
 pub mod AllInside
 pub mod AllKnown
 pub mod Chains
+pub mod Distinct
 pub mod Edges
 pub mod Fitting
+pub mod Hierarchies
 pub mod IdsFit
 pub mod Indexed
 pub mod Leading
@@ -12,4 +14,7 @@ pub mod Owned
 pub mod PlacesFit
 pub mod PlacesZip
 pub mod Ranges
+pub mod Scoped
+pub mod Supers
 pub mod TypesInside
+pub mod Variables

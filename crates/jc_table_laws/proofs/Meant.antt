@@ -57,7 +57,7 @@ meant_one H (Some (AVariable v ∷ [])) args b e = absurd (no_class (record { 0 
 meant_one H (Some (AClass c ∷ n ∷ ms)) args b e = inl (sym (exact_class 0 b [] e))
 meant_one H (Some (AVariable v ∷ n ∷ ms)) args b e = inl (sym (exact_class 0 b [] e))
 
-wrote_class-parts : (H : Heads) (K : Knowledge) (r : Reading) (node : ClassTree)
+pub wrote_class-parts : (H : Heads) (K : Knowledge) (r : Reading) (node : ClassTree)
     → wrote_class H K r node ≡ class_tree_wrote H K r (record { first = wrote_part H K r (out-ClassTree node).first; more = map (wrote_part H K r) (out-ClassTree node).more })
 unfolding wrote_base wrote_arg wrote_class wrote_part wrote_type
 wrote_class-parts H K r node = fold_out-ClassTree Wrote WroteArg Wrote WrotePart Wrote base_wrote arg_wrote (class_tree_wrote H K r) part_wrote type_wrote node
@@ -68,15 +68,15 @@ unfolding wrote_base wrote_arg wrote_class wrote_part wrote_type
 wrote_part-parts H K r node = fold_out-TypePart Wrote WroteArg Wrote WrotePart Wrote base_wrote arg_wrote (class_tree_wrote H K r) part_wrote type_wrote node
 
 module _ (H : Heads) (K : Knowledge) (r : Reading) where
-  name_told : (p : TypePart) → name_of_part (wrote_part H K r p) ≡ part_name p
+  pub name_told : (p : TypePart) → name_of_part (wrote_part H K r p) ≡ part_name p
   name_told p = ap name_of_part (wrote_part-parts H K r p)
 
-  names_told : (ps : List TypePart) → map name_of_part (map (wrote_part H K r) ps) ≡ map part_name ps
+  pub names_told : (ps : List TypePart) → map name_of_part (map (wrote_part H K r) ps) ≡ map part_name ps
   names_told [] = refl
   names_told (p ∷ ps) = ap (λ n. n ∷ map name_of_part (map (wrote_part H K r) ps)) (name_told p) ∙ ap (λ ns. part_name p ∷ ns) (names_told ps)
 
   -- a written class type is what its name means, with some arguments
-  written_meant : (t : ClassTree) → (args : List Arg) × ((wrote_class H K r t).ty ≡ meant_type H (look_up H K r.find (path_of_class t).first (path_of_class t).more) args)
+  pub written_meant : (t : ClassTree) → (args : List Arg) × ((wrote_class H K r t).ty ≡ meant_type H (look_up H K r.find (path_of_class t).first (path_of_class t).more) args)
   written_meant t =
       let p : TypePart = (out-ClassTree t).first in
       let ps : List TypePart = (out-ClassTree t).more in

@@ -60,7 +60,7 @@ all_by test [] a = refl
 all_by test (x ∷ xs) a = both_true (test x) (list_all test xs) a.0 (all_by test xs a.1)
 
 -- of each in a list, with its number
-abbrev EachFrom : {X : Type 0} → (ℕ → X → Type 0) → ℕ → List X → Type 0
+abbrev pub EachFrom : {X : Type 0} → (ℕ → X → Type 0) → ℕ → List X → Type 0
 EachFrom P i [] = Unit {0}
 EachFrom P i (x ∷ xs) = P i x × EachFrom P (suc i) xs
 
@@ -78,7 +78,7 @@ from_at P i [] (suc n) x e a = absurd (let z : ⊥ = cc in z)
 from_at P i (y ∷ xs) zero x e a = subst (λ z. P (i + 0) z) (let g : y ≡ x = cc in g) (subst (λ (k : ℕ). P k y) (let g : i ≡ i + 0 = omega arith in g) a.0)
 from_at P i (y ∷ xs) (suc n) x e a = subst (λ (k : ℕ). P k x) (let g : suc i + n ≡ i + suc n = omega arith in g) (from_at P (suc i) xs n x e a.1)
 
-at_place : {X : Type 0} (P : ℕ → X → Type 0) (xs : List X) (n : ℕ) (x : X) → slice_get xs n ≡ Some x → EachFrom P 0 xs → P n x
+pub at_place : {X : Type 0} (P : ℕ → X → Type 0) (xs : List X) (n : ℕ) (x : X) → slice_get xs n ≡ Some x → EachFrom P 0 xs → P n x
 at_place P xs n x e a = subst (λ (k : ℕ). P k x) (let g : 0 + n ≡ n = omega arith in g) (from_at P 0 xs n x e a)
 
 method_at : (ms : List MethodSite) (n : ℕ) (m : MethodSite) → slice_get ms n ≡ Some m → slice_get (map method_place ms) n ≡ Some (method_place m)
@@ -87,7 +87,7 @@ method_at [] (suc n) m e = cc
 method_at (x ∷ ms) zero m e = let f : x ≡ m = cc in ap (λ (y : MethodSite). Some (method_place y)) f
 method_at (x ∷ ms) (suc n) m e = method_at ms n m e
 
-found_at : {X : Type 0} (xs : List X) (n : ℕ) → n < length xs → (x : X) × (slice_get xs n ≡ Some x)
+pub found_at : {X : Type 0} (xs : List X) (n : ℕ) → n < length xs → (x : X) × (slice_get xs n ≡ Some x)
 found_at [] n l = absurd (omega (arith, l))
 found_at (x ∷ xs) zero l = (x, refl)
 found_at (x ∷ xs) (suc n) l = found_at xs n (omega (arith, l))
@@ -98,7 +98,7 @@ none_of : (bs : List Refusal) → ((b : Refusal) → IsOf b bs → ⊥) → bs �
 none_of [] f = refl
 none_of (b ∷ bs) f = absurd (f b (inl refl))
 
-none_of_each : {X : Type 0} (f : ℕ → X → List Refusal) (i : ℕ) (xs : List X) → of_each f i xs ≡ [] → EachFrom (λ k x. f k x ≡ []) i xs
+pub none_of_each : {X : Type 0} (f : ℕ → X → List Refusal) (i : ℕ) (xs : List X) → of_each f i xs ≡ [] → EachFrom (λ k x. f k x ≡ []) i xs
 none_of_each f i [] e = tt
 none_of_each f i (x ∷ xs) e = (left_empty (f i x) (of_each f (suc i) xs) e, none_of_each f (suc i) xs (right_empty (f i x) (of_each f (suc i) xs) e))
 
@@ -118,7 +118,7 @@ or_right false b e = e
 abbrev WrittenZips : Written → Type 0
 WrittenZips w = written_zips w ≡ true
 
-abbrev WroteZips : Wrote → Type 0
+abbrev pub WroteZips : Wrote → Type 0
 WroteZips w = Zipped w.places (inside w.ty)
 
 written_zip : (file at dims : ℕ) (w : Wrote) → WroteZips w → WrittenZips (written_at file at dims w)
@@ -255,7 +255,7 @@ module _ (units : List SourceUnit) (unbroken : (b : Refusal) → BreaksNames (si
 
   -- ---- what breaks no rule
 
-  listed : listed_breaks S H K ≡ []
+  pub listed : listed_breaks S H K ≡ []
   listed = none_of (listed_breaks S H K) (λ b i. unbroken b (inl i))
 
   abbrev OfClasses : List Refusal
@@ -279,10 +279,10 @@ module _ (units : List SourceUnit) (unbroken : (b : Refusal) → BreaksNames (si
   first_two : OfClasses ++ OfMethods ≡ []
   first_two = left_empty (OfClasses ++ OfMethods) OfFields first_three
 
-  abbrev ClassUnbroken : ℕ → ClassSite → Type 0
+  abbrev pub ClassUnbroken : ℕ → ClassSite → Type 0
   ClassUnbroken k s = class_site_breaks H K k s ≡ []
 
-  classes_unbroken : EachFrom ClassUnbroken 0 S.classes
+  pub classes_unbroken : EachFrom ClassUnbroken 0 S.classes
   classes_unbroken = none_of_each (class_site_breaks H K) 0 S.classes (left_empty OfClasses OfMethods first_two)
 
   abbrev MethodUnbroken : ℕ → MethodSite → Type 0
@@ -299,12 +299,12 @@ module _ (units : List SourceUnit) (unbroken : (b : Refusal) → BreaksNames (si
 
   -- ---- classes
 
-  record ClassRead (c : ℕ) (s : ClassSite) : Type 0 where
-    bounds : bounds_broken H K (head_reading H K c) (params_of_head s.head) ≡ []
-    superclass : class_trees_broken H K (head_reading H K c) (superclass_trees s.head) ≡ []
-    interfaces : class_trees_broken H K (head_reading H K c) (interface_trees s.head) ≡ []
+  pub record ClassRead (c : ℕ) (s : ClassSite) : Type 0 where
+    pub bounds : bounds_broken H K (head_reading H K c) (params_of_head s.head) ≡ []
+    pub superclass : class_trees_broken H K (head_reading H K c) (superclass_trees s.head) ≡ []
+    pub interfaces : class_trees_broken H K (head_reading H K c) (interface_trees s.head) ≡ []
 
-  class_read : (c : ℕ) (s : ClassSite) → ClassUnbroken c s → ClassRead c s
+  pub class_read : (c : ℕ) (s : ClassSite) → ClassUnbroken c s → ClassRead c s
   class_read c s e =
       let r : Reading = head_reading H K c in
       let a : List Broken = bounds_broken H K r (params_of_head s.head) in
@@ -313,6 +313,10 @@ module _ (units : List SourceUnit) (unbroken : (b : Refusal) → BreaksNames (si
       let all : a ++ b ++ d ≡ [] = none_in_file s.file (a ++ b ++ d) (right_empty (class_modifier_breaks s) (class_broken H K c s) e) in
       let two : a ++ b ≡ [] = left_empty (a ++ b) d all in
       record { bounds = left_empty a b two; superclass = right_empty a b two; interfaces = right_empty (a ++ b) d all }
+
+  -- a written supertype
+  pub head_tree_zips : (c : ℕ) (t : ClassTree) → (wrote_class H K (head_reading H K c) t).broken ≡ [] → WroteZips (wrote_class H K (head_reading H K c) t)
+  head_tree_zips c t e = class_is (in_head H K c) (head_asker H c) (Some c) (Some c) (of_head c) t e
 
   class_zips : (c : ℕ) (s : ClassSite) → ClassUnbroken c s → types_zip (class_decl H K c s).supers ≡ true
   class_zips c s e =

@@ -34,7 +34,7 @@ pub right_empty : {X : Type 0} (xs ys : List X) → xs ++ ys ≡ [] → ys ≡ [
 right_empty [] ys e = e
 right_empty (x ∷ xs) ys e = cc
 
-not_empty : {X : Type 0} {P : Type 0} (x : X) (xs : List X) → x ∷ xs ≡ [] → P
+pub not_empty : {X : Type 0} {P : Type 0} (x : X) (xs : List X) → x ∷ xs ≡ [] → P
 not_empty x xs e = cc
 
 -- ---- what is inside of a type
@@ -94,7 +94,7 @@ args_zip (a ∷ xs) (b ∷ ys) z e =
     ∙ ap (λ n. length (inside_arg b.arg) + n) (args_zip xs ys z.1 (right_empty a.broken (arg_broken xs) e))
     ∙ sym (length-append (inside_arg b.arg) (inside_args (args_in ys)))
 
-last_unbroken : (p : WrotePart) (ps : List WrotePart) → part_broken (p ∷ ps) ≡ [] → arg_broken (last_args p ps) ≡ []
+pub last_unbroken : (p : WrotePart) (ps : List WrotePart) → part_broken (p ∷ ps) ≡ [] → arg_broken (last_args p ps) ≡ []
 last_unbroken p [] e = left_empty (arg_broken p.args) [] e
 last_unbroken p (q ∷ qs) e = last_unbroken q qs (right_empty (arg_broken p.args) (part_broken (q ∷ qs)) e)
 
@@ -104,7 +104,7 @@ last_zips p q [] (y ∷ qs) h g = absurd g
 last_zips p q (x ∷ ps) [] h g = absurd g
 last_zips p q (x ∷ ps) (y ∷ qs) h g = last_zips x y ps qs g.0 g.1
 
-accessible_unbroken : (b : Bool) (broken : List Broken) (at : ℕ) → if_accessible b broken at ≡ [] → broken ≡ []
+pub accessible_unbroken : (b : Bool) (broken : List Broken) (at : ℕ) → if_accessible b broken at ≡ [] → broken ≡ []
 accessible_unbroken true broken at e = e
 accessible_unbroken false broken at e = not_empty _ [] e
 
