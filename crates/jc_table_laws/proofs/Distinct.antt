@@ -8,7 +8,6 @@ use Rattle.jc_types.specs.declared.ids.ClassId.{ClassId}
 use Rattle.jc_types.specs.declared.ids.VarId.{VarId}
 use Rattle.jc_types.specs.Accessors.{vars_in, vars_of}
 use Rattle.jc_header_rules.specs.Checked.{AreDistinct, IsAmong}
-use Rattle.jc_declares.specs.declared.heads.Heads.{Heads}
 use Rattle.jc_declares.specs.declared.heads.VariableHead.{VariableHead}
 use Rattle.jc_declares.specs.Heads.{Named, heads_of, named_variables, same_owner}
 use Rattle.jc_declares.specs.Knowing.{known}

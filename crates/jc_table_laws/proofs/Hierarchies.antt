@@ -1,5 +1,5 @@
 -- The table of a program whose names break no rule is a hierarchy.
-use Rattle.std.proofs.Common.{◌≡◌, ◌<◌, ℕ, List, [], sym, subst}
+use Rattle.std.proofs.Common.{◌≡◌, ◌<◌, List, [], sym, subst}
 use Rattle.jc_rules.specs.declared.rule.Refusal.{Refusal}
 use Rattle.jc_types.specs.declared.form.Ty.{Ty}
 use Rattle.jc_types.specs.Accessors.{class_count, supers_of}

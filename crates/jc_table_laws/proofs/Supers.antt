@@ -1,12 +1,11 @@
 -- The declared supertypes of a class whose names break no rule: each is Object, or a class type with its places, and speaks of the class's own parameters alone.
-use Rattle.std.proofs.Common.{◌≡◌, ◌≢◌, ◌⊎◌, inl, inr, ◌==◌, ◌<◌, ◌+◌, ◌||◌, ℕ, zero, suc, Bool, true, false, not, Option, Some, None, List, [], ◌∷◌, ◌++◌, map, length, slice_get, arith, refl, sym, ap, subst, ◌∙◌}
+use Rattle.std.proofs.Common.{◌≡◌, ◌≢◌, ◌⊎◌, inl, inr, ◌==◌, ◌<◌, ◌+◌, ◌||◌, ℕ, zero, suc, Bool, true, false, not, Some, None, List, [], ◌∷◌, ◌++◌, map, length, slice_get, arith, refl, sym, ap, subst, ◌∙◌}
 use Rattle.std.specs.Prelude.{cond}
 use Rattle.std.proofs.lemmas.Bool.Decides.{nat_tests}
 use Rattle.std.proofs.lemmas.Option.{slice_get_within}
 use Rattle.jc_rules.specs.declared.rule.Refusal.{Refusal}
 use Rattle.jc_tree.specs.declared.types.ClassTree.{ClassTree, out-ClassTree}
-use Rattle.jc_tree.specs.declared.types.TypePart.{TypePart}
-use Rattle.jc_tree.specs.Offsets.{first_offset_of_class, first_offset_of_head}
+use Rattle.jc_tree.specs.Offsets.{first_offset_of_head}
 use Rattle.jc_types.specs.declared.declarations.ClassDecl.{ClassDecl}
 use Rattle.jc_types.specs.declared.declarations.TypePlaces.{TypePlaces}
 use Rattle.jc_types.specs.declared.declarations.Written.{Written}
@@ -23,17 +22,16 @@ use Rattle.jc_judge.specs.Supers.{IsIn}
 use Rattle.jc_header_rules.specs.Checked.{IsAmong, IsOver}
 use Rattle.jc_declares.specs.declared.heads.ClassHead.{ClassHead}
 use Rattle.jc_declares.specs.declared.heads.Heads.{Heads}
-use Rattle.jc_declares.specs.declared.heads.Path.{Path}
 use Rattle.jc_declares.specs.declared.unit.SourceUnit.{SourceUnit}
 use Rattle.jc_declares.specs.Breaks.{BreaksNames, class_trees_broken, site_breaks}
 use Rattle.jc_declares.specs.HeadBreaks.{broken_at, class_breaks, head_breaks, interface_breaks, interface_fits, is_nameable, of_each, super_breaks, superclass_breaks, superclass_fits, class_meant, twice_class, twice_field, twice_variable, unit_breaks, unless}
 use Rattle.jc_declares.specs.Heads.{Named, heads_of, class_head, class_variables, owner_of, path_of_class, superclass_trees, interface_trees}
 use Rattle.jc_declares.specs.Knowing.{known, meant_in_head, passed_all}
 use Rattle.jc_declares.specs.Looking.{Knowledge, Look, AClass, AVariable, all_accessible, head_asker, in_head, is_own, look_up}
-use Rattle.jc_declares.specs.Making.{class_decl, implied_object, numbered, numbers, object, or_object, place_at, super_list, table_of, types, variable_ids, written_class, written_classes}
+use Rattle.jc_declares.specs.Making.{class_decl, implied_object, numbered, numbers, object, or_object, place_at, super_list, table_of, variable_ids, written_class, written_classes}
 use Rattle.jc_declares.specs.Readings.{head_reading}
 use Rattle.jc_declares.specs.Sites.{ClassSite, Sites, sites_of}
-use Rattle.jc_declares.specs.Writing.{Broken, Reading, Wrote, WrotePart, class_type, class_tree_wrote, class_wrote, early_args, if_accessible, is_empty, last_args, meaning_broken, meant_type, name_broken, name_of_part, part_broken, wrote_class, wrote_part}
+use Rattle.jc_declares.specs.Writing.{Broken, Reading, Wrote, WrotePart, class_type, class_wrote, early_args, if_accessible, is_empty, last_args, meaning_broken, meant_type, name_broken, name_of_part, part_broken, wrote_class, wrote_part}
 use Rattle.jc_table_laws.specs.Supertypes.{IsClassType}
 use Rattle.jc_table_laws.proofs.AllInside.{counted, mapped}
 use Rattle.jc_table_laws.proofs.Edges.{declared_at, head_at}
@@ -229,8 +227,8 @@ module _ (units : List SourceUnit) where
           without = without;
           at = p.name.at;
           told = subst (λ (ns : List (List ℕ)). Told without p.name.at (path_of_class t).first ns) (names_told H K r (out-ClassTree t).more)
-          (subst (λ (n : List ℕ). Told without p.name.at n (map name_of_part ps)) (name_told H K r (out-ClassTree t).first)
-          (nameable_there accessible (meaning_broken H r look without p.name.at) p.name.at asked));
+              (subst (λ (n : List ℕ). Told without p.name.at n (map name_of_part ps)) (name_told H K r (out-ClassTree t).first)
+              (nameable_there accessible (meaning_broken H r look without p.name.at) p.name.at asked));
         }
 
     -- where a kind of supertype is asked of what it means, which no own parameter has
