@@ -8,6 +8,6 @@ pub use laws::{
     erasures_of_constructors_differ, members_of_one_erasure_stand_for_each_other,
     members_sign_what_they_reach, methods_have_their_bodies, overriding_is_transitive,
     overriding_methods_fit, selected_body_is_one, selection_finds_a_body, supertypes_are_exact,
-    supertypes_of_one_class_are_one, what_is_reached_is_replaced, written_supertypes_are_supertypes,
-    written_types_are_well_formed,
+    supertypes_of_one_class_are_one, what_is_reached_is_replaced,
+    written_supertypes_are_supertypes, written_types_are_well_formed,
 };
