@@ -93,7 +93,7 @@ pub fn members_sign_what_they_reach()
 {}
 
 /// .. and each method that a method overrides or hides indirectly, by way of others, it overrides or hides outright, where its class may inherit that (JLS 8.4.8.1 to
-/// 8.4.8.3). No class may be above itself, and all supertypes have to be classes of the table.
+/// 8.4.8.3). No class may be above itself, and all supertypes have to be classes of the table, as in that of sources that break no rule (`jc_front_laws`).
 pub fn what_is_reached_is_replaced()
     ensures { (T : Table) → IsHierarchy T → HasNoClash T → (m p : MethodId) → ReplacesReached T m p }
 {}

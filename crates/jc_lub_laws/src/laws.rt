@@ -9,7 +9,8 @@ pub fn operands_are_under_their_lub()
 {}
 
 /// In a table of checked classes each operand is below the least upper bound at each level of kept types (JLS 4.10, 15.12.2.7), whatever reference types
-/// within their upper bounds the variables stand for: each sound kept type that fits the operand fits the bound.
+/// within their upper bounds the variables stand for: each sound kept type that fits the operand fits the bound. The table of sources that break no rule is such a
+/// table (`jc_front_laws`).
 pub fn operands_are_below_their_lub()
     ensures { OperandsAreBelow }
 {}
