@@ -24,9 +24,8 @@ use Rattle.jc_members.specs.Listing.{has_method}
 use Rattle.jc_members.proofs.Replacing.{overrides_told, own_below, replaces_alike, replaces_no_method, replaces_none, replaces_unlike}
 use Rattle.jc_clashes.specs.Stage.{HasNoClash}
 use Rattle.jc_clashes.proofs.Alike.{of_meeting}
-use Rattle.jc_clashes.proofs.Lists.{In, and_both, and_true, is_false, is_self, not_both, own_bytes}
-use Rattle.jc_clashes.proofs.Plain.{self_same}
-use Rattle.jc_clashes.proofs.Reaching.{here, in_more, reached_told, reaches_named, step}
+use Rattle.jc_clashes.proofs.Lists.{In, and_both, and_true, is_false, is_self, not_both, own_bytes, self_same}
+use Rattle.jc_clashes.proofs.Reaching.{further, here, reached_told, reaches_named, step}
 use Rattle.jc_clashes.proofs.Told.{View, belongs_has, has_of, in_replaced, of_has, viewed, without_in}
 use Rattle.jc_header_laws.specs.Facts.{ErasuresStand, IsNumber, OverridesBeyond, ReplacesReached, SignsReached}
 use Rattle.jc_header_laws.proofs.Above.{Up, above_up, no_round, of_table, up_above, up_is_above, up_up, viewed_above}
@@ -268,6 +267,12 @@ module _ (T : Table) where
         by (inl is) = absurd (other is)
         by (inr c) = outright h m p way c open_to (stands_in (owner T m) (of_table T (owner T m).0 (owner T p).0 c.up))
 
+    in_more : (m : MethodId) (k n : ℕ) (p : MethodId) → reaches_within T n m p ≡ true → reaches_within T (k + n) m p ≡ true
+    in_more m zero n p e = let none : 0 + n ≡ n = omega arith in subst (λ j. reaches_within T j m p ≡ true) (sym none) e
+    in_more m (suc k) n p e =
+        let one : suc k + n ≡ suc (k + n) = omega arith in
+        subst (λ j. reaches_within T j m p ≡ true) (sym one) (further T m (k + n) p (in_more m k n p e))
+
     apart : (a b n : ℕ) → (a ≡ b → ⊥) → a < n → b < n → (n - 2) + 2 ≡ n
     apart a b n ne le lt = by (a == b) refl
       where
@@ -289,7 +294,7 @@ module _ (T : Table) where
         let beyond : m ≡ p → ⊥ = λ is. no_round T h.acyclic (owner T m).0 (owner T p).0 over (ap (λ q. (owner T q).0) is) in
         let enough : (length T.methods - 2) + 2 ≡ length T.methods = apart m.0 n.0 (length T.methods) ne within there in
         let way : reaches T m p ≡ true =
-        subst (λ j. reaches_within T j m p ≡ true) enough (in_more T m (length T.methods - 2) 2 p (step T m 1 n p there (step T m 0 m n within (here T m 0) first) second)) in
+        subst (λ j. reaches_within T j m p ≡ true) enough (in_more m (length T.methods - 2) 2 p (step T m 1 n p there (step T m 0 m n within (here T m 0) first) second)) in
         let it = parts m p (replaces_reached m p beyond way open_to) in
         let mine = and_both (is_instance T m) (is_instance T n) (and_both (is_instance T m && is_instance T n) (own_below T m n) (sym (overrides_told T m n) ∙ e)).0 in
         let theirs = and_both (is_instance T n) (is_instance T p) (and_both (is_instance T n && is_instance T p) (own_below T n p) (sym (overrides_told T n p) ∙ f)).0 in
