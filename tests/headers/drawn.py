@@ -8,7 +8,8 @@ GIVEN = {
     "Object": None, "String": "Object", "Number": "Object", "Integer": "Number", "Throwable": "Object", "Exception": "Throwable", "Error": "Throwable",
     "RuntimeException": "Exception", "IOException": "Exception", "FileNotFoundException": "IOException",
 }
-HEAD = ["import java.io.*;", "class G<T> { }", "class H<T> extends G<T> { }"]
+HEAD = ["import java.io.*;", "class G<T> { }", "class H<T> extends G<T> { }", "interface P { }", "interface Q { }"]
+FIRST, SECOND = ("class", "P", []), ("class", "Q", [])
 
 
 def given():
@@ -18,6 +19,8 @@ def given():
     table.bounds.update({"G.T": [OBJECT], "H.T": [OBJECT]})
     table.classes["G"] = Class("G", 0, ["G.T"], [OBJECT])
     table.classes["H"] = Class("H", 0, ["H.T"], [("class", "G", [("exact", ("var", "H.T"))])])
+    for name in "PQ":
+        table.classes[name] = Class(name, 0, [], [OBJECT], True, True)
     return table
 
 
@@ -111,6 +114,15 @@ class Drawing:
 
     # ---- methods
 
+    def bounds(self, method, outer):
+        """Those of a method's type parameter."""
+        lot = self.lot
+        if lot.random() < 0.5:
+            return [lot.choice([OBJECT, NUMBER] + [("var", name) for name in outer] * 2)]
+        own = ("class", "G", [("exact", ("var", "m%d.X" % method.number))])
+        wide = [[FIRST], [FIRST, SECOND], [FIRST, SECOND], [SECOND, FIRST], [NUMBER, FIRST], [own], [("raw", "G")], [("class", "H", [("any",)])]]
+        return lot.choice(wide + [[("class", "G", [("exact", ("var", name))])] for name in outer])
+
     def variable_of(self, method, bound):
         name = "m%d.X" % method.number
         self.table.bounds[name] = bound
@@ -122,10 +134,10 @@ class Drawing:
         method = Method(len(self.table.methods), one.name, lot.choice("mn"), len(self.lines) + 1, [])
         method.is_static = not one.is_interface and lot.random() < 0.1
         outer = [] if method.is_static else one.variables
-        if lot.random() < 0.22:
-            self.variable_of(method, [lot.choice([OBJECT, NUMBER] + [("var", name) for name in outer] * 2)])
+        if lot.random() < 0.3:
+            self.variable_of(method, self.bounds(method, outer))
         method.params = [self.type(method.variables + outer) for _ in range(lot.choice([0, 1, 1]))]
-        method.result = lot.choice([None, None, self.type(method.variables + outer)])
+        method.result = lot.choice([None, None, self.type(method.variables + outer), ("class", "G", [("exact", lot.choice([STRING, INTEGER]))])])
         method.thrown = [("class", lot.choice(THROWN), [])] if lot.random() < 0.2 else []
         method.access = "public" if one.is_interface or lot.random() < 0.7 else lot.choice(["", "protected", "private", "public"])
         above = [other for other in self.table.methods if any(self.table.view(other.owner, ty) for ty in one.supers)]
@@ -152,13 +164,23 @@ class Drawing:
         else:
             fresh = self.variable_of(method, [OBJECT])
             put = lambda ty, first=put: subst(other.variables, [fresh], first(ty))
-            self.table.bounds[method.variables[0]] = [put(bound) for bound in self.table.bounds[other.variables[0]]]
+            bounds = [put(bound) for bound in self.table.bounds[other.variables[0]]]
+            if self.lot.random() < 0.7 and all(bound in (FIRST, SECOND) for bound in bounds):
+                bounds.reverse()
+            self.table.bounds[method.variables[0]] = bounds
         method.params = [put(ty) for ty in other.params]
-        method.result = other.result and put(other.result)
+        method.result = other.result and self.nearly(put(other.result), method.variables)
         if self.lot.random() < 0.75:
             method.thrown = list(other.thrown)
         if self.lot.random() < 0.8:
             method.access = other.access
+
+    def nearly(self, ty, variables):
+        """A result, or of a type with arguments one that may stand for it: raw, below it, with wildcards, or of a type parameter."""
+        if ty[0] != "class" or not ty[2] or self.lot.random() < 0.4:
+            return ty
+        below = [("raw", "G"), ("raw", "H"), ("class", "H", ty[2]), ("class", "H", [("any",)]), ("class", "H", [("extends", STRING)]), ("class", ty[1], [("any",)])]
+        return self.lot.choice(below + [("var", name) for name in variables])
 
     def finish(self, method, one):
         lot = self.lot
@@ -177,7 +199,7 @@ class Drawing:
         if not one.is_interface:
             marks = [(method.is_static, "static"), (method.is_final, "final"), (method.is_abstract, "abstract")]
             words += [method.access] * bool(method.access) + [word for is_so, word in marks if is_so]
-        words += ["<X extends %s>" % written(self.table.bounds[name][0]) for name in method.variables]
+        words += ["<X extends %s>" % " & ".join(written(bound) for bound in self.table.bounds[name]) for name in method.variables]
         params = ", ".join("%s p%d" % (written(ty), at) for at, ty in enumerate(method.params))
         line = " ".join(words + ["%s %s(%s)" % (written(method.result), method.name, params)])
         if method.thrown:

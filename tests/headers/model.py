@@ -64,6 +64,11 @@ def subst(variables, by, ty):
     return ty
 
 
+def same_bounds(mine, theirs):
+    """The bounds of one type parameter, in any order (JLS 4.4)."""
+    return all(bound in theirs for bound in mine) and all(bound in mine for bound in theirs)
+
+
 class Table:
     def __init__(self):
         self.classes = {}
@@ -114,6 +119,13 @@ class Table:
         if ty[0] in ("class", "raw") and ty[1] == name:
             return ty
         return self.view(name, self.captured(ty))
+
+    def view_as_it_stands(self, name, ty):
+        """The supertype of that class, of a type variable by its bounds."""
+        if ty[0] != "var":
+            return self.captured_view(name, ty)
+        found = (self.view_as_it_stands(name, bound) for bound in self.bounds[ty[1]])
+        return next((view for view in found if view is not None), None)
 
     def own_type(self, name):
         return ("class", name, [("exact", ("var", variable)) for variable in self.classes[name].variables])
@@ -188,7 +200,7 @@ class Table:
         put = lambda ty: self.adapted(one, other, ty)
         return (
             len(one.variables) == len(other.variables)
-            and one.bounds == [[put(bound) for bound in bounds] for bounds in other.bounds]
+            and all(same_bounds(mine, [put(bound) for bound in theirs]) for mine, theirs in zip(one.bounds, other.bounds))
             and one.params == [put(ty) for ty in other.params]
         )
 

@@ -2,6 +2,12 @@
 from model import OPENNESS
 
 
+class Results:
+    """Whether a result also fits by being the erasure of the other one (JLS 8.4.5), which javac doesn't take."""
+
+    erasure_fits = True
+
+
 def result_fits(table, one, other):
     mine, theirs = one.result, other.result
     if mine is None or theirs is None:
@@ -9,7 +15,8 @@ def result_fits(table, one, other):
     if "prim" in (mine[0], theirs[0]):
         return mine == theirs
     adapted = table.adapted(one, other, theirs)
-    return mine == table.erased_in(other, theirs) or converts_unchecked(table, mine, adapted) or table.below(mine, adapted)
+    is_erasure = Results.erasure_fits and mine == table.erased_in(other, theirs)
+    return is_erasure or converts_unchecked(table, mine, adapted) or table.below(mine, adapted)
 
 
 def converts_unchecked(table, lower, upper):
@@ -19,9 +26,9 @@ def converts_unchecked(table, lower, upper):
 
 
 def class_converts(table, lower, upper):
-    if upper[0] != "class" or lower[0] not in ("class", "raw"):
+    if upper[0] != "class" or lower[0] not in ("class", "raw", "var"):
         return False
-    view = table.captured_view(upper[1], lower)
+    view = table.view_as_it_stands(upper[1], lower)
     return view is not None and view[0] == "raw" and bool(table.classes[view[1]].variables)
 
 
@@ -166,3 +173,12 @@ def broken_rules(table, names):
                 if clashes(table, name, members, view, other):
                     found.add((clash_line(table, name, view.method, other.method), 801))
     return found
+
+
+def rests_on_an_erasure(table, names):
+    """Whether a program that breaks no rule would break one if no result fitted by being the other one's erasure."""
+    Results.erasure_fits = False
+    try:
+        return bool(broken_rules(table, names))
+    finally:
+        Results.erasure_fits = True

@@ -69,7 +69,7 @@ def devices(program):
 
 
 def memory(program):
-    """A job that wants some 80 MB, where half of that may be taken: the line is put without memory."""
+    """A job that wants some 54 MB, where 40 may be taken: the line is put without memory."""
     methods = "".join(f" int m{number}(int it) {{ return it; }}\n" for number in range(50))
     heads = ["class Main {"] + [f"class Main{number} extends Main{number - 1 or ''} {{" for number in range(1, 300)]
     limit = 40 << 20

@@ -41,7 +41,7 @@ pub fn initialiser_of(table: &Table, k: ClassId) -> Option<MethodId>
     None
 }
 
-// An exception that isn't an Error becomes an ExceptionInInitializerError (JLS 12.4.2, step 10).
+// An exception that isn't an Error becomes an ExceptionInInitializerError (JLS 12.4.2, step 11).
 pub fn as_error(
     alloc: Global,
     program: &TypedProgram,

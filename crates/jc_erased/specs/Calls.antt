@@ -78,8 +78,7 @@ call_named P body zero a o m args = wrong
 call_named P body (suc n) a o m args =
     call_found P body (call_named P body n a o) a args (selected P (methods_class o.kept) m)
 
--- the method that the class of the receiver selects (invokevirtual, invokeinterface); null throws. A bridge leads to a method that
--- a subclass of its superclass's declares, so no more bridges than classes follow one another
+-- the method that the class of the receiver selects (invokevirtual, invokeinterface), by way of no more bridges than classes could make follow one another; null throws
 abbrev pub call_virtual : ErasedProgram → Bodies → MethodId → Value → List Value → ErasedRun Value
 call_virtual P body m receiver args =
     bind (address_of erased_keeping P.table P.known receiver) (λ a.

@@ -16,6 +16,7 @@ use Rattle.jc_judge.specs.declared.question.Answer.TheVariants.{Yes, No}
 use Rattle.jc_judge.specs.Deciding.{answer_of}
 use Rattle.jc_judge.specs.Kinds.{is_primitive}
 use Rattle.jc_judge.specs.Views.{view}
+use Rattle.jc_lub.specs.Uncaptured.{up_view}
 use Rattle.jc_overriding.specs.declared.view.MethodView.{MethodView}
 use Rattle.jc_overriding.specs.Overriding.{is_viewed}
 use Rattle.jc_overriding.specs.Signatures.{adapted, erased_in}
@@ -35,8 +36,9 @@ abbrev pub is_raw_view : Table → Option Ty → Bool
 is_raw_view T None = false
 is_raw_view T (Some t) = is_raw_at T (out-Ty t)
 
+-- its supertype of that class is raw, as it stands: wildcards go over to it, and a type variable has those of its bounds
 abbrev pub class_converts : Table → Ty → Ty-F Arg Ty → Bool
-class_converts T s (Ty-F.Class id args) = is_raw_view T (view T id s)
+class_converts T s (Ty-F.Class id args) = is_raw_view T (up_view T [] id s)
 class_converts T s _ = false
 
 abbrev pub elements_convert : Table → Ty-F Arg Ty → ℕ → Ty → Bool
@@ -47,7 +49,7 @@ abbrev pub converts_to : Table → Ty → Ty-F Arg Ty → Bool
 converts_to T s (Ty-F.Array t m) = elements_convert T (out-Ty s) m t
 converts_to T s l = class_converts T s l
 
--- it becomes a subtype by an unchecked conversion (JLS 5.1.9): of a class type, whose class it has raw above it, or of arrays of that
+-- it becomes a subtype by an unchecked conversion (JLS 5.1.9): of a class type, as whose class it is raw, or of arrays of that
 abbrev pub converts_unchecked : Table → Ty → Ty → Bool
 converts_unchecked T s t = converts_to T s (out-Ty t)
 

@@ -33,7 +33,7 @@ abbrev pub make_plain : {K F R : Type 0} → Keeping K → Table → ClassId →
 make_plain keeping T k = make (record { kept = keeping.of_class k; parts = new_fields T k })
 
 -- An exception of the machine: an object whose fields are as new, so that its message is null; no constructor runs and no class
--- is initialised for it (JLS 11.1.1, 15.6)
+-- is initialised for it (JLS 11.1.2, 15.6)
 abbrev pub raise : {K F R A : Type 0} → Keeping K → Table → ClassId → Run (State K F R) A
 raise keeping T k = bind (make_plain keeping T k) throw
 

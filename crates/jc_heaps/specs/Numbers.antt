@@ -95,7 +95,7 @@ prefixed op (Whole a) = of_number op w32 Whole a
 prefixed op (Long a) = of_number op w64 Long a
 prefixed op _ = Unfit
 
--- one more, and one less (JLS 15.14.2, 15.15.1)
+-- one more, and one less (JLS 15.14.2, 15.14.3, 15.15.1, 15.15.2)
 abbrev pub stepped : Op → Value → Given
 stepped Increment (Whole a) = Gives (Whole (int_wrapping_add w32 a (pos 1)))
 stepped Increment (Long a) = Gives (Long (int_wrapping_add w64 a (pos 1)))

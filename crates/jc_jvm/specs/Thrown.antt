@@ -73,7 +73,7 @@ is_error classes k = elim (class_named classes (codes "java/lang/Error")) [ Some
 -- ---- the way of an exception
 
 -- An exception of class k at this address leaves what waits, from the nearest on, up to a frame that handles it. A class on the way
--- fails (JVMS 5.5, steps 7, 10 and 11): where its initialiser had begun and the exception is no Error, an ExceptionInInitializerError goes on.
+-- fails (JVMS 5.5, steps 7, 11 and 12): where its initialiser had begun and the exception is no Error, an ExceptionInInitializerError goes on.
 abbrev pub unwound : List ClassModel → List Waiting → World → ℕ → ℕ → State
 unwound classes [] world k address = Over (Threw k)
 unwound classes (Caller now ∷ waiting) world k address = elim (handler_of classes k now) [

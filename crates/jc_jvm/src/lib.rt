@@ -1,5 +1,5 @@
 //! What the Java Virtual Machine is (JVMS SE 7, chapters 2, 5 and 6): the data of a machine that runs, and in `specs/` the definition of its
-//! start, its steps and its runs, over the models of classes. It is no machine: `jc_interpreter` is one, by this definition.
+//! start, its steps and its runs, over the models of classes. It is no machine: `jc_core` is one, by this definition.
 #![tactic(auto)]
 
 mod cells;

@@ -30,7 +30,7 @@ abbrev pub run_initialiser : TypedProgram → Bodies → Option MethodId → Typ
 run_initialiser P body None = give tt
 run_initialiser P body (Some m) = bind (call_static P body m [] []) (λ v. give tt)
 
--- an exception that isn't an Error becomes an ExceptionInInitializerError (JLS 12.4.2, step 10)
+-- an exception that isn't an Error becomes an ExceptionInInitializerError (JLS 12.4.2, step 11)
 abbrev pub as_error : TypedProgram → ℕ → TypedRun (Unit {0})
 as_error P a =
     bind (object_at a) (λ o.

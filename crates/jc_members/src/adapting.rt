@@ -1,14 +1,14 @@
 //! Types of a signature for those of another one, and leftmost bounds for its type parameters (JLS 4.6, 8.4.2).
 ghost use Rattle.std.specs.Prelude.{◌≡◌, ◌+◌, IfOk, length, map};
 ghost use Rattle.jc_types.specs.Substitution.{subst};
-ghost use Rattle.jc_overriding.specs.Signatures.{adapted, erased_in, first_bound, first_or, leftmost, variables};
+ghost use Rattle.jc_overriding.specs.Signatures.{adapted, erased_in, erased_within, first_bound, first_or, leftmost, variables};
 ghost use Rattle.jc_overriding.specs.Viewing.{with_dims};
 
-use crate::erasing::{plain, with_dims};
+use crate::erasing::{plain_within, with_dims};
 use crate::viewing::put_all;
 use jc_overriding::MethodView;
 use jc_rules::{Items, WantOfMemory};
-use jc_types::{Table, Ty, VarId, copy_type, substitute};
+use jc_types::{Env, Table, Ty, VarId, copy_type, substitute};
 use std::alloc::Global;
 
 /// These type variables as types.
@@ -129,10 +129,26 @@ fn leftmost(alloc: Global, b: &MethodView, steps: usize, t: &Ty) -> Result<Ty, W
     lifted(alloc, dims, at)
 }
 
-/// A type of a signature, erased with leftmost bounds for its type parameters as the view has them (JLS 4.6).
+/// A type of a signature, erased with leftmost bounds for its type parameters as the view has them, and with those of captured variables (JLS 4.6).
+pub fn erased_within(
+    alloc: Global,
+    table: &Table,
+    env: &Env,
+    b: &MethodView,
+    t: &Ty,
+) -> Result<Ty, WantOfMemory>
+    ensures { IfOk result (λ r. r ≡ erased_within table.now env.now.bounds b.now t.now) }
+{
+    let t = leftmost(alloc, b, b.vars.slice().len() + 1, t)?;
+    plain_within(alloc, table, env, &t)
+}
+
+/// The same of a type without captured variables.
 pub fn erased_in(alloc: Global, table: &Table, b: &MethodView, t: &Ty) -> Result<Ty, WantOfMemory>
     ensures { IfOk result (λ r. r ≡ erased_in table.now b.now t.now) }
 {
-    let t = leftmost(alloc, b, b.vars.slice().len() + 1, t)?;
-    plain(alloc, table, &t)
+    let env = Env {
+        bounds: Items::new(alloc),
+    };
+    erased_within(alloc, table, &env, b, t)
 }

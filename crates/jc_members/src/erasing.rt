@@ -1,6 +1,7 @@
 //! Erasure as a type (JLS 4.6).
 ghost use Rattle.std.specs.Prelude.{◌≡◌, IfOk, map};
 ghost use Rattle.std.specs.Option.{option_map, option_copied};
+ghost use Rattle.jc_types.specs.Erasing.{erasure};
 ghost use Rattle.jc_overriding.specs.Viewing.{base_type, erased_type, plain, plain_class, with_dims};
 
 use jc_rules::{Items, WantOfMemory};
@@ -41,16 +42,23 @@ pub fn with_dims(alloc: Global, dims: u64, t: Ty) -> Result<Ty, WantOfMemory>
     array_over(alloc, t, dims - 1)
 }
 
-/// The erasure of a declared type, as a type: a generic class is raw there (JLS 4.6, 4.8).
+/// The erasure of a type, as a type, with the bounds of captured variables: a generic class is raw there (JLS 4.6, 4.8).
+pub fn plain_within(alloc: Global, table: &Table, env: &Env, t: &Ty) -> Result<Ty, WantOfMemory>
+    ensures { IfOk result (λ r. r ≡ erased_type table.now (erasure table.now env.now.bounds t.now)) }
+{
+    let erased = erasure(table, env, t);
+    let base = base_type(alloc, table, erased.base);
+    with_dims(alloc, erased.dims as u64, base)
+}
+
+/// The erasure of a declared type, as a type.
 pub fn plain(alloc: Global, table: &Table, t: &Ty) -> Result<Ty, WantOfMemory>
     ensures { IfOk result (λ r. r ≡ plain table.now t.now) }
 {
     let env = Env {
         bounds: Items::new(alloc),
     };
-    let erased = erasure(table, &env, t);
-    let base = base_type(alloc, table, erased.base);
-    with_dims(alloc, erased.dims as u64, base)
+    plain_within(alloc, table, &env, t)
 }
 
 /// The erasure of each of these types.

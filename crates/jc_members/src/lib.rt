@@ -15,7 +15,7 @@ mod supertypes;
 mod viewing;
 mod walking;
 
-pub use adapting::{adapted, erased_in};
+pub use adapting::{adapted, erased_in, erased_within};
 pub use belonging::{as_super, candidate_ids, members, remaining_ids, views_of};
 pub use erasing::{plain, plain_all};
 pub use fixed::{is_fixed, is_own_erasure};

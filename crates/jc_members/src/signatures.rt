@@ -1,6 +1,6 @@
 //! Signatures of methods, and which is a subsignature of which (JLS 8.4.2).
 ghost use Rattle.std.specs.Prelude.{◌≡◌, ◌||◌, IfOk, length, map};
-ghost use Rattle.jc_overriding.specs.Signatures.{adapted, erased_in, is_erasure, override_equivalent, same_all, same_lists, same_name, same_signature, subsignature};
+ghost use Rattle.jc_overriding.specs.Signatures.{adapted, all_one_of, erased_in, is_erasure, is_one_of, override_equivalent, same_all, same_bounds, same_lists, same_name, same_signature, subsignature};
 
 use crate::adapting::{adapted_all, erased_in};
 use jc_overriding::MethodView;
@@ -38,8 +38,41 @@ fn same_name(table: &Table, a: &MethodView, b: &MethodView) -> bool
     method_name(table, a.id) == method_name(table, b.id)
 }
 
+fn is_one_of(s: &Ty, types: &[Ty]) -> bool
+    ensures { result ≡ is_one_of s.now types.now }
+{
+    let mut ts = types;
+    while let [t, others @ ..] = ts {
+        if same_type(s, t) {
+            return true;
+        }
+        ts = others;
+    }
+    false
+}
+
+fn all_one_of(types: &[Ty], others: &[Ty]) -> bool
+    ensures { result ≡ all_one_of types.now others.now }
+{
+    let mut ss = types;
+    while let [s, more @ ..] = ss {
+        if !is_one_of(s, others) {
+            return false;
+        }
+        ss = more;
+    }
+    true
+}
+
+// Whether these are the bounds of one type parameter, in any order.
+fn same_bounds(left: &[Ty], right: &[Ty]) -> bool
+    ensures { result ≡ same_bounds left.now right.now }
+{
+    all_one_of(left, right) && all_one_of(right, left)
+}
+
 // Whether the bounds of a's type parameters are those of b's, after adapting these.
-fn same_bounds(alloc: Global, a: &MethodView, b: &MethodView) -> Result<bool, WantOfMemory>
+fn all_same_bounds(alloc: Global, a: &MethodView, b: &MethodView) -> Result<bool, WantOfMemory>
     requires { length b.now.vars ≡ length a.now.vars }
     ensures { IfOk result (λ r. r ≡ same_lists a.now.bounds (map (map (adapted a.now b.now)) b.now.bounds)) }
 {
@@ -50,7 +83,7 @@ fn same_bounds(alloc: Global, a: &MethodView, b: &MethodView) -> Result<bool, Wa
             [] => return Ok(false),
             [t, others @ ..] => {
                 let adapted = adapted_all(alloc, a, b, t.slice())?;
-                if !same_all(s.slice(), adapted.slice()) {
+                if !same_bounds(s.slice(), adapted.slice()) {
                     return Ok(false);
                 }
                 ts = others;
@@ -78,7 +111,7 @@ fn same_signature(alloc: Global, a: &MethodView, b: &MethodView) -> Result<bool,
     if a.vars.len() != b.vars.len() {
         return Ok(false);
     }
-    if !same_bounds(alloc, a, b)? {
+    if !all_same_bounds(alloc, a, b)? {
         return Ok(false);
     }
     same_params(alloc, a, b)

@@ -2,7 +2,7 @@
 use Rattle.std.proofs.lemmas.Bool.Decides.{nat_tests}
 use Rattle.std.proofs.lemmas.List.Sorted.{list_any-IsPermutation}
 use Rattle.std.proofs.lemmas.List.Folds.{list_any-append}
-use Rattle.std.proofs.Common.{◌≡◌, ◌≢◌, ◌⊎◌, inl, inr, ℕ, zero, suc, ◌+◌, ◌<◌, ◌≤◌, nat_eq, nat_lt, arith, Bool, true, false, ◌&&◌, ◌||◌, cond, Option, Some, None, is_some, List, [], ◌∷◌, ◌++◌, length, slice_get, slice_set, IsPermutation, append_assoc, refl, sym, ap, subst, ◌∙◌}
+use Rattle.std.proofs.Common.{◌≡◌, ◌≢◌, ◌⊎◌, inl, inr, ℕ, zero, suc, ◌+◌, ◌<◌, ◌≤◌, nat_eq, nat_lt, arith, Bool, true, false, ◌&&◌, ◌||◌, cond, Option, Some, None, is_some, List, [], ◌∷◌, ◌++◌, length, slice_get, slice_set, replicate, IsPermutation, append_assoc, refl, sym, ap, subst, ◌∙◌}
 use Rattle.std.specs.HashMap.{get}
 use Rattle.std.specs.List.{list_any}
 use Rattle.std.specs.Set.{is_member}
@@ -190,14 +190,28 @@ module _ (test : ℕ → Bool) where
 
 -- ---- groups
 
-no_group_at : (gs : List (List ℕ)) (k : ℕ) → numbers_at gs k ≡ [] → numbers_at (gs ++ [] ∷ []) k ≡ []
-no_group_at [] zero e = refl
-no_group_at [] (suc k) e = refl
-no_group_at (g ∷ gs) zero e = e
-no_group_at (g ∷ gs) (suc k) e = no_group_at gs k e
+abbrev no_methods : List ℕ
+no_methods = []
 
-pub no_group : (gs new : List (List ℕ)) (x : List ℕ) (k : ℕ) → new ≡ gs ++ x ∷ [] → x ≡ [] → numbers_at gs k ≡ [] → numbers_at new k ≡ []
-no_group gs new x k e f h = ap (λ l. numbers_at l k) (e ∙ ap (λ y. gs ++ y ∷ []) f) ∙ no_group_at gs k h
+-- groups without methods, one more
+more_groups : (n : ℕ) → replicate n no_methods ++ no_methods ∷ [] ≡ replicate (suc n) no_methods
+more_groups zero = refl
+more_groups (suc n) = ap (λ gs. no_methods ∷ gs) (more_groups n)
+
+pub no_group : (gs new : List (List ℕ)) (x : List ℕ) (n m : ℕ) → m ≡ n + 1 → new ≡ gs ++ x ∷ [] → x ≡ [] → gs ≡ replicate n [] → new ≡ replicate m []
+no_group gs new x n m is e f h =
+    let s : suc n ≡ m = omega arith in
+    e ∙ ap (λ y. gs ++ y ∷ []) f ∙ ap (λ l. l ++ no_methods ∷ []) h ∙ more_groups n ∙ ap (λ k. replicate k no_methods) s
+
+pub no_numbers : (n k : ℕ) → numbers_at (replicate n []) k ≡ []
+no_numbers zero zero = refl
+no_numbers zero (suc k) = refl
+no_numbers (suc n) zero = refl
+no_numbers (suc n) (suc k) = no_numbers n k
+
+pub as_many_groups : (n : ℕ) → length (replicate n no_methods) ≡ n
+as_many_groups zero = refl
+as_many_groups (suc n) = ap suc (as_many_groups n)
 
 get_set : (gs : List (List ℕ)) (g : ℕ) (ns x : List ℕ) → slice_get gs g ≡ Some x → slice_get (slice_set gs g ns) g ≡ Some ns
 get_set [] g ns x e = cc

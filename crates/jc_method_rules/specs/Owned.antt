@@ -39,8 +39,9 @@ pushed_in k n groups (Some ns) = slice_set groups k (ns ++ n ∷ [])
 abbrev pub pushed_at : ℕ → ℕ → List (List ℕ) → List (List ℕ)
 pushed_at k n groups = pushed_in k n groups (slice_get groups k)
 
--- each class that has a group has its methods there
+-- each class of the table has a group, with its methods
 pub record IsOwnerIndex (T : Table) (index : OwnerIndex) : Type 0 where
+  pub groups : length index.groups ≡ length T.classes
   pub ids : (k : ℕ) → k < length index.groups → numbers_at index.groups k ≡ owned T k
 
 -- ---- the methods of several classes

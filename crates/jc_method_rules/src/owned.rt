@@ -1,5 +1,5 @@
 //! The methods of a class and of the classes above it, by an index of methods by their classes.
-ghost use Rattle.std.specs.Prelude.{◌≡◌, ◌++◌, ◌∷◌, ℕ, [], cond, IfOk, OnOk, IsPermutation, is_some, nat_eq};
+ghost use Rattle.std.specs.Prelude.{◌≡◌, ◌++◌, ◌∷◌, ℕ, [], cond, IfOk, OnOk, IsPermutation, is_some, length, nat_eq, replicate};
 ghost use Rattle.std.specs.HashMap.{get};
 ghost use Rattle.std.specs.Set.{is_member};
 ghost use Rattle.jc_overriding.specs.Viewing.{own_type};
@@ -19,7 +19,7 @@ pub struct OwnerIndex {
 
 // A group for each class.
 fn no_groups(alloc: Global, table: &Table) -> Result<Vec<Items<u64>>, WantOfMemory>
-    ensures { IfOk result (λ groups. (k : ℕ) → numbers_at groups.items k ≡ []) }
+    ensures { IfOk result (λ groups. groups.items ≡ replicate (length table.now.classes) []) }
 {
     let mut groups = Vec::new(alloc);
     for _class in 0..table.classes.len() {

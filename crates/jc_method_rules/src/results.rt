@@ -6,9 +6,10 @@ ghost use Rattle.jc_types.specs.declared.form.Ty.{out-Ty};
 ghost use Rattle.jc_header_rules.specs.Results.{answer_by, class_converts, converts_unchecked, elements_convert, has_parameters, is_raw_at, is_raw_view, reference_answer, result_answer, type_answer, yes_if};
 
 use jc_judge::Answer;
+use jc_lub::up_view;
 use jc_members::{MethodView, adapted, erased_in};
 use jc_rules::{Items, WantOfMemory};
-use jc_sub::{below, is_primitive, view};
+use jc_sub::{below, is_primitive};
 use jc_types::{Env, Table, Ty, VarId, class_vars, same_type};
 use std::alloc::Global;
 
@@ -46,14 +47,14 @@ fn is_raw_view(table: &Table, v: Option<&Ty>) -> bool
     }
 }
 
-// Whether a type has the class of a parameterized type raw above it.
+// Whether a type is raw as the class of a parameterized type.
 #[tactic(auto, using(jc_types::proofs::Opened::opened))]
 fn class_converts(alloc: Global, table: &Table, s: &Ty, t: &Ty) -> Result<bool, WantOfMemory>
     ensures { IfOk result (λ r. r ≡ class_converts table.now s.now (out-Ty t.now)) }
 {
     match t {
         Ty::Class { id, .. } => {
-            let v = view(alloc, table, *id, s)?;
+            let v = up_view(alloc, table, &[], *id, s)?;
             Ok(is_raw_view(table, v.as_ref()))
         }
         Ty::Prim(_) => Ok(false),

@@ -45,7 +45,7 @@ pub fn prefixed(op: Op, value: Value) -> Given
     }
 }
 
-/// One more, or one less (JLS 15.14.2, 15.15.1).
+/// One more, or one less (JLS 15.14.2, 15.14.3, 15.15.1, 15.15.2).
 pub fn stepped(op: Op, value: Value) -> Given
     ensures { result ≡ stepped op value }
 {

@@ -1,6 +1,7 @@
 -- Signatures of methods, and which is a subsignature of which (JLS 8.4.2).
 use Rattle.std.specs.Prelude.{ℕ, zero, suc, ◌+◌, ◌==◌, Bool, true, false, cond, ◌&&◌, ◌||◌, List, [], ◌∷◌, map, length}
 use Rattle.std.specs.Str.{bytes_eq}
+use Rattle.jc_types.specs.declared.environment.Bounds.{Bounds}
 use Rattle.jc_types.specs.declared.form.Arg.{Arg}
 use Rattle.jc_types.specs.declared.form.Ty.{Ty, Ty-F, out-Ty}
 use Rattle.jc_types.specs.declared.form.Ty.TheVariants.{Variable}
@@ -8,10 +9,11 @@ use Rattle.jc_types.specs.declared.ids.VarId.{VarId}
 use Rattle.jc_types.specs.declared.table.Table.{Table}
 use Rattle.jc_types.specs.Accessors.{method_name_of}
 use Rattle.jc_types.specs.Arrays.{array_over}
+use Rattle.jc_types.specs.Erasing.{erasure}
 use Rattle.jc_types.specs.Sameness.{same}
 use Rattle.jc_types.specs.Substitution.{subst}
 use Rattle.jc_overriding.specs.declared.view.MethodView.{MethodView}
-use Rattle.jc_overriding.specs.Viewing.{plain}
+use Rattle.jc_overriding.specs.Viewing.{erased_type}
 
 abbrev pub same_all : List Ty → List Ty → Bool
 same_all [] [] = true
@@ -19,11 +21,23 @@ same_all [] (t ∷ ts) = false
 same_all (s ∷ ss) [] = false
 same_all (s ∷ ss) (t ∷ ts) = same s t && same_all ss ts
 
+abbrev pub is_one_of : Ty → List Ty → Bool
+is_one_of s [] = false
+is_one_of s (t ∷ ts) = same s t || is_one_of s ts
+
+abbrev pub all_one_of : List Ty → List Ty → Bool
+all_one_of [] ts = true
+all_one_of (s ∷ ss) ts = is_one_of s ts && all_one_of ss ts
+
+-- the same bounds of a type parameter, in any order: that of bounds tells of erasure alone (JLS 4.4)
+abbrev pub same_bounds : List Ty → List Ty → Bool
+same_bounds ss ts = all_one_of ss ts && all_one_of ts ss
+
 abbrev pub same_lists : List (List Ty) → List (List Ty) → Bool
 same_lists [] [] = true
 same_lists [] (t ∷ ts) = false
 same_lists (s ∷ ss) [] = false
-same_lists (s ∷ ss) (t ∷ ts) = same_all s t && same_lists ss ts
+same_lists (s ∷ ss) (t ∷ ts) = same_bounds s t && same_lists ss ts
 
 abbrev pub variables : List VarId → List Ty
 variables vars = map (λ v. Variable v) vars
@@ -63,8 +77,12 @@ unfoldable pub leftmost : MethodView → ℕ → Ty → Ty
 leftmost b zero t = t
 leftmost b (suc n) t = leftmost_at (leftmost b n) b t (out-Ty t)
 
+-- .. and with the bounds that an environment gives captured variables
+abbrev pub erased_within : Table → List Bounds → MethodView → Ty → Ty
+erased_within T env b t = erased_type T (erasure T env (leftmost b (length b.vars + 1) t))
+
 abbrev pub erased_in : Table → MethodView → Ty → Ty
-erased_in T b t = plain T (leftmost b (length b.vars + 1) t)
+erased_in T b t = erased_within T [] b t
 
 -- a's signature is the erasure of b's (JLS 4.6)
 abbrev pub is_erasure : Table → MethodView → MethodView → Bool

@@ -25,6 +25,7 @@ use std::alloc::Global;
 
 /// The longest expression of at most such a height.
 #[cycle(expressions)]
+#[inline(never)]
 pub fn expr(alloc: Global, tokens: &[Token], height: u32) -> Result<Found<'_, Measured<Expr>>, Halt>
     requires { length tokens.now < 2 ^ 32 }
     ensures { Gives result (becoming measured ((levels_at height).expr tokens.now)) }

@@ -84,12 +84,12 @@ not_chosen x y f e t = absurd (let g : is_chosen y ≡ is_chosen x = ap is_chose
 
 module _ (T : Table) (env : List Bounds) (phase : Phase) where
   abbrev From : List Candidate → Choice → Type 0
-  From cs x = (c : Candidate) × IsAmong cs c × (chosen T phase c ≡ x)
+  From cs x = (c : Candidate) × IsAmong cs c × (chosen T env phase c ≡ x)
 
   unless_chosen : (all : List Candidate) (x : Choice) → ambiguous all ≡ x → is_chosen x ≡ true → From all x
   unless_chosen all x e t = absurd (not_chosen x (ambiguous all) (ambiguous_is_none all) e t)
 
-  by_fitting : (all cs : List Candidate) (c : Candidate) (x : Choice) → IsAmong all c → (by_result T env phase all cs ≡ x → From all x) → (a : Answer) → chosen_if T phase a c (by_result T env phase all cs) ≡ x → is_chosen x ≡ true → From all x
+  by_fitting : (all cs : List Candidate) (c : Candidate) (x : Choice) → IsAmong all c → (by_result T env phase all cs ≡ x → From all x) → (a : Answer) → chosen_if T env phase a c (by_result T env phase all cs) ≡ x → is_chosen x ≡ true → From all x
   by_fitting all cs c x within ih Yes e t = (c, within, e)
   by_fitting all cs c x within ih No e t = ih e
   by_fitting all cs c x within ih Deep e t = absurd (not_chosen x choice.Deep refl e t)
@@ -110,7 +110,7 @@ module _ (T : Table) (env : List Bounds) (phase : Phase) where
   body_among [] c e = absurd cc
   body_among (d ∷ cs) c e = body_here d cs c (body_among cs c) (has_body T d.member.id) e
 
-  by_one_body : (all : List Candidate) (x : Choice) (o : Option Candidate) → first_with_body T all ≡ o → chosen_or_ambiguous T phase all o ≡ x → is_chosen x ≡ true → From all x
+  by_one_body : (all : List Candidate) (x : Choice) (o : Option Candidate) → first_with_body T all ≡ o → chosen_or_ambiguous T env phase all o ≡ x → is_chosen x ≡ true → From all x
   by_one_body all x None h e t = unless_chosen all x e t
   by_one_body all x (Some c) h e t = (c, body_among all c h, e)
 
@@ -273,7 +273,7 @@ module _ (T : Table) (env : List Bounds) (site : CallSite) where
     known : resolved T env site ≡ x → Known
     known e = by_phase (in_some_phase x e refl)
       where
-        same_phase : (p : Phase) (c : Candidate) → chosen T p c ≡ x → p ≡ phase
+        same_phase : (p : Phase) (c : Candidate) → chosen T env p c ≡ x → p ≡ phase
         same_phase p c e = cc
 
         by_phase : Found x → Known
@@ -293,10 +293,10 @@ module _ (T : Table) (env : List Bounds) (site : CallSite) where
         let holds = gathered_holds T env site phase site.members k.candidates k.gathers c (k.decides.from.1) in
         record { member = c.member; among = holds.0; is = is c (k.decides.from.2); applies = holds.1 ∙ parts c (k.decides.from.2) }
       where
-        is : (c : Candidate) → chosen T phase c ≡ x → c.member.id ≡ m
+        is : (c : Candidate) → chosen T env phase c ≡ x → c.member.id ≡ m
         is c e = cc
 
-        parts : (c : Candidate) → chosen T phase c ≡ x → applied_as.Applies c.type_args c.unchecked ≡ applied_as.Applies by u
+        parts : (c : Candidate) → chosen T env phase c ≡ x → applied_as.Applies c.type_args c.unchecked ≡ applied_as.Applies by u
         parts c e = cc
 
     pub none_left_out : resolved T env site ≡ x → (cs : List Candidate) → gathered T env site phase site.members ≡ Some cs → (c : Candidate) → IsAmong cs c → beaten T env phase c.member cs ≡ No → StandsBeside T cs m c
@@ -309,7 +309,7 @@ module _ (T : Table) (env : List Bounds) (site : CallSite) where
         same_lists : (l r : List Candidate) → Some l ≡ Some r → l ≡ r
         same_lists l r e = cc
 
-        is : (c : Candidate) → chosen T phase c ≡ x → c.member.id ≡ m
+        is : (c : Candidate) → chosen T env phase c ≡ x → c.member.id ≡ m
         is c e = cc
 
         by_other : (h : Decides T env phase cs x) → (c ≡ h.from.0) ⊎ AreEquivalent T c.member (h.from.0).member → StandsBeside T cs m c

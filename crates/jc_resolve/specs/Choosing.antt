@@ -13,7 +13,7 @@ use Rattle.jc_judge.specs.declared.question.Answer.{Answer}
 use Rattle.jc_judge.specs.declared.question.Answer.TheVariants.{Yes, No, Deep}
 use Rattle.jc_judge.specs.Kinds.{is_primitive}
 use Rattle.jc_overriding.specs.declared.view.MethodView.{MethodView}
-use Rattle.jc_overriding.specs.Signatures.{adapted, erased_in, override_equivalent}
+use Rattle.jc_overriding.specs.Signatures.{adapted, erased_within, override_equivalent}
 use Rattle.jc_convert.specs.declared.answer.Converts.{Converts}
 use Rattle.jc_convert.specs.declared.answer.Converts.TheVariants as converts
 use Rattle.jc_convert.specs.Converting.{invocation}
@@ -28,14 +28,14 @@ use Rattle.jc_resolve.specs.Specific.{maximal}
 -- ---- the chosen member
 
 -- the result of a call that an unchecked conversion made applicable is erased (JLS 15.12.2.6)
-abbrev pub result_type : Table → MethodView → List Ty → Bool → Ty → Ty
-result_type T m by true t = erased_in T m t
-result_type T m by false t = subst m.vars by t
+abbrev pub result_type : Table → List Bounds → MethodView → List Ty → Bool → Ty → Ty
+result_type T env m by true t = erased_within T env m t
+result_type T env m by false t = subst m.vars by t
 
-abbrev pub chosen : Table → Phase → Candidate → Choice
-chosen T phase c =
+abbrev pub chosen : Table → List Bounds → Phase → Candidate → Choice
+chosen T env phase c =
     choice.Chosen c.member.id phase c.type_args (map (subst c.member.vars c.type_args) c.member.params)
-    (option_map (result_type T c.member c.type_args c.unchecked) c.member.result) c.unchecked
+    (option_map (result_type T env c.member c.type_args c.unchecked) c.member.result) c.unchecked
 
 abbrev pub ambiguous : List Candidate → Choice
 ambiguous (a ∷ b ∷ cs) = choice.Ambiguous a.member.id b.member.id
@@ -80,7 +80,7 @@ converts_to converts.Deep = Deep
 
 -- a result of a reference type fits another one that it is below, by an unchecked conversion too, or whose erasure it is (JLS 8.4.5)
 abbrev pub reference_fits : Table → List Bounds → MethodView → MethodView → Ty → Ty → Answer
-reference_fits T env a b s t = cond (same s (erased_in T b t)) Yes (converts_to (invocation T env s (adapted a b t)))
+reference_fits T env a b s t = cond (same s (erased_within T env b t)) Yes (converts_to (invocation T env s (adapted a b t)))
 
 abbrev pub type_fits : Table → List Bounds → MethodView → MethodView → Ty → Ty → Answer
 type_fits T env a b s t = cond (is_primitive s || is_primitive t) (yes_if (same s t)) (reference_fits T env a b s t)
@@ -98,30 +98,30 @@ abbrev pub fits_all : Table → List Bounds → MethodView → List Candidate �
 fits_all T env a [] = Yes
 fits_all T env a (b ∷ bs) = and_then (result_fits T env a b.member) (fits_all T env a bs)
 
-abbrev pub chosen_if : Table → Phase → Answer → Candidate → Choice → Choice
-chosen_if T phase Yes c more = chosen T phase c
-chosen_if T phase No c more = more
-chosen_if T phase Deep c more = choice.Deep
+abbrev pub chosen_if : Table → List Bounds → Phase → Answer → Candidate → Choice → Choice
+chosen_if T env phase Yes c more = chosen T env phase c
+chosen_if T env phase No c more = more
+chosen_if T env phase Deep c more = choice.Deep
 
 -- the first whose result fits those of all
 abbrev pub by_result : Table → List Bounds → Phase → List Candidate → List Candidate → Choice
 by_result T env phase all [] = ambiguous all
-by_result T env phase all (c ∷ cs) = chosen_if T phase (fits_all T env c.member all) c (by_result T env phase all cs)
+by_result T env phase all (c ∷ cs) = chosen_if T env phase (fits_all T env c.member all) c (by_result T env phase all cs)
 
-abbrev pub chosen_or_ambiguous : Table → Phase → List Candidate → Option Candidate → Choice
-chosen_or_ambiguous T phase all None = ambiguous all
-chosen_or_ambiguous T phase all (Some c) = chosen T phase c
+abbrev pub chosen_or_ambiguous : Table → List Bounds → Phase → List Candidate → Option Candidate → Choice
+chosen_or_ambiguous T env phase all None = ambiguous all
+chosen_or_ambiguous T env phase all (Some c) = chosen T env phase c
 
 -- the only one that has a body; by their results where none has; and more than one is ambiguous
 abbrev pub by_body : Table → List Bounds → Phase → List Candidate → ℕ → Choice
 by_body T env phase all zero = by_result T env phase all all
-by_body T env phase all (suc zero) = chosen_or_ambiguous T phase all (first_with_body T all)
+by_body T env phase all (suc zero) = chosen_or_ambiguous T env phase all (first_with_body T all)
 by_body T env phase all (suc (suc n)) = ambiguous all
 
 -- ---- the choice
 
 abbrev pub chosen_among : Table → List Bounds → Phase → List Candidate → Choice
-chosen_among T env phase (c ∷ []) = chosen T phase c
+chosen_among T env phase (c ∷ []) = chosen T env phase c
 chosen_among T env phase cs = cond (all_equivalent T cs) (by_body T env phase cs (bodies T cs)) (ambiguous cs)
 
 -- where each of some members is beaten by another one, none is more specific than the others

@@ -1,4 +1,5 @@
 pub mod Applying
+pub mod Parameters
 pub mod Specific
 pub mod Choosing
 pub mod Laws

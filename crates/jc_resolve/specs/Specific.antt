@@ -16,6 +16,7 @@ use Rattle.jc_infer.specs.Asked.{and_then, inferred}
 use Rattle.jc_infer.specs.Formals.{formals}
 use Rattle.jc_resolve.specs.declared.applied.Candidate.{Candidate}
 use Rattle.jc_resolve.specs.Applying.{put}
+use Rattle.jc_resolve.specs.Parameters.{standing_in, with_parameters}
 
 -- each type is below the one at its place: the first question that isn't proved decides
 abbrev pub all_below : Table → List Bounds → List Ty → List Ty → Answer
@@ -42,9 +43,14 @@ compared_with T env phase b params inference.Deep = Deep
 abbrev pub compared : Table → List Bounds → Phase → MethodView → List Ty → Answer
 compared T env phase b params = compared_with T env phase b params (compared_by T env phase b params)
 
+-- .. of a member with type parameters, which are types here with the bounds that its view gives them
+abbrev pub compared_as : Table → List Bounds → Phase → MethodView → MethodView → List Ty → List VarId → Answer
+compared_as T env phase a b params [] = compared T env phase b params
+compared_as T env phase a b params (v ∷ vars) = compared T (with_parameters env a) phase b (standing_in env a params)
+
 -- each parameter of a is below that of b, whose type parameters are inferred from a's parameters
 abbrev pub more_specific : Table → List Bounds → Phase → MethodView → MethodView → Answer
-more_specific T env phase a b = compared T env phase b (formals phase a.params (compared_at a b))
+more_specific T env phase a b = compared_as T env phase a b (formals phase a.params (compared_at a b)) a.vars
 
 abbrev pub not_so : Answer → Answer
 not_so Yes = No

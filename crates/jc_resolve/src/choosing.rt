@@ -9,7 +9,7 @@ use crate::applying::put_all;
 use crate::choice::Choice;
 use crate::sorting::{all_equivalent, bodies, first_with_body, fits_all};
 use jc_judge::Answer;
-use jc_members::erased_in;
+use jc_members::erased_within;
 use jc_rules::WantOfMemory;
 use jc_types::{Env, Phase, Table, Ty, VarId, copy_types, substitute};
 use std::alloc::Global;
@@ -24,22 +24,33 @@ fn put(alloc: Global, t: &Ty, vars: &[VarId], by: &[Ty]) -> Result<Ty, WantOfMem
 }
 
 // A result with the type arguments for the type parameters, or erased.
-fn result_type(alloc: Global, table: &Table, c: &Candidate, t: &Ty) -> Result<Ty, WantOfMemory>
-    ensures { IfOk result (λ r. r ≡ result_type table.now c.now.member c.now.type_args c.now.unchecked t.now) }
+fn result_type(
+    alloc: Global,
+    table: &Table,
+    env: &Env,
+    c: &Candidate,
+    t: &Ty,
+) -> Result<Ty, WantOfMemory>
+    ensures { IfOk result (λ r. r ≡ result_type table.now env.now.bounds c.now.member c.now.type_args c.now.unchecked t.now) }
 {
     if c.unchecked {
-        return erased_in(alloc, table, &c.member, t);
+        return erased_within(alloc, table, env, &c.member, t);
     }
     put(alloc, t, c.member.vars.slice(), c.type_args.slice())
 }
 
-fn result_of(alloc: Global, table: &Table, c: &Candidate) -> Result<Option<Ty>, WantOfMemory>
-    ensures { IfOk result (λ r. r ≡ option_map (result_type table.now c.now.member c.now.type_args c.now.unchecked) c.now.member.result) }
+fn result_of(
+    alloc: Global,
+    table: &Table,
+    env: &Env,
+    c: &Candidate,
+) -> Result<Option<Ty>, WantOfMemory>
+    ensures { IfOk result (λ r. r ≡ option_map (result_type table.now env.now.bounds c.now.member c.now.type_args c.now.unchecked) c.now.member.result) }
 {
     match &c.member.result {
         None => Ok(None),
         Some(t) => {
-            let t = result_type(alloc, table, c, t)?;
+            let t = result_type(alloc, table, env, c, t)?;
             Ok(Some(t))
         }
     }
@@ -49,15 +60,16 @@ fn result_of(alloc: Global, table: &Table, c: &Candidate) -> Result<Option<Ty>, 
 pub fn chosen(
     alloc: Global,
     table: &Table,
+    env: &Env,
     phase: Phase,
     c: &Candidate,
 ) -> Result<Choice, WantOfMemory>
-    ensures { IfOk result (λ r. r ≡ chosen table.now phase c.now) }
+    ensures { IfOk result (λ r. r ≡ chosen table.now env.now.bounds phase c.now) }
 {
     let member = &c.member;
     let by = c.type_args.slice();
     let params = put_all(alloc, member.params.slice(), member.vars.slice(), by)?;
-    let result = result_of(alloc, table, c)?;
+    let result = result_of(alloc, table, env, c)?;
     let type_args = copy_types(alloc, by)?;
     Ok(Choice::Chosen {
         member: member.id,
@@ -96,7 +108,7 @@ fn by_result(
     let mut rest = all;
     while let [c, more @ ..] = rest {
         match fits_all(alloc, table, env, &c.member, all)? {
-            Answer::Yes => return chosen(alloc, table, phase, c),
+            Answer::Yes => return chosen(alloc, table, env, phase, c),
             Answer::No => rest = more,
             Answer::Deep => return Ok(Choice::Deep),
         }
@@ -117,7 +129,7 @@ fn by_body(
     match bodies(table, all) {
         0 => by_result(alloc, table, env, phase, all),
         1 => match first_with_body(table, all) {
-            Some(c) => chosen(alloc, table, phase, c),
+            Some(c) => chosen(alloc, table, env, phase, c),
             None => Ok(ambiguous(all)),
         },
         _ => Ok(ambiguous(all)),
@@ -135,7 +147,7 @@ pub fn chosen_among(
     ensures { IfOk result (λ r. r ≡ chosen_among table.now env.now.bounds phase candidates.now) }
 {
     if let [c] = candidates {
-        return chosen(alloc, table, phase, c);
+        return chosen(alloc, table, env, phase, c);
     }
     if all_equivalent(alloc, table, candidates)? {
         return by_body(alloc, table, env, phase, candidates);

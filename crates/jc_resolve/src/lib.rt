@@ -7,6 +7,7 @@ mod choice;
 mod choosing;
 mod copying;
 mod laws;
+mod parameters;
 mod ranking;
 mod resolving;
 mod site;

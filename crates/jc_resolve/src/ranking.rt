@@ -3,11 +3,13 @@ ghost use Rattle.std.specs.Prelude.{◌≡◌, IfOk, List, Option, length, map, 
 ghost use Rattle.jc_resolve.specs.declared.applied.Candidate.{Candidate};
 ghost use Rattle.jc_resolve.specs.Applying.{before, before_if};
 ghost use Rattle.jc_infer.specs.declared.outcome.Inference.TheVariants as inference;
+ghost use Rattle.jc_resolve.specs.Parameters.{standing_in, with_parameters};
 ghost use Rattle.jc_resolve.specs.Specific.{all_below, beaten, compared, compared_by, compared_with, either, maximal, more_specific, put_unless, strictly};
 
 use crate::applied::Candidate;
 use crate::applying::put_all;
 use crate::copying::copy_candidate;
+use crate::parameters::{stand_ins, with_bounds};
 use jc_infer::{Inference, formals, infer};
 use jc_judge::Answer;
 use jc_members::MethodView;
@@ -100,6 +102,25 @@ fn compared(
     }
 }
 
+// The same of parameters of a member with type parameters.
+fn compared_generic(
+    alloc: Global,
+    table: &Table,
+    env: &Env,
+    phase: Phase,
+    a: &MethodView,
+    b: &MethodView,
+    params: &[Ty],
+) -> Result<Answer, WantOfMemory>
+    ensures { IfOk result (λ r. r ≡ compared table.now (with_parameters env.now.bounds a.now) phase b.now (standing_in env.now.bounds a.now params.now)) }
+{
+    let vars = a.vars.slice();
+    let by = stand_ins(alloc, env.bounds.len() as u64, vars)?;
+    let within = with_bounds(alloc, env, vars, by.slice(), a.bounds.slice())?;
+    let params = put_all(alloc, params, vars, by.slice())?;
+    compared(alloc, table, &within, phase, b, params.slice())
+}
+
 // Whether a is more specific than b.
 fn more_specific(
     alloc: Global,
@@ -113,7 +134,10 @@ fn more_specific(
 {
     let count = a.params.slice().len().max(b.params.slice().len());
     let params = formals(alloc, phase, a.params.slice(), count)?;
-    compared(alloc, table, env, phase, b, params.slice())
+    match a.vars.slice() {
+        [] => compared(alloc, table, env, phase, b, params.slice()),
+        [_, ..] => compared_generic(alloc, table, env, phase, a, b, params.slice()),
+    }
 }
 
 // Whether a is more specific than b, and b isn't more specific than a.

@@ -6,7 +6,7 @@ ghost use Rattle.jc_resolve.specs.Choosing.{all_equivalent, all_equivalent_to, b
 use crate::applied::Candidate;
 use jc_convert::{Converts, invocation};
 use jc_judge::Answer;
-use jc_members::{MethodView, adapted, erased_in, override_equivalent};
+use jc_members::{MethodView, adapted, erased_within, override_equivalent};
 use jc_rules::WantOfMemory;
 use jc_sub::is_primitive;
 use jc_types::{Env, Table, Ty, has_body, same_type};
@@ -116,7 +116,7 @@ fn reference_fits(
 ) -> Result<Answer, WantOfMemory>
     ensures { IfOk result (λ r. r ≡ reference_fits table.now env.now.bounds a.now b.now s.now t.now) }
 {
-    let erased = erased_in(alloc, table, b, t)?;
+    let erased = erased_within(alloc, table, env, b, t)?;
     if same_type(s, &erased) {
         return Ok(Answer::Yes);
     }

@@ -60,7 +60,7 @@ abbrev pub spend : {S A : Type 0} → Run S A → Run S A
 spend m zero s = Going s
 spend m (suc u) s = m u s
 
--- what leaves a node, in whatever way, spends a unit
+-- what leaves a node with a value or by a throw spends a unit; a run that has exited is over
 abbrev pub leave : {S A : Type 0} → Out S A → Out S A
 leave o = on_both o (λ a. spend (give a)) (λ address. spend (throw address))
 

@@ -46,7 +46,7 @@ return_makes classes waiting given = false
 
 -- ---- calls
 
--- getClassName makes a string, of an object that is there
+-- className makes a string, of an object that is there
 abbrev pub native_makes : List ClassModel → World → Native → List Value → Bool
 native_makes classes world native.ClassName (Address at ∷ []) = have_strings classes && is_some (slice_get world.heap at)
 native_makes classes world _ arguments = false

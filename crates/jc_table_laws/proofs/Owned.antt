@@ -12,14 +12,11 @@ use Rattle.jc_tree.specs.declared.statement.TopLevel.TheVariants as top_of
 use Rattle.jc_tree.specs.declared.statement.TypeParam.{TypeParam}
 use Rattle.jc_types.specs.declared.declarations.Owner.{Owner}
 use Rattle.jc_types.specs.declared.declarations.Owner.TheVariants as owner
+use Rattle.jc_header_rules.specs.Checked.{IsAmong}
 use Rattle.jc_declares.specs.declared.heads.Standing.{Standing}
 use Rattle.jc_declares.specs.declared.unit.SourceUnit.{SourceUnit}
 use Rattle.jc_declares.specs.Sites.{Sites, ClassSite, MethodSite, VariableSite, MethodForm, Headed, ImpliedConstructor, StaticInitialiser, Counts, Walk, Uses, Membered, behind, innermost, walked, within, variable_sites, listed_params, params_of_head, class_sites, implied_sites, implied_forms, declaration_walk, declaration_sites, member_sites, stmt_uses, clause_uses, membered, uses_of_stmt, uses_of_clause, sites_of_declaration, sites_of_top, unit_front, sites_of_unit, sites_from, sites_of}
 use Rattle.jc_table_laws.proofs.Fitting.{Each, each_joined}
-
-abbrev pub IsAmong : {X : Type 0} → X → List X → Type 0
-IsAmong x [] = ⊥
-IsAmong x (y ∷ ys) = (x ≡ y) ⊎ IsAmong x ys
 
 abbrev pub IsInForm : TypeParam → MethodForm → Type 0
 IsInForm p (Headed head has_block) = IsAmong p (listed_params head.params)

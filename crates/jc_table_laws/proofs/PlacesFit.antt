@@ -37,6 +37,7 @@ use Rattle.jc_declares.specs.Knowing.{known, is_some, Needs}
 use Rattle.jc_declares.specs.Looking.{Knowledge, Look, Asker, one_variable, or_next, in_unit, in_body, in_head, head_asker, body_asker}
 use Rattle.jc_declares.specs.Making.{place_at, written_at, written_classes, types, or_object, super_list, class_decl, one_more, written_formal, written_result, param_name, method_decl, method_decl_of, field_decl, owner_reading, variable_decl, part_at, use_with, use_decls, numbered, table_of}
 use Rattle.jc_declares.specs.Readings.{own_unless, head_reading, body_reading, method_reading, class_of_method, unit_reading, reading_in, wrote_in_part, wrote_in_use}
+use Rattle.jc_header_rules.specs.Checked.{IsAmong}
 use Rattle.jc_declares.specs.Sites.{Sites, ClassSite, MethodSite, FieldSite, VariableSite, UseSite, BodyPart, OfType, OfClassType, OfDiamond, OfElement, OfVariable, MethodForm, Headed, ImpliedConstructor, StaticInitialiser, listed_params, params_of_head, sites_of}
 use Rattle.jc_declares.specs.Words.{says_static}
 use Rattle.jc_declares.specs.Writing.{Broken, Reading, Wrote, with_dims, wrote_base, wrote_class, wrote_type}
@@ -45,7 +46,7 @@ use Rattle.jc_table_laws.proofs.AllInside.{mapped, both_true}
 use Rattle.jc_table_laws.proofs.AllKnown.{none_unknown, sure_next, sure_unit, sure_classes, sure_head}
 use Rattle.jc_table_laws.proofs.Fitting.{Each, each_joined, each_at, IsBelow, MethodFits, FieldFits, ScopeFits, SitesFit, FormFits, sizes, all_fit}
 use Rattle.jc_table_laws.proofs.IdsFit.{round_below}
-use Rattle.jc_table_laws.proofs.Owned.{IsAmong, IsInForm, IsOwned, OfClass, OfMethod, all_owned}
+use Rattle.jc_table_laws.proofs.Owned.{IsInForm, IsOwned, OfClass, OfMethod, all_owned}
 use Rattle.jc_table_laws.proofs.PlacesZip.{left_empty, right_empty, Zipped, dims_inside, base_tree_zips, class_tree_zips, type_tree_zips}
 use Rattle.jc_table_laws.proofs.Ranges.{LookIn, unit_in, in_body_in, in_head_in, in_method_in, known_in}
 

@@ -117,7 +117,7 @@ pub enum ExprForm {
     },
 
     /// `v = e`, `v op= e`, where `into` takes the result back to the type of the variable, and `++` and `--`, where the value is
-    /// that before or behind the change (JLS 15.26, 15.14.2, 15.15.1).
+    /// that before or behind the change (JLS 15.26, 15.14.2, 15.14.3, 15.15.1, 15.15.2).
     Assign {
         variable: u32,
         value: u32,
