@@ -61,8 +61,13 @@ def words(ty):
     return ty[1]
 
 
+def meet(bounds):
+    """Bounds in the words of ASKS."""
+    return words(bounds[0]) if len(bounds) == 1 else "{%s}" % "&".join(map(words, bounds))
+
+
 def bounded(table, names):
-    return " ".join(name + ":" + words(table.bounds[name][0]) for name in names)
+    return " ".join(name + ":" + meet(table.bounds[name]) for name in names)
 
 
 def head(table, one):
