@@ -13,13 +13,16 @@ pub fn without<T: Drop, F>(value: T, fault: F) -> F
     fault
 }
 
-/// The list with one more value behind it.
+/// The list with one more value behind it. The first one gets room for itself alone: most lists of trees have one part, and trees are large.
 pub fn pushed<T: Drop>(list: Items<T>, value: T) -> Result<Items<T>, WantOfMemory>
     ensures { IfOk result (λ more. more ≡ list ++ value ∷ []) }
 {
-    let mut list = list;
+    let mut list = list.into_vec();
+    if list.is_empty() {
+        list.reserve_exact(1)?;
+    }
     list.push(value)?;
-    Ok(list)
+    Ok(Items::of(list))
 }
 
 /// A value in a box, and the one that is held beside it.
