@@ -99,3 +99,16 @@ Breaks texts refused =
 abbrev pub IsBreak : List (List ℕ) → Stop Refusal → Type 0
 IsBreak texts (stop_of.Refused refused) = Breaks texts refused
 IsBreak texts stop_of.WantOfMemory = Unit {0}
+
+-- ---- the stages behind the trees, of units alone
+
+-- units that break no rule of the stages behind the trees, with the table of what they declare
+pub record AreUnbroken (units : List SourceUnit) (table : Table) : Type 0 where
+  pub names : IsNamed units table
+  pub object : BeginsWithObject table
+  pub headers : IsUnbroken table
+  pub clashes : HasNoClash table
+
+-- what stops units behind the trees is the break of all sources that have these trees
+pub record StopsUnits (units : List SourceUnit) (stop : Stop Refusal) : Type 0 where
+  pub breaks : (texts : List (List ℕ)) (lists : List (List Token)) → HaveTrees texts lists units → IsBreak texts stop

@@ -1,6 +1,6 @@
 //! The stages one behind the other.
 ghost use Rattle.std.specs.Prelude.{◌↔◌, IfErr, IfOk, IsTrue};
-ghost use Rattle.jc_front.specs.Stages.{AreRead, AreSources, BeginsWithObject, IsBreak};
+ghost use Rattle.jc_front.specs.Stages.{AreRead, AreSources, AreUnbroken, BeginsWithObject, IsBreak, StopsUnits};
 
 use crate::units::all_units;
 use jc_clashes::check_clashes;
@@ -11,6 +11,7 @@ use jc_names::names;
 use jc_rules::{Items, Refusal, Stop};
 use jc_types::{ClassId, Table, class_supers, class_vars};
 use std::alloc::Global;
+use std::mem::forget;
 
 /// What sources are that break no rule of a stage that is built: the tokens of each, the trees of the library and of the sources, and the table of
 /// what they declare.
@@ -32,33 +33,55 @@ fn begins_with_object(table: &Table) -> bool
         && table.classes.len() > 1
 }
 
-/// Reads the sources with these texts through all stages that are built. A refusal is the least break of the first stage that has one. Want of memory
-/// would stand for a library that doesn't begin with Object.
-#[tactic(auto, using(crate::proofs::Reached::have_table, crate::proofs::Reached::are_sources, crate::proofs::Reached::headers_stop, crate::proofs::Reached::clashes_stop))]
+/// The table of what units declare, where it breaks no rule of a stage that is built. Want of memory would stand for a library that doesn't begin
+/// with Object.
+#[tactic(auto, using(crate::proofs::Reached::are_unbroken, crate::proofs::Reached::short_of_memory, crate::proofs::Reached::names_stop, crate::proofs::Reached::headers_stop, crate::proofs::Reached::clashes_stop))]
+fn unbroken_table(alloc: Global, units: &[SourceUnit]) -> Result<Table, Stop<Refusal>>
+    ensures table { IfOk result (λ table. AreUnbroken units.now table) }
+    ensures refused { IfErr result (λ stop. StopsUnits units.now stop) }
+{
+    let table = names(alloc, units)?;
+    if !begins_with_object(&table) {
+        return Err(Stop::WantOfMemory);
+    }
+    check_headers(alloc, &table)?;
+    check_clashes(alloc, &table)?;
+    Ok(table)
+}
+
+/// Reads the sources with these texts through all stages that are built. A refusal is the least break of the first stage that has one. Where a stage
+/// behind the trees refuses, tokens and trees stay in memory until the program ends: to free those of a large source takes as long as a stage.
+#[tactic(auto, using(crate::proofs::Reached::are_sources, crate::proofs::Reached::units_stop))]
 pub fn sources_of(alloc: Global, texts: &[Items<u8>]) -> Result<Sources, Stop<Refusal>>
     ensures sources { IfOk result (λ sources. AreSources texts.now sources) }
     ensures refused { IfErr result (λ stop. IsBreak texts.now stop) }
 {
     let tokens = lex_all(alloc, texts)?;
     let units = all_units(alloc, texts, tokens.slice())?;
-    let table = names(alloc, units.slice())?;
-    if !begins_with_object(&table) {
-        return Err(Stop::WantOfMemory);
+    match unbroken_table(alloc, units.slice()) {
+        Ok(table) => Ok(Sources {
+            tokens,
+            units,
+            table,
+        }),
+        Err(stop) => {
+            forget((tokens, units));
+            Err(stop)
+        }
     }
-    check_headers(alloc, &table)?;
-    check_clashes(alloc, &table)?;
-    Ok(Sources {
-        tokens,
-        units,
-        table,
-    })
 }
 
-/// The tokens of sources that break no rule of a stage that is built, where nothing else of them is asked.
+/// The tokens of sources that break no rule of a stage that is built, where nothing else of them is asked. Trees and table stay in memory, as do those
+/// of sources that are refused.
 pub fn tokens_of(alloc: Global, texts: &[Items<u8>]) -> Result<Items<Items<Token>>, Stop<Refusal>>
     ensures tokens { IfOk result (λ lists. AreRead texts.now lists) }
     ensures refused { IfErr result (λ stop. IsBreak texts.now stop) }
 {
-    let Sources { tokens, .. } = sources_of(alloc, texts)?;
+    let Sources {
+        tokens,
+        units,
+        table,
+    } = sources_of(alloc, texts)?;
+    forget((units, table));
     Ok(tokens)
 }
