@@ -1,5 +1,5 @@
 """Dense expressions of any size: fields whose values are chains of operators of all levels, with operands of one or two letters, calls, indices, fields, casts, creations,
-conditionals and parentheses, and no space between them but where two signs would become one."""
+conditionals and parentheses."""
 import random
 import string
 
@@ -8,8 +8,8 @@ KEYWORDS = ("do", "if")
 
 
 class Writer:
-    def __init__(self, seed):
-        self.lot = random.Random(seed)
+    def __init__(self, seed, space):
+        self.lot, self.space = random.Random(seed), space
 
     def name(self):
         while True:
@@ -26,7 +26,7 @@ class Writer:
             lambda: name + "(" + ",".join(part() for _ in range(self.lot.randrange(3))) + ")",
             lambda: "(" + part(3) + ")",
             lambda: "(int)" + name,
-            lambda: " -" + name,
+            lambda: ("" if self.space else " ") + "-" + name,
             lambda: "!" + name,
             lambda: "~" + name,
             lambda: name + "[" + part(2) + "]",
@@ -38,11 +38,13 @@ class Writer:
         return self.lot.choice(forms)()
 
     def chain(self, depth, length):
-        return self.operand(depth) + "".join(self.lot.choice(OPERATORS) + self.operand(depth) for _ in range(length - 1))
+        links = (self.space + self.lot.choice(OPERATORS) + self.space + self.operand(depth) for _ in range(length - 1))
+        return self.operand(depth) + "".join(links)
 
 
-def source(size):
-    writer, lines, length, count = Writer(1), ["class A {}", "class Main {"], 24, 0
+def source(size, space):
+    """The source, with so much space around each operator; where there is none, one stands where two signs would become one."""
+    writer, lines, length, count = Writer(1, space), ["class A {}", "class Main {"], 24, 0
     while length < size:
         lines.append("int f%d=%s;" % (count, writer.chain(0, 40)))
         length += len(lines[-1]) + 1
