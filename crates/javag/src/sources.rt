@@ -1,5 +1,5 @@
 //! The texts of a job's sources.
-ghost use Rattle.std.specs.Prelude.{◌≡◌, ◌≤◌, ◌⊎◌, ◌+◌, ◌^◌, ◌<◌, IfOk, IsErrOf, length, ℕ};
+ghost use Rattle.std.specs.Prelude.{◌≡◌, ◌≤◌, ◌⊎◌, ◌+◌, ◌^◌, ◌<◌, IfOk, IsErrOf, ℕ};
 ghost use Rattle.jc_outside.specs.Told.{Rose, IsMissing};
 ghost use Rattle.javag.specs.Objects.{HasBytes, HaveTexts, IsUnread};
 

@@ -1,5 +1,5 @@
 //! The work on a job whose sources are read: its class, the class file, and the run.
-ghost use Rattle.std.specs.Prelude.{◌≡◌, ◌≢◌, ◌≤◌, ◌⊎◌, [], ◌∷◌, ◌++◌, IfOk, IfErr, OnOk, OnErr, IsErrOf, MatchOption, Some, None, Ok, true, false, codes, string_bytes, List, ℕ};
+ghost use Rattle.std.specs.Prelude.{◌≡◌, ◌≢◌, ◌≤◌, ◌⊎◌, [], ◌∷◌, ◌++◌, IfOk, IfErr, OnOk, OnErr, IsErrOf, MatchOption, Some, None, Ok, true, false, codes, List, ℕ};
 ghost use Rattle.jc_front.specs.Stages.{IsBreak};
 ghost use Rattle.jc_machine.specs.Start.{start_of};
 ghost use Rattle.jc_machine.specs.Table.{State};

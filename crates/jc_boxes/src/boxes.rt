@@ -1,6 +1,6 @@
 //! Primitive types and their classes (JLS 5.1.7, 5.1.8).
-ghost use Rattle.std.specs.Prelude.{◌≡◌, IfOk, map};
-ghost use Rattle.jc_boxes.specs.Boxes.{box_name, box_of, boxed, unboxed};
+ghost use Rattle.std.specs.Prelude.{◌≡◌, IfOk};
+ghost use Rattle.jc_boxes.specs.Boxes.{box_of, boxed, unboxed};
 
 use jc_rules::{Items, WantOfMemory};
 use jc_types::{ClassId, Primitive, Table, Ty, class_named, copy_type};
@@ -32,17 +32,6 @@ pub fn boxed(alloc: Global, table: &Table, ty: &Ty) -> Result<Ty, WantOfMemory>
         }),
         _ => copy_type(alloc, ty),
     }
-}
-
-/// `boxed` of each.
-pub fn boxed_all(alloc: Global, table: &Table, types: &[Ty]) -> Result<Items<Ty>, WantOfMemory>
-    ensures { IfOk result (λ r. r ≡ map (boxed table.now) types.now) }
-{
-    let mut list = Items::new(alloc);
-    for t in types {
-        list.push(boxed(alloc, table, t)?)?;
-    }
-    Ok(list)
 }
 
 /// The primitive type whose class this is.

@@ -3,4 +3,4 @@
 
 mod boxes;
 
-pub use boxes::{box_class, boxed, boxed_all, unboxed};
+pub use boxes::{box_class, boxed, unboxed};

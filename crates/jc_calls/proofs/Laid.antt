@@ -1,9 +1,9 @@
 -- Arguments as locals, and arguments by their sorts.
-use Rattle.std.proofs.Common.{◌≡◌, ◌≢◌, ◌<◌, ◌≤◌, ◌+◌, ℕ, suc, Bool, true, false, ◌&&◌, List, [], ◌∷◌, ◌++◌, take, drop, length, reverse, get_or, refl, sym, ap, ◌∙◌, arith, add-one, append_assoc, if◌then◌else◌}
-use Rattle.std.proofs.lemmas.List.{take_more, length-reverse, length-take, length-drop}
-use Rattle.std.proofs.Math.Seq.{drop-cons}
+use Rattle.std.proofs.Common.{◌≡◌, ◌≢◌, ◌<◌, ◌≤◌, ◌+◌, ℕ, Bool, true, false, ◌&&◌, List, [], ◌∷◌, ◌++◌, take, drop, length, reverse, get_or, refl, sym, ap, ◌∙◌, arith, if◌then◌else◌}
+use Rattle.std.proofs.lemmas.List.{take_more, length-reverse, length-take}
 use Rattle.std.specs.declared.option.Option.{Option}
 use Rattle.std.specs.declared.option.Option.TheVariants.{Some, None}
+use Rattle.jc_rules.proofs.Truths.{and_second}
 use Rattle.jc_jvm.specs.Calls.{all_of_sorts, arguments_of}
 use Rattle.jc_jvm.specs.Frames.{laid_out}
 use Rattle.jc_jvm.specs.Types.{is_of_sort}
@@ -22,17 +22,13 @@ laid_out-append (NullValue ∷ vs) ws = ap (λ (ls : List (Option Value)). Some 
 pub laid_out_more : (vs : List Value) (i : ℕ) (d : Value) → i < length vs → laid_out (take (i + 1) vs) ≡ laid_out (take i vs) ++ laid_out (get_or vs i d ∷ [])
 laid_out_more vs i d h = ap laid_out (take_more vs i d h) ∙ laid_out-append (take i vs) (get_or vs i d ∷ [])
 
-and_right : (a b : Bool) → (a && b) ≡ true → b ≡ true
-and_right true b e = e
-and_right false b e = cc
-
 -- values of these sorts are as many as the sorts
 pub all_of_sorts_long : (ss : List Sort) (vs : List Value) → all_of_sorts ss vs ≡ true → length ss ≡ length vs
 all_of_sorts_long [] [] e = refl
 all_of_sorts_long [] (v ∷ vs) e = cc
 all_of_sorts_long (s ∷ ss) [] e = cc
 all_of_sorts_long (s ∷ ss) (v ∷ vs) e =
-    let rest : length ss ≡ length vs = all_of_sorts_long ss vs (and_right (is_of_sort s v) (all_of_sorts ss vs) e) in omega arith
+    let rest : length ss ≡ length vs = all_of_sorts_long ss vs (and_second (is_of_sort s v) (all_of_sorts ss vs) e) in omega arith
 
 arguments_by : (sorts : List Sort) (values : List Value) (b : Bool) → all_of_sorts sorts (reverse (take (length sorts) values)) ≡ b →
     arguments_of sorts values ≡ (if b then Some (reverse (take (length sorts) values), drop (length sorts) values) else None)
@@ -63,17 +59,3 @@ not_long_by ss vs false e h = sym e
 -- values that are fewer or more than the sorts aren't of these sorts
 pub not_long : (ss : List Sort) (vs : List Value) → length ss ≢ length vs → false ≡ all_of_sorts ss vs
 not_long ss vs h = not_long_by ss vs (all_of_sorts ss vs) refl h
-
--- the value behind those that were taken
-pub drop_head : (xs : List Value) (i : ℕ) (v : Value) (rest : List Value) → drop i xs ≡ v ∷ rest → (take (i + 1) xs ≡ take i xs ++ v ∷ []) × (rest ≡ drop (i + 1) xs) × (i + 1 ≤ length xs)
-drop_head xs i v rest e =
-    let inside : i < length xs = omega (arith, length-drop i xs, ap length e) in
-    let whole : get_or xs i v ∷ drop (suc i) xs ≡ v ∷ rest = sym (drop-cons xs i v inside) ∙ e in
-    let head : get_or xs i v ≡ v = cc in
-    let tail : rest ≡ drop (suc i) xs = cc in
-    (take_more xs i v inside ∙ ap (λ (x : Value). take i xs ++ x ∷ []) head, rw add-one tail, omega arith)
-
--- what was taken, with one value more
-pub taken_more : (before found after xs : List Value) (i : ℕ) (v : Value) → after ≡ found ++ v ∷ [] → found ≡ before ++ take i xs → take (i + 1) xs ≡ take i xs ++ v ∷ [] → after ≡ before ++ take (i + 1) xs
-taken_more before found after xs i v grown so more =
-    grown ∙ ap (λ (vs : List Value). vs ++ v ∷ []) so ∙ append_assoc before (take i xs) (v ∷ []) ∙ ap (λ (vs : List Value). before ++ vs) (sym more)

@@ -1,5 +1,5 @@
 //! The arguments of a call, and the frame that it begins with (JVMS 2.6).
-ghost use Rattle.std.specs.Prelude.{◌≡◌, ◌≤◌, take, drop, length, reverse, IfOk, MatchBool, Some, None, option_and_then};
+ghost use Rattle.std.specs.Prelude.{◌≡◌, ◌≤◌, take, drop, length, reverse, IfOk, MatchBool, Some, None};
 ghost use Rattle.jc_jvm.specs.Calls.{all_of_sorts, arguments_of};
 ghost use Rattle.jc_jvm.specs.Frames.{frame_of};
 

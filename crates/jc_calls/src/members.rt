@@ -2,7 +2,7 @@
 ghost use Rattle.std.specs.Prelude.{◌≡◌, ◌==◌, option_and_then};
 ghost use Rattle.std.specs.List.{list_any};
 ghost use Rattle.jc_jvm.specs.Calls.{special_class as class_of_special, own_method_if, special_method};
-ghost use Rattle.jc_jvm.specs.Classes.{class_named as class_by_name, line_of, method_at, method_of as method_by_name};
+ghost use Rattle.jc_jvm.specs.Classes.{line_of, method_at, method_of as method_by_name};
 ghost use Rattle.jc_jvm.specs.Table.{static_method_if, static_method};
 
 use crate::frames::method_of;

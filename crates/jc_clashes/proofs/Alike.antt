@@ -3,6 +3,8 @@ use Rattle.std.proofs.Common.{◌≡◌, ◌⊎◌, inl, inr, ℕ, zero, suc, �
 use Rattle.std.proofs.lemmas.Bool.Decides.{nat_tests}
 use Rattle.std.specs.List.{list_any}
 use Rattle.std.specs.Str.{bytes_eq}
+use Rattle.std.proofs.lemmas.Bool.{or_right, and_from, and_parts}
+use Rattle.jc_rules.proofs.Truths.{same_bytes, own_bytes, as_true, self_equal, equal_numbers}
 use Rattle.jc_types.specs.declared.declarations.MethodDecl.{MethodDecl}
 use Rattle.jc_types.specs.declared.ids.MethodId.{MethodId}
 use Rattle.jc_types.specs.declared.table.Table.{Table}
@@ -17,7 +19,7 @@ use Rattle.jc_clashes.specs.declared.shapes.Shape.{Shape}
 use Rattle.jc_clashes.specs.Erasures.{share_some}
 use Rattle.jc_clashes.specs.Shapes.{above_in, all_fixed, group_of, groups, groups_from, leads, shape_of, shapes_of}
 use Rattle.jc_clashes.specs.Spreading.{erasures_within}
-use Rattle.jc_clashes.proofs.Lists.{In, and_both, and_true, any_in, as_true, in_any, in_either, in_left, in_right, is_self, number, or_right, own_bytes, same_bytes}
+use Rattle.jc_clashes.proofs.Lists.{In, any_in, in_any, in_either, in_left, in_right}
 use Rattle.jc_clashes.proofs.Named.{IsNamed}
 use Rattle.jc_clashes.proofs.Reaching.{Found, reaches_named}
 use Rattle.jc_clashes.proofs.Spread.{erasure_in, of_erasure}
@@ -45,7 +47,7 @@ module _ (T : Table) (m : MethodId) where
 
       by : (b : Bool) → (j.0 == i) ≡ b → (i + 1 ≤ j.0 → share_erasure T m n (i + 1) ds ≡ true) → (shares n (record { 0 = i }) || share_erasure T m n (i + 1) ds) ≡ true
       by true f g =
-          let is : j.0 ≡ i = number j.0 i f in
+          let is : j.0 ≡ i = equal_numbers j.0 i f in
           ap (λ b. b || share_erasure T m n (i + 1) ds) (subst (λ k. shares n (record { 0 = k }) ≡ true) is e)
       by false f g = or_right (shares n (record { 0 = i })) (share_erasure T m n (i + 1) ds) (g (up f))
 
@@ -70,7 +72,7 @@ module _ (T : Table) (m n : MethodId) where
 
       by : (b : Bool) → (j.0 == i) ≡ b → (i + 1 ≤ j.0 → erasures_meet T m n (i + 1) ds ≡ true) → (meets_at (record { 0 = i }) || erasures_meet T m n (i + 1) ds) ≡ true
       by true f g =
-          let is : j.0 ≡ i = number j.0 i f in
+          let is : j.0 ≡ i = equal_numbers j.0 i f in
           ap (λ b. b || erasures_meet T m n (i + 1) ds) (subst (λ k. meets_at (record { 0 = k }) ≡ true) is e)
       by false f g = or_right (meets_at (record { 0 = i })) (erasures_meet T m n (i + 1) ds) (g (up f))
 
@@ -87,9 +89,9 @@ module _ (T : Table) (m n : MethodId) where
   pub meeting_of : (x : List ℕ) → method_name_of T m ≡ x → method_name_of T n ≡ x → erasures_meet T m n 0 T.methods ≡ true → Meeting x
   meeting_of x em en e =
       let one = meet_found 0 T.methods e in
-      let here = and_both (reaches T m one.id) (share_erasure T one.id n 0 T.methods) one.holds in
+      let here = and_parts (reaches T m one.id) (share_erasure T one.id n 0 T.methods) one.holds in
       let two = share_found T one.id n 0 T.methods here.1 in
-      let there = and_both (reaches T n two.id) (same_all (erased_params T one.id) (erased_params T two.id)) two.holds in
+      let there = and_parts (reaches T n two.id) (same_all (erased_params T one.id) (erased_params T two.id)) two.holds in
       let low : one.id.0 < 0 + length T.methods = one.within in
       let high : two.id.0 < 0 + length T.methods = two.within in
       record {
@@ -107,8 +109,8 @@ module _ (T : Table) (m n : MethodId) where
       let low : h.left.0 < length T.methods = h.left_named.within in
       let high : h.right.0 < length T.methods = h.right_named.within in
       let share : share_erasure T h.left n 0 T.methods ≡ true =
-      found_share T h.left n h.right 0 T.methods (omega arith) (omega arith) (and_true (reaches T n h.right) (same_all (erased_params T h.left) (erased_params T h.right)) h.right_below h.same) in
-      found_meet h.left 0 T.methods (omega arith) (omega arith) (and_true (reaches T m h.left) (share_erasure T h.left n 0 T.methods) h.left_below share)
+      found_share T h.left n h.right 0 T.methods (omega arith) (omega arith) (and_from (reaches T n h.right) (same_all (erased_params T h.left) (erased_params T h.right)) h.right_below h.same) in
+      found_meet h.left 0 T.methods (omega arith) (omega arith) (and_from (reaches T m h.left) (share_erasure T h.left n 0 T.methods) h.left_below share)
 
   abbrev share_in : List MethodId → Bool
   share_in all = share_some (erasures_within T all (length T.methods) m) (erasures_within T all (length T.methods) n)
@@ -186,8 +188,8 @@ fixed_name T x = all_fixed T (all_named T x)
 
 pub fixed_of : (T : Table) (m : MethodId) (ms : List MethodId) → all_fixed T ms ≡ true → In m ms → is_fixed T m ≡ true
 fixed_of T m [] e h = absurd h
-fixed_of T m (n ∷ ms) e (inl is) = ap (is_fixed T) is ∙ (and_both (is_fixed T n) (all_fixed T ms) e).0
-fixed_of T m (n ∷ ms) e (inr h) = fixed_of T m ms (and_both (is_fixed T n) (all_fixed T ms) e).1 h
+fixed_of T m (n ∷ ms) e (inl is) = ap (is_fixed T) is ∙ (and_parts (is_fixed T n) (all_fixed T ms) e).0
+fixed_of T m (n ∷ ms) e (inr h) = fixed_of T m ms (and_parts (is_fixed T n) (all_fixed T ms) e).1 h
 
 module _ (T : Table) where
   -- where one of n methods from number i on has a name, there is a first one
@@ -212,7 +214,7 @@ module _ (T : Table) where
   first_named x i (suc n) m named from to = by (has_name T x (record { 0 = i })) refl (λ low. first_named x (suc i) n m named low (omega arith))
     where
       led : (ids : List MethodId) → all_fixed T (record { 0 = i } ∷ ids) ≡ false → leads T (record { 0 = i }) (record { 0 = i } ∷ ids) ≡ true
-      led ids e = and_true (i == i) (not (all_fixed T (record { 0 = i } ∷ ids))) (is_self i) (ap not e)
+      led ids e = and_from (i == i) (not (all_fixed T (record { 0 = i } ∷ ids))) (self_equal i) (ap not e)
 
       next : has_name T x (record { 0 = i }) ≡ false → First x (suc i) n → First x i (suc n)
       next e rest =
@@ -248,7 +250,7 @@ module _ (T : Table) where
       up f = grind (arith, nat_tests)
 
       by : (b : Bool) → (m.0 == i) ≡ b → (suc i ≤ m.0 → In g (groups_from T (suc i) n)) → In g (groups_from T i (suc n))
-      by true f k = in_left g (group_at (record { 0 = i })) (groups_from T (suc i) n) (subst (λ j. In g (group_at (record { 0 = j }))) (number m.0 i f) h)
+      by true f k = in_left g (group_at (record { 0 = i })) (groups_from T (suc i) n) (subst (λ j. In g (group_at (record { 0 = j }))) (equal_numbers m.0 i f) h)
       by false f k = in_right g (group_at (record { 0 = i })) (groups_from T (suc i) n) (k (up f))
 
   of_groups : (i n : ℕ) (g : List Shape) → In g (groups_from T i n) → (x : List ℕ) × (g ≡ group_named T x)

@@ -1,5 +1,7 @@
 -- A marked class has none of the methods.
 use Rattle.std.proofs.Common.{◌≡◌, inl, inr, ℕ, zero, suc, ◌+◌, ◌-◌, ◌<◌, arith, Bool, true, false, not, ◌&&◌, ◌||◌, cond, Option, Some, None, List, [], ◌∷◌, ◌++◌, length, add-one, refl, sym, ap, subst, ◌∙◌}
+use Rattle.std.proofs.lemmas.Bool.{and_right, and_parts}
+use Rattle.jc_rules.proofs.Truths.{not_both, not_false}
 use Rattle.jc_rules.specs.declared.rule.Place.{Place}
 use Rattle.jc_rules.specs.declared.rule.Refusal.{Refusal}
 use Rattle.jc_types.specs.declared.form.Ty.{Ty}
@@ -20,7 +22,6 @@ use Rattle.jc_clashes.specs.declared.shapes.Shape.{Shape}
 use Rattle.jc_clashes.specs.Clashing.{belongs, beside_broken, group_broken, groups_broken, is_replaced, passed_over}
 use Rattle.jc_clashes.specs.Marks.{is_marked}
 use Rattle.jc_clashes.specs.Clear.{AreClear, all_apart, all_clear, class_clear, keeps_clear, none_clear, stays_from}
-use Rattle.jc_clashes.proofs.Lists.{and_both, and_false, not_both, not_false}
 
 -- ---- one class further
 
@@ -80,10 +81,10 @@ listed_clear (b ∷ bs) i x m = by b refl m (λ m. listed_clear bs (suc i) x m)
 
 keeps_at : (T : Table) (marks : List Bool) (i n j : ℕ) → stays_from T marks i n ≡ true → j < n → keeps_clear T marks (i + j) ≡ true
 keeps_at T marks i zero j e lt = absurd (omega arith)
-keeps_at T marks i (suc n) zero e lt = let is : i + 0 ≡ i = omega arith in ap (keeps_clear T marks) is ∙ (and_both (keeps_clear T marks i) (stays_from T marks (suc i) n) e).0
+keeps_at T marks i (suc n) zero e lt = let is : i + 0 ≡ i = omega arith in ap (keeps_clear T marks) is ∙ (and_parts (keeps_clear T marks i) (stays_from T marks (suc i) n) e).0
 keeps_at T marks i (suc n) (suc j) e lt =
     let is : i + suc j ≡ suc i + j = omega arith in
-    ap (keeps_clear T marks) is ∙ keeps_at T marks (suc i) n j (and_both (keeps_clear T marks i) (stays_from T marks (suc i) n) e).1 (omega arith)
+    ap (keeps_clear T marks) is ∙ keeps_at T marks (suc i) n j (and_parts (keeps_clear T marks i) (stays_from T marks (suc i) n) e).1 (omega arith)
 
 module _ (T : Table) (marks : List Bool) (gs : List (List Shape)) (clear : AreClear T marks gs) where
   abbrev cs : List ℕ
@@ -91,7 +92,7 @@ module _ (T : Table) (marks : List Bool) (gs : List (List Shape)) (clear : AreCl
 
   all_in : (ts : List Ty) → all_clear marks ts ≡ true → AllIn cs ts
   all_in [] e = tt
-  all_in (t ∷ ts) e = let both = and_both (class_clear marks (class_of t)) (all_clear marks ts) e in (by (class_of t) both.0, all_in ts both.1)
+  all_in (t ∷ ts) e = let both = and_parts (class_clear marks (class_of t)) (all_clear marks ts) e in (by (class_of t) both.0, all_in ts both.1)
     where
       by : (o : Option ClassId) → class_clear marks o ≡ true → ClassIn cs o
       by None e = cc
@@ -136,19 +137,19 @@ module _ (T : Table) (marks : List Bool) (gs : List (List Shape)) (clear : AreCl
         by (Some l) e = ap is_viewed (outside T k.0 l.0 cs closed (out l.0 e) (own_type T k) class_own)
 
     none_belongs : (m : MethodId) → is_marked marks (owner T m).0 ≡ false → belongs T k m ≡ false
-    none_belongs m e = and_false (is_method T m && (same_class k (owner T m) || is_inheritable T k m)) (has_method T (own_type T k) m) (none_there m e)
+    none_belongs m e = and_right (is_method T m && (same_class k (owner T m) || is_inheritable T k m)) (has_method T (own_type T k) m) (none_there m e)
 
     nothing_in : (place : Place) (all ss : List Shape) → none_clear T marks ss ≡ true → group_broken T k place all ss ≡ []
     nothing_in place all [] e = refl
     nothing_in place all (s ∷ ss) e =
-        let both = and_both (not (is_marked marks (owner T s.id).0)) (none_clear T marks ss) e in
+        let both = and_parts (not (is_marked marks (owner T s.id).0)) (none_clear T marks ss) e in
         let apart : belongs T k s.id ≡ false = none_belongs s.id (not_false (is_marked marks (owner T s.id).0) both.0) in
         ap (λ b. cond (b && not (is_replaced T k s)) (beside_broken T k place s (passed_over T k s) all) [] ++ group_broken T k place all ss) apart ∙ nothing_in place all ss both.1
 
     nothing_broken : (place : Place) (fs : List (List Shape)) → all_apart T marks fs ≡ true → groups_broken T k place fs ≡ []
     nothing_broken place [] e = refl
     nothing_broken place (g ∷ fs) e =
-        let both = and_both (none_clear T marks g) (all_apart T marks fs) e in
+        let both = and_parts (none_clear T marks g) (all_apart T marks fs) e in
         ap (λ bs. bs ++ groups_broken T k place fs) (nothing_in place g g both.0) ∙ nothing_broken place fs both.1
 
 pub clear_told : (T : Table) (marks : List Bool) (gs : List (List Shape)) (k : ClassId) (place : Place) (found : Option Refusal) → AreClear T marks gs → is_marked marks k.0 ≡ true

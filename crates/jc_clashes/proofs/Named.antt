@@ -2,12 +2,13 @@
 use Rattle.std.proofs.Common.{◌≡◌, ◌⊎◌, inl, inr, ℕ, zero, suc, ◌+◌, ◌==◌, ◌<◌, ◌≤◌, arith, Bool, true, false, cond, List, [], ◌∷◌, length, refl, sym, ap, subst, ◌∙◌}
 use Rattle.std.proofs.lemmas.Bool.Decides.{nat_tests}
 use Rattle.std.specs.Str.{bytes_eq}
+use Rattle.jc_rules.proofs.Truths.{same_bytes, own_bytes, equal_numbers}
 use Rattle.jc_types.specs.declared.ids.MethodId.{MethodId}
 use Rattle.jc_types.specs.declared.table.Table.{Table}
 use Rattle.jc_types.specs.Accessors.{method_name_of}
 use Rattle.jc_overriding.specs.Overriding.{has_name}
 use Rattle.jc_members.specs.Named.{all_named, if_named, named_from}
-use Rattle.jc_clashes.proofs.Lists.{In, in_either, in_left, in_right, number, own_bytes, same_bytes}
+use Rattle.jc_clashes.proofs.Lists.{In, in_either, in_left, in_right}
 
 -- a method of the table that has the name
 pub record IsNamed (T : Table) (x : List ℕ) (m : MethodId) : Type 0 where
@@ -27,7 +28,7 @@ module _ (T : Table) (x : List ℕ) where
     where
       by : (b : Bool) → (m.0 == i) ≡ b → (suc i ≤ m.0 → In m (named_from T x (suc i) n)) → In m (named_from T x i (suc n))
       by true f h =
-          let is : m.0 ≡ i = number m.0 i f in
+          let is : m.0 ≡ i = equal_numbers m.0 i f in
           let here : has_name T x (record { 0 = i }) ≡ true = subst (λ j. has_name T x (record { 0 = j }) ≡ true) is e in
           in_left m (if_named T x i) (named_from T x (suc i) n) (subst (λ b. In m (cond b (record { 0 = i } ∷ []) [])) (sym here) (inl (ap (λ j. record { 0 = j }) is)))
       by false f h = in_right m (if_named T x i) (named_from T x (suc i) n) (h (further i m f from))

@@ -2,6 +2,8 @@
 use Rattle.std.proofs.Common.{◌≡◌, ◌⊎◌, inl, inr, ℕ, zero, suc, ◌+◌, ◌==◌, ◌<◌, ◌≤◌, arith, Bool, true, false, ◌&&◌, ◌||◌, List, [], ◌∷◌, length, refl, ap, subst, ◌∙◌}
 use Rattle.std.proofs.lemmas.Bool.Decides.{nat_tests}
 use Rattle.std.specs.Str.{bytes_eq}
+use Rattle.std.proofs.lemmas.Bool.{or_right, and_from, and_right, and_parts, or_cases}
+use Rattle.jc_rules.proofs.Truths.{same_bytes, not_both, self_equal, equal_numbers}
 use Rattle.jc_types.specs.declared.declarations.MethodDecl.{MethodDecl}
 use Rattle.jc_types.specs.declared.ids.MethodId.{MethodId}
 use Rattle.jc_types.specs.declared.table.Table.{Table}
@@ -12,7 +14,6 @@ use Rattle.jc_header_rules.specs.Clashes.{is_replaced_by_some, reaches, reaches_
 use Rattle.jc_members.specs.Below.{replaces}
 use Rattle.jc_members.proofs.Replacing.{hides_told, overrides_told, own_below}
 use Rattle.jc_members.proofs.Standing.{unnamed}
-use Rattle.jc_clashes.proofs.Lists.{and_both, and_false, and_true, is_self, not_both, number, or_right, same_bytes}
 
 -- ---- directly
 
@@ -24,13 +25,13 @@ module _ (T : Table) (m n : MethodId) where
   not_signed e = ap (λ b. b || hides T m n) over ∙ hidden
     where
       below : own_below T m n ≡ false
-      below = and_false (is_above T (owner T m) (owner T n) && is_inheritable T (owner T m) n) signed e
+      below = and_right (is_above T (owner T m) (owner T n) && is_inheritable T (owner T m) n) signed e
 
       over : overrides T m n ≡ false
-      over = overrides_told T m n ∙ and_false (is_instance T m && is_instance T n) (own_below T m n) below
+      over = overrides_told T m n ∙ and_right (is_instance T m && is_instance T n) (own_below T m n) below
 
       hidden : hides T m n ≡ false
-      hidden = hides_told T m n ∙ and_false (is_method T m && is_method T n && is_static T m && is_static T n) (own_below T m n) below
+      hidden = hides_told T m n ∙ and_right (is_method T m && is_method T n && is_static T m && is_static T n) (own_below T m n) below
 
   pub replaces_signed : replaces T m n ≡ true → signed ≡ true
   replaces_signed e = by signed refl
@@ -75,17 +76,13 @@ module _ (T : Table) (holds : MethodId → Bool) (p : MethodId) where
 
       by : (b : Bool) → (q.0 == i) ≡ b → (i + 1 ≤ q.0 → is_replaced_by_some T holds p (i + 1) ds ≡ true) → (steps_to (record { 0 = i }) || is_replaced_by_some T holds p (i + 1) ds) ≡ true
       by true f g =
-          let is : q.0 ≡ i = number q.0 i f in
+          let is : q.0 ≡ i = equal_numbers q.0 i f in
           ap (λ b. b || is_replaced_by_some T holds p (i + 1) ds) (subst (λ k. steps_to (record { 0 = k }) ≡ true) is e)
       by false f g = or_right (steps_to (record { 0 = i })) (is_replaced_by_some T holds p (i + 1) ds) (g (up f))
 
 -- the numbers of methods are the methods
 same_method : (m n : MethodId) → (m.0 == n.0) ≡ true → m ≡ n
-same_method m n e = ap (λ j. record { 0 = j }) (number m.0 n.0 e)
-
-either : (a b : Bool) → (a || b) ≡ true → (a ≡ true) ⊎ (b ≡ true)
-either true b e = inl refl
-either false b e = inr e
+same_method m n e = ap (λ j. record { 0 = j }) (equal_numbers m.0 n.0 e)
 
 module _ (T : Table) (m : MethodId) where
   abbrev some_step : ℕ → MethodId → Bool
@@ -93,19 +90,19 @@ module _ (T : Table) (m : MethodId) where
 
   pub here : (n : ℕ) → reaches_within T n m m ≡ true
   unfolding reaches_within
-  here zero = is_self m.0
-  here (suc n) = ap (λ b. b || some_step n m) (is_self m.0)
+  here zero = self_equal m.0
+  here (suc n) = ap (λ b. b || some_step n m) (self_equal m.0)
 
   pub step : (n : ℕ) (q p : MethodId) → q.0 < length T.methods → reaches_within T n m q ≡ true → replaces T q p ≡ true → reaches_within T (suc n) m p ≡ true
   unfolding reaches_within
   step n q p within e r =
       or_right (m.0 == p.0) (some_step n p)
-      (found_some T (reaches_within T n m) p q 0 T.methods (omega arith) (omega arith) (and_true (reaches_within T n m q) (replaces T q p) e r))
+      (found_some T (reaches_within T n m) p q 0 T.methods (omega arith) (omega arith) (and_from (reaches_within T n m q) (replaces T q p) e r))
 
   -- the last step of a way to p
   pub last : (n : ℕ) (p : MethodId) → reaches_within T (suc n) m p ≡ true → (m ≡ p) ⊎ Found (length T.methods) (λ q. reaches_within T n m q && replaces T q p)
   unfolding reaches_within
-  last n p e = by (either (m.0 == p.0) (some_step n p) e)
+  last n p e = by (or_cases (m.0 == p.0) (some_step n p) e)
     where
       by : ((m.0 == p.0) ≡ true) ⊎ (some_step n p ≡ true) → (m ≡ p) ⊎ Found (length T.methods) (λ q. reaches_within T n m q && replaces T q p)
       by (inl f) = inl (same_method m p f)
@@ -125,7 +122,7 @@ module _ (T : Table) (m : MethodId) where
       by : (m ≡ p) ⊎ Found (length T.methods) (λ q. reaches_within T n m q && replaces T q p) → ((q : MethodId) → reaches_within T n m q ≡ true → reaches_within T (suc n) m q ≡ true) → reaches_within T (suc (suc n)) m p ≡ true
       by (inl is) h = subst (λ q. reaches_within T (suc (suc n)) m q ≡ true) is (here (suc (suc n)))
       by (inr q) h =
-          let both = and_both (reaches_within T n m q.id) (replaces T q.id p) q.holds in
+          let both = and_parts (reaches_within T n m q.id) (replaces T q.id p) q.holds in
           step (suc n) q.id p q.within (h q.id both.0) both.1
 
   -- what holds of m, and goes from each method to those that it replaces
@@ -137,7 +134,7 @@ module _ (T : Table) (m : MethodId) where
         by : (m ≡ p) ⊎ Found (length T.methods) (λ q. reaches_within T n m q && replaces T q p) → ((q : MethodId) → reaches_within T n m q ≡ true → P q) → P p
         by (inl is) h = subst P is first
         by (inr q) h =
-            let both = and_both (reaches_within T n m q.id) (replaces T q.id p) q.holds in
+            let both = and_parts (reaches_within T n m q.id) (replaces T q.id p) q.holds in
             next q.id p q.within (h q.id both.0) both.1
 
     pub reached_told : (p : MethodId) → reaches T m p ≡ true → P p

@@ -2,6 +2,8 @@
 use Rattle.std.proofs.Common.{◌≡◌, ℕ, zero, suc, ◌+◌, ◌-◌, ◌==◌, ◌<◌, arith, Bool, true, false, cond, List, [], ◌∷◌, ◌++◌, map, length, drop, get_or, add-one, drop-cons, refl, sym, ap, ◌∙◌}
 use Rattle.std.specs.Prelude.{slice_get}
 use Rattle.std.specs.List.{list_any}
+use Rattle.std.proofs.lemmas.Bool.{and_parts}
+use Rattle.jc_rules.proofs.Truths.{equal_numbers}
 use Rattle.jc_types.specs.declared.form.Ty.{Ty}
 use Rattle.jc_types.specs.declared.ids.MethodId.{MethodId}
 use Rattle.jc_types.specs.declared.table.Table.{Table}
@@ -12,7 +14,6 @@ use Rattle.jc_clashes.specs.Erasures.{joined, with_one}
 use Rattle.jc_clashes.specs.Marks.{is_marked}
 use Rattle.jc_clashes.specs.Shapes.{above_at, above_in, row_in, set_in, shape_of, shapes_of}
 use Rattle.jc_clashes.specs.Spreading.{are_as_many, below_in, belows_of, erasures_within, gathered, spread, widened}
-use Rattle.jc_clashes.proofs.Lists.{and_both, number}
 
 -- ---- where nothing is added
 
@@ -58,14 +59,14 @@ nothing_more [] (x ∷ xs) e = absurd (omega arith)
 nothing_more (x ∷ es) more e = ap (λ l. x ∷ l) (nothing_more es more (omega arith))
 
 same_grown : (es fs : List (List Ty)) → Grown es fs → (length es == length fs) ≡ true → fs ≡ es
-same_grown es fs g e = g.is ∙ nothing_more es g.more (number (length es) (length fs) e ∙ ap length g.is)
+same_grown es fs g e = g.is ∙ nothing_more es g.more (equal_numbers (length es) (length fs) e ∙ ap length g.is)
 
 as_many : (belows : List (List Bool)) (all sets : List (List (List Ty))) → are_as_many sets (widened belows all sets) ≡ true → widened belows all sets ≡ sets
 as_many [] all [] e = refl
 as_many [] all (set ∷ sets) e = cc
 as_many (below ∷ belows) all [] e = refl
 as_many (below ∷ belows) all (set ∷ sets) e =
-    let both = and_both (length set == length (gathered below all set)) (are_as_many sets (widened belows all sets)) e in
+    let both = and_parts (length set == length (gathered below all set)) (are_as_many sets (widened belows all sets)) e in
     ap (λ s. s ∷ widened belows all sets) (same_grown set (gathered below all set) (gathered_grown below all set) both.0) ∙ ap (λ ss. set ∷ ss) (as_many belows all sets both.1)
 
 ended : (belows : List (List Bool)) (n : ℕ) (sets : List (List (List Ty))) → widened belows sets sets ≡ sets → spread belows n sets ≡ sets

@@ -1,6 +1,7 @@
 -- The erasures that are spread are those of the methods that are reached.
 use Rattle.std.proofs.Common.{◌≡◌, ◌⊎◌, inl, inr, ℕ, zero, suc, ◌<◌, Bool, true, false, ◌&&◌, cond, List, [], ◌∷◌, ◌++◌, map, length, refl, sym, ap, subst, ◌∙◌}
 use Rattle.std.specs.List.{list_any}
+use Rattle.std.proofs.lemmas.Bool.{and_parts}
 use Rattle.jc_types.specs.declared.form.Ty.{Ty}
 use Rattle.jc_types.specs.declared.ids.MethodId.{MethodId}
 use Rattle.jc_types.specs.declared.table.Table.{Table}
@@ -10,7 +11,7 @@ use Rattle.jc_members.specs.Below.{replaces}
 use Rattle.jc_members.specs.Named.{all_named}
 use Rattle.jc_clashes.specs.Erasures.{joined, with_one}
 use Rattle.jc_clashes.specs.Spreading.{erasures_within, gathered}
-use Rattle.jc_clashes.proofs.Lists.{In, all_same, and_both, in_any, in_left, in_right}
+use Rattle.jc_clashes.proofs.Lists.{In, all_same, in_any, in_left, in_right}
 use Rattle.jc_clashes.proofs.Named.{IsNamed, in_named, named_in}
 use Rattle.jc_clashes.proofs.Reaching.{Found, first_told, further, here, last, replaces_named, step}
 
@@ -125,7 +126,7 @@ module _ (T : Table) where
       by : (m ≡ p) ⊎ Found (length T.methods) (λ q. reaches_within T 0 m q && replaces T q p) → (m ≡ p) ⊎ Next 0 m p
       by (inl is) = inl is
       by (inr q) =
-          let both = and_both (reaches_within T 0 m q.id) (replaces T q.id p) q.holds in
+          let both = and_parts (reaches_within T 0 m q.id) (replaces T q.id p) q.holds in
           inr (record { id = p; within = within; first = subst (λ n. replaces T n p ≡ true) (sym (first_told T m q.id both.0)) both.1; rest = here T p 0 })
   first_step (suc k) m p within e = by (last T m (suc k) p e) (λ q w e. first_step k m q w e)
     where
@@ -136,7 +137,7 @@ module _ (T : Table) where
       by : (m ≡ p) ⊎ Found (length T.methods) (λ q. reaches_within T (suc k) m q && replaces T q p)
           → ((q : MethodId) → q.0 < length T.methods → reaches_within T (suc k) m q ≡ true → (m ≡ q) ⊎ Next k m q) → (m ≡ p) ⊎ Next (suc k) m p
       by (inl is) ih = inl is
-      by (inr q) ih = let both = and_both (reaches_within T (suc k) m q.id) (replaces T q.id p) q.holds in inr (onward q.id q.within both.1 (ih q.id q.within both.0))
+      by (inr q) ih = let both = and_parts (reaches_within T (suc k) m q.id) (replaces T q.id p) q.holds in inr (onward q.id q.within both.1 (ih q.id q.within both.0))
 
   step_before : (k : ℕ) (m q p : MethodId) → m.0 < length T.methods → replaces T m q ≡ true → reaches_within T k q p ≡ true → reaches_within T (suc k) m p ≡ true
   step_before zero m q p within r e = step T m 0 m p within (here T m 0) (subst (λ n. replaces T m n ≡ true) (first_told T q p e) r)
@@ -145,7 +146,7 @@ module _ (T : Table) where
       by : (q ≡ p) ⊎ Found (length T.methods) (λ n. reaches_within T k q n && replaces T n p) → ((n : MethodId) → reaches_within T k q n ≡ true → reaches_within T (suc k) m n ≡ true)
           → reaches_within T (suc (suc k)) m p ≡ true
       by (inl is) ih = step T m (suc k) m p within (here T m (suc k)) (subst (λ n. replaces T m n ≡ true) is r)
-      by (inr n) ih = let both = and_both (reaches_within T k q n.id) (replaces T n.id p) n.holds in step T m (suc k) n.id p n.within (ih n.id both.0) both.1
+      by (inr n) ih = let both = and_parts (reaches_within T k q n.id) (replaces T n.id p) n.holds in step T m (suc k) n.id p n.within (ih n.id both.0) both.1
 
 -- ---- the erasures of a name's methods
 

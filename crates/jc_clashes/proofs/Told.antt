@@ -2,6 +2,8 @@
 use Rattle.std.proofs.Common.{◌≡◌, ◌⊎◌, inl, inr, ℕ, suc, ◌+◌, ◌==◌, ◌<◌, ◌≤◌, arith, Bool, true, false, not, ◌&&◌, ◌||◌, cond, Option, Some, None, List, [], ◌∷◌, ◌++◌, map, length, refl, sym, ap, subst, ◌∙◌}
 use Rattle.std.proofs.lemmas.Bool.Decides.{nat_tests}
 use Rattle.std.specs.Str.{bytes_eq}
+use Rattle.std.proofs.lemmas.Bool.{or_right, and_from, and_right, and_parts}
+use Rattle.jc_rules.proofs.Truths.{same_bytes, own_bytes, not_both, not_false, as_true, self_equal, equal_numbers}
 use Rattle.jc_rules.specs.declared.rule.Place.{Place}
 use Rattle.jc_rules.specs.declared.rule.Refusal.{Refusal}
 use Rattle.jc_types.specs.declared.declarations.ClassDecl.{ClassDecl}
@@ -36,7 +38,7 @@ use Rattle.jc_clashes.specs.Marks.{behind_first, first_mark}
 use Rattle.jc_clashes.specs.Shapes.{above_in, groups, shape_of, shapes_of}
 use Rattle.jc_clashes.specs.Spreading.{below_in, erasures_within}
 use Rattle.jc_clashes.specs.Stage.{IsFirstClash, all_clashes}
-use Rattle.jc_clashes.proofs.Lists.{In, all_same, and_both, and_false, and_true, any_in, as_true, in_any, in_either, in_left, in_right, is_false, is_self, not_both, not_false, number, or_right, own_bytes, same_bytes}
+use Rattle.jc_clashes.proofs.Lists.{In, all_same, any_in, in_any, in_either, in_left, in_right, is_false}
 use Rattle.jc_clashes.proofs.Fixed.{same_erasure, same_fixed}
 use Rattle.jc_clashes.proofs.Alike.{Meeting, above_told, fixed_name, fixed_of, group_in, group_named, group_told, in_above, meet_told, meeting_of, of_shape, shape_in}
 use Rattle.jc_clashes.proofs.Named.{IsNamed, in_named, named_in}
@@ -120,7 +122,7 @@ module _ (T : Table) (k : ClassId) where
 
       by : (b : Bool) → (v.id.0 == i) ≡ b → (suc i ≤ v.id.0 → In v (candidates_from T (λ _. true) (own_type T k) (suc i) ds)) → In v (candidates_from T (λ _. true) (own_type T k) i (d ∷ ds))
       by true g h =
-          let is : v.id.0 ≡ i = number v.id.0 i g in
+          let is : v.id.0 ≡ i = equal_numbers v.id.0 i g in
           let same : v.id ≡ record { 0 = i } = ap (λ j. record { 0 = j }) is in
           in_left v (with_view T (λ _. true) (own_type T k) (record { 0 = i }) (class_view T k (record { 0 = i }))) (candidates_from T (λ _. true) (own_type T k) (suc i) ds)
           (in_with (record { 0 = i }) (class_view T k (record { 0 = i })) v (sym (ap (class_view T k) same) ∙ e) (sym (ap (is_candidate T (own_type T k)) same) ∙ f))
@@ -165,7 +167,7 @@ module _ (T : Table) (k : ClassId) where
       by (Some u) f e = (viewed_by T m (is_static T m) (seeing_of T u), ap (viewed_in T m) f)
 
   has_belongs : (v : MethodView) → Has v → belongs T k v.id ≡ true
-  has_belongs v h = belongs_told v.id ∙ and_true (is_candidate T (own_type T k) v.id) (has_method T (own_type T k) v.id) h.candidate (viewed v.id v h.view)
+  has_belongs v h = belongs_told v.id ∙ and_from (is_candidate T (own_type T k) v.id) (has_method T (own_type T k) v.id) h.candidate (viewed v.id v h.view)
 
   -- .. as the class has it
   pub record View (m : MethodId) : Type 0 where
@@ -175,7 +177,7 @@ module _ (T : Table) (k : ClassId) where
 
   pub belongs_has : (m : MethodId) → m.0 < length T.methods → belongs T k m ≡ true → View m
   belongs_has m within e =
-      let both = and_both (is_candidate T (own_type T k) m) (has_method T (own_type T k) m) (sym (belongs_told m) ∙ e) in
+      let both = and_parts (is_candidate T (own_type T k) m) (has_method T (own_type T k) m) (sym (belongs_told m) ∙ e) in
       let seen = view_some m both.1 in
       let same : seen.0.id ≡ m = id_of_view T (own_type T k) m seen.0 seen.1 in
       record {
@@ -228,10 +230,10 @@ module _ (T : Table) (k : ClassId) where
       let other = not (subsignature T v w) in
       let unsettled = not (is_settled T k kept v w) in
       let meet = erasures_meet T v.id w.id 0 T.methods in
-      let four = and_both (not (v.id.0 == w.id.0) && named && other && unsettled) meet e in
-      let three = and_both (not (v.id.0 == w.id.0) && named && other) unsettled four.0 in
-      let two = and_both (not (v.id.0 == w.id.0) && named) other three.0 in
-      let one = and_both (not (v.id.0 == w.id.0)) named two.0 in
+      let four = and_parts (not (v.id.0 == w.id.0) && named && other && unsettled) meet e in
+      let three = and_parts (not (v.id.0 == w.id.0) && named && other) unsettled four.0 in
+      let two = and_parts (not (v.id.0 == w.id.0) && named) other three.0 in
+      let one = and_parts (not (v.id.0 == w.id.0)) named two.0 in
       (one.1, two.1, four.1)
 
   -- ---- of one name
@@ -276,13 +278,13 @@ module _ (T : Table) (k : ClassId) where
             let found = in_any (λ (u : MethodView). u.id.0 == w.id.0) kept f in
             let u = found.0 in
             let inside = in_without every every u found.1 in
-            let same : u.id ≡ w.id = ap (λ j. record { 0 = j }) (number u.id.0 w.id.0 found.2) in
+            let same : u.id ≡ w.id = ap (λ j. record { 0 = j }) (equal_numbers u.id.0 w.id.0 found.2) in
             ap not (ap (λ i. is_replaced T k (shape i)) (sym same) ∙ sym (replaced_there u (has_of u inside.0) (ap (method_name_of T) same ∙ e)) ∙ inside.1)
 
         back : not (is_replaced T k (shape w.id)) ≡ true → is_among w.id kept ≡ true
         back f =
             any_in (λ (u : MethodView). u.id.0 == w.id.0) w kept
-            (without_in every every w (of_has w h) (replaced_there w h e ∙ not_false (is_replaced T k (shape w.id)) f)) (is_self w.id.0)
+            (without_in every every w (of_has w h) (replaced_there w h e ∙ not_false (is_replaced T k (shape w.id)) f)) (self_equal w.id.0)
 
     -- a clash by its ids
     clash_told : (v w : MethodView) → Has v → Has w → method_name_of T v.id ≡ x → method_name_of T w.id ≡ x → clash_at T k (shape v.id) (shape w.id) ≡ clashes T k kept v w
@@ -314,17 +316,17 @@ module _ (T : Table) (k : ClassId) where
     beyond m n e =
         let views = views_clash T k (shape n) (class_view T k m) (class_view T k n) in
         let first = not (m.0 == n.0) && share_some (erasures_within T all (length T.methods) m) (erasures_within T all (length T.methods) n) in
-        (and_both first (belongs T k n) (and_both (first && belongs T k n) views e).0).1
+        (and_parts first (belongs T k n) (and_parts (first && belongs T k n) views e).0).1
 
     -- what a method overrides or hides doesn't clash with it in its own class
     overridden_clear : (m n : MethodId) → same_class (owner T m) k ≡ true → replaces T m n ≡ true → clash_at T k (shape m) (shape n) ≡ false
     unfolding clash_at
     overridden_clear m n e r =
-        and_false (not (m.0 == n.0) && share_some (erasures_within T all (length T.methods) m) (erasures_within T all (length T.methods) n) && belongs T k n)
+        and_right (not (m.0 == n.0) && share_some (erasures_within T all (length T.methods) m) (erasures_within T all (length T.methods) n) && belongs T k n)
         (views_clash T k (shape n) (class_view T k m) (class_view T k n)) (by (class_view T k m) (class_view T k n) signed)
       where
         is : owner T m ≡ k
-        is = ap (λ j. record { 0 = j }) (number (owner T m).0 k.0 e)
+        is = ap (λ j. record { 0 = j }) (equal_numbers (owner T m).0 k.0 e)
 
         signed : subsignature_of T (class_view T k m) (class_view T k n) ≡ true
         signed = subst (λ c. subsignature_of T (class_view T c m) (class_view T c n) ≡ true) is (replaces_signed T m n r)
@@ -527,7 +529,7 @@ module _ (T : Table) (k : ClassId) where
         by_ids x m n hm hn e found =
             let group = group_named T x in
             let ids = all_named T x in
-            let member = and_both (belongs T k m) (not (is_replaced T k (shape_of T ids m))) e in
+            let member = and_parts (belongs T k m) (not (is_replaced T k (shape_of T ids m))) e in
             let v = belongs_has m hm.within member.0 in
             let w = belongs_has n hn.within (beyond x m n (broken_true b (clash_at T k (shape_of T ids m) (shape_of T ids n)) 801 (clash_place T k place m n) found)) in
             let ev : method_name_of T v.view.id ≡ x = ap (method_name_of T) v.is ∙ hm.name in
@@ -573,7 +575,7 @@ module _ (T : Table) (k : ClassId) where
         let ids = all_named T x in
         let group = group_named T x in
         let member : is_member T k (shape_of T ids v.id) ≡ true =
-        and_true (belongs T k v.id) (not (is_replaced T k (shape_of T ids v.id))) (has_belongs v hv) (ap not (sym (replaced_there x v hv refl) ∙ inside.1)) in
+        and_from (belongs T k v.id) (not (is_replaced T k (shape_of T ids v.id))) (has_belongs v hv) (ap not (sym (replaced_there x v hv refl) ∙ inside.1)) in
         let found : IsOf b (broken_if (clash_at T k (shape_of T ids v.id) (shape_of T ids w.id)) 801 (clash_place T k place v.id w.id)) =
         subst (λ c. IsOf b (broken_if c 801 (clash_place T k place v.id w.id))) (sym (clash_told x v w hv hw refl ew)) h.broken in
         of_groups group (groups T) (group_in T x v.id (named x v hv refl) hard)

@@ -1,5 +1,5 @@
 //! Classes that have no method of certain names, nor any class above them: nothing is asked of these.
-ghost use Rattle.std.specs.Prelude.{◌≡◌, ◌||◌, ℕ, true, IfOk, length, not};
+ghost use Rattle.std.specs.Prelude.{◌≡◌, ◌||◌, ℕ, true, IfOk, length};
 ghost use Rattle.jc_clashes.specs.Clear.{AreClear, all_apart, all_clear, class_clear, keeps_clear, none_clear, stays_from};
 ghost use Rattle.jc_judge.specs.Kinds.{class_of};
 

@@ -3,7 +3,7 @@ ghost use Rattle.std.specs.Prelude.{◌≡◌, [], IfOk, OnOk};
 ghost use Rattle.jc_types.specs.Accessors.{method_place_of};
 ghost use Rattle.jc_types.specs.Breaks.{least};
 ghost use Rattle.jc_header_rules.specs.Clashes.{place_or};
-ghost use Rattle.jc_header_rules.specs.Places.{broken_if, of_each};
+ghost use Rattle.jc_header_rules.specs.Places.{broken_if};
 ghost use Rattle.jc_clashes.specs.Constructors.{constructors_breaks, constructors_from, is_constructor, is_constructor_kind, is_repeated, with_erasure};
 
 use crate::erasures::{erased_params, is_one};

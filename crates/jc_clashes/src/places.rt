@@ -1,6 +1,5 @@
 //! Where a clash stands: at a method that the class declares, the later one of two, and else at the class.
 ghost use Rattle.std.specs.Prelude.{◌≡◌};
-ghost use Rattle.std.specs.Option.{option_copied};
 ghost use Rattle.jc_types.specs.Accessors.{method_place_of};
 ghost use Rattle.jc_header_rules.specs.Clashes.{clash_place, place_or};
 

@@ -1,5 +1,5 @@
 //! Code, with its instructions and its table of exceptions (JVMS 4.7.3).
-ghost use Rattle.std.specs.Prelude.{◌≡◌, ◌<◌, ◌^◌, IfOk, length, codes};
+ghost use Rattle.std.specs.Prelude.{◌≡◌, ◌<◌, ◌^◌, IfOk, length};
 ghost use Rattle.std.specs.Str.{bytes_eq};
 ghost use Rattle.jc_class_out.specs.Code.{attribute_at, attribute_ends, no_more_at, code_on, marks_of, body_at, handler_at, frames_of_at, code_attributes_at, code_at};
 ghost use Rattle.jc_class_in.specs.Gives.{Gives};

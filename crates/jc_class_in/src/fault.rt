@@ -1,5 +1,5 @@
 //! Why bytes are no class file.
-ghost use Rattle.std.specs.Prelude.{◌≡◌, ◌-◌, ◌^◌, min};
+ghost use Rattle.std.specs.Prelude.{◌≡◌, ◌-◌, ◌^◌};
 ghost use Rattle.jc_class_in.specs.Faults.{place_in, fault_in};
 
 use jc_class_out::Flaw;

@@ -1,6 +1,6 @@
 //! Instructions with their operands (JVMS 6.5).
 ghost use Rattle.std.specs.Prelude.{◌≡◌};
-ghost use Rattle.jc_class_out.specs.Instructions.{operand_at, wide_operand_at, wide_at, narrow_at, ins_at, kind_of};
+ghost use Rattle.jc_class_out.specs.Instructions.{operand_at, wide_operand_at, wide_at, narrow_at, ins_at};
 ghost use Rattle.jc_class_in.specs.Gives.{Gives};
 
 use crate::numbers::{Read, u1, u2};

@@ -1,5 +1,5 @@
 //! Interfaces, fields and methods (JVMS 4.5, 4.6).
-ghost use Rattle.std.specs.Prelude.{◌≡◌, codes};
+ghost use Rattle.std.specs.Prelude.{◌≡◌};
 ghost use Rattle.jc_class_out.specs.Pool.{class_named_at};
 ghost use Rattle.jc_class_out.specs.Format.{field_at, code_attribute_at, with_code_at, without_code_at, method_at, inner_at, inners_at, class_attributes_at, members_at};
 ghost use Rattle.jc_class_in.specs.Gives.{Gives};
@@ -11,9 +11,9 @@ use crate::many::{Part, counted_row};
 use crate::names::{class_name, class_or_none, name, name_or_none, type_of_field, type_of_method};
 use crate::numbers::{Read, u2, want};
 use jc_class_out::{
-    ClassModel, CodeModel, FieldModel, Flaw, InnerModel, Item, MethodModel, Slot, without_body,
+    ClassModel, CodeModel, FieldModel, InnerModel, Item, MethodModel, Slot, without_body,
 };
-use jc_rules::{Items, Stop};
+use jc_rules::Items;
 use std::alloc::Global;
 
 /// An interface of the class.

@@ -1,5 +1,5 @@
 //! What the operands of instructions name in the pool.
-ghost use Rattle.std.specs.Prelude.{◌≡◌, ◌+◌, ◌^◌, ◌<◌, not, ◌==◌, MatchOption, option_map};
+ghost use Rattle.std.specs.Prelude.{◌≡◌, ◌+◌, ◌^◌, ◌<◌, ◌==◌};
 ghost use Rattle.jc_class_out.specs.declared.format.Flaw.TheVariants.{Index};
 ghost use Rattle.jc_class_out.specs.Descriptors.{parameter_units, or_zero};
 ghost use Rattle.jc_class_out.specs.Pool.{known_of};

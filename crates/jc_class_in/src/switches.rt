@@ -1,11 +1,11 @@
 //! The operands of `lookupswitch` (JVMS 6.5).
 ghost use Rattle.std.specs.Prelude.{◌≡◌, ◌+◌, ◌^◌, ◌<◌, None};
-ghost use Rattle.jc_class_out.specs.Instructions.{padding, wide_target, zeros_at, is_above, case_at, cases_at, switch_op};
+ghost use Rattle.jc_class_out.specs.Instructions.{wide_target, zeros_at, case_at, cases_at, switch_op};
 ghost use Rattle.jc_class_in.specs.Gives.{Gives};
 
 use crate::numbers::{Read, u1, u4, want};
-use jc_class_out::{Flaw, Operand, SwitchCase, above, gap};
-use jc_rules::{Items, Stop};
+use jc_class_out::{Operand, SwitchCase, above, gap};
+use jc_rules::Items;
 use std::alloc::Global;
 
 /// So many zeros.

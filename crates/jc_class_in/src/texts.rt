@@ -1,7 +1,6 @@
 //! Modified UTF-8 (JVMS 4.4.7).
-ghost use Rattle.std.specs.Prelude.{◌≡◌, ◌≤◌, ◌<◌, MatchOption, None, Some, Ok, length};
-ghost use Rattle.std.specs.Int.{w16};
-ghost use Rattle.jc_class_out.specs.Texts.{is_more, two, three, unit_at, units_on, text_of_bytes};
+ghost use Rattle.std.specs.Prelude.{◌≡◌, ◌≤◌, ◌<◌, MatchOption, None, Some, Ok};
+ghost use Rattle.jc_class_out.specs.Texts.{is_more, two, three, unit_at, text_of_bytes};
 ghost use Rattle.jc_class_out.specs.Reading.{or_flaw};
 ghost use Rattle.jc_class_out.specs.Pool.{text_at};
 ghost use Rattle.jc_class_in.specs.Gives.{Gives};

@@ -3,6 +3,7 @@ use Rattle.std.proofs.Common.{◌≡◌, ◌<◌, ◌≤◌, ◌^◌, ℕ, zero,
 use Rattle.std.specs.Prelude.{◌&&◌, ◌||◌, nat_lt}
 use Rattle.std.specs.List.{list_all}
 use Rattle.std.proofs.lemmas.List.{length-append, append-nil, take_at}
+use Rattle.jc_rules.proofs.Truths.{or_none, and_assoc, and_all, or_assoc}
 use Rattle.jc_class_out.specs.declared.model.ClassModel.{ClassModel}
 use Rattle.jc_class_out.specs.Pool.{Known}
 use Rattle.jc_class_out.specs.Spelling.{Told, same_known, has, add, adds, uses}
@@ -13,16 +14,8 @@ use Rattle.jc_class_out.proofs.FileAgain.{adds_append}
 
 -- ---- checking and plain counting
 
-and_assoc : (a b c : Bool) → ((a && b) && c) ≡ (a && (b && c))
-and_assoc true b c = refl
-and_assoc false b c = refl
-
-and_none : (a : Bool) → (a && true) ≡ a
-and_none true = refl
-and_none false = refl
-
 pub told_checks : {S : Type 0} (view : S → Bool) (s t : S) (us : List Known) → Told (λ (x : S) (k : Known) (y : S). view y ≡ (view x && known_fits k)) s us t → view t ≡ (view s && list_all known_fits us)
-told_checks view s t [] h = ap view (sym h) ∙ sym (and_none (view s))
+told_checks view s t [] h = ap view (sym h) ∙ sym (and_all (view s))
 told_checks view s t (u ∷ us) h = told_checks view h.0 t us h.2 ∙ ap (λ (b : Bool). b && list_all known_fits us) h.1 ∙ and_assoc (view s) (known_fits u) (list_all known_fits us)
 
 pub told_counts : {S : Type 0} (view : S → ℕ) (s t : S) (us : List Known) → view s ≤ 65535 → Told (λ (x : S) (k : Known) (y : S). view y ≡ min (view x + 1) 65535) s us t → view t ≡ min (view s + length us) 65535
@@ -33,14 +26,6 @@ told_counts view s t (u ∷ us) le h =
     omega (arith, e, ih, le)
 
 -- ---- looking among the first
-
-or_assoc : (a b c : Bool) → ((a || b) || c) ≡ (a || (b || c))
-or_assoc true b c = refl
-or_assoc false b c = refl
-
-or_none : (a : Bool) → (a || false) ≡ a
-or_none true = refl
-or_none false = refl
 
 -- one more of which the first is this
 has_take : (us : List Known) (u wanted : Known) (left : ℕ) → has (take left (u ∷ us)) wanted ≡ ((nat_lt 0 left && same_known wanted u) || has (take (left - 1) us) wanted)

@@ -4,7 +4,7 @@ use Rattle.std.specs.Prelude.{◌&&◌, codes}
 use Rattle.std.specs.Int.{w16, w32, to_be_bytes}
 use Rattle.std.specs.List.{flat_map, list_all}
 use Rattle.std.specs.Str.{bytes_eq}
-use Rattle.std.proofs.lemmas.Bool.{ltb-true, eq-eqb}
+use Rattle.std.proofs.lemmas.Bool.{ltb-true, eq-eqb, and_parts}
 use Rattle.std.proofs.lemmas.List.{length-append}
 use Rattle.std.proofs.lemmas.Slice.Eq.{bytes_eq-Decides}
 use Rattle.jc_class_out.specs.declared.format.Slot.{Slot}
@@ -16,7 +16,7 @@ use Rattle.jc_class_out.specs.Pool.{Known, KnownText}
 use Rattle.jc_class_out.specs.Code.{attribute_at, attribute_ends, no_more_at, marks_of, size_from, handler_at, frames_of_at, code_attributes_at, code_at}
 use Rattle.jc_class_out.specs.Spelling.{has, ins_uses, ins_first_uses, class_or_none_uses, name_or_none_uses, handler_uses, frames_uses, table_uses, code_uses, counted, spell_handler, spell_class_or_none, spell_attribute, spell_table, spell_body, spell_code_attributes, spell_code_model}
 use Rattle.jc_class_out.specs.Fitting.{is_u16, is_count, handler_fits, frames_fit, frames_within, frames_room, all_fit, ins_lands, ins_all_fit, tables_fit, code_fits}
-use Rattle.jc_class_out.proofs.Numbers.{both_true, u2_again, u4_again, whole_u4, EachAgain, listed_again}
+use Rattle.jc_class_out.proofs.Numbers.{u2_again, u4_again, whole_u4, EachAgain, listed_again}
 use Rattle.jc_class_out.proofs.Served.{Serves, named_again, HasClass, HasName}
 use Rattle.jc_class_out.proofs.InsAgain.{Have, Low}
 use Rattle.jc_class_out.proofs.FramesAgain.{table_again, length_frames}
@@ -77,7 +77,7 @@ has_name ks (Some t) u = u.0
 each_handler : (slots : List Slot) (ks : List Known) → Serves ks slots → (marks : List Bool) → length marks < 65536 → (hs : List Handler) → list_all (handler_fits marks) hs ≡ true → Have ks (flat_map handler_uses hs) → EachAgain (handler_at slots marks) (spell_handler ks) hs
 each_handler slots ks s marks lt [] f u = tt
 each_handler slots ks s marks lt (h ∷ hs) f u =
-    let p = both_true (handler_fits marks h) (list_all (handler_fits marks) hs) f in
+    let p = and_parts (handler_fits marks h) (list_all (handler_fits marks) hs) f in
     let v = have_append ks (handler_uses h) (flat_map handler_uses hs) u in
     (λ rest. handler_again slots ks s marks h rest lt p.0 (has_class ks h.class v.0), each_handler slots ks s marks lt hs p.1 v.1)
 
@@ -100,17 +100,17 @@ pub record CodeModelAgain (slots : List Slot) (ks : List Known) (entry : List It
 pub code_model_again : (slots : List Slot) (ks : List Known) → Serves ks slots → (entry : List Item) (c : CodeModel) → code_fits entry c ≡ true → Have ks (code_uses entry c) → Low ks (flat_map ins_first_uses c.ins) → CodeModelAgain slots ks entry c
 unfolding code_at spell_code_model code_fits tables_fit code_uses ins_all_fit counted
 code_model_again slots ks s entry c h u l =
-    let a = both_true (is_u16 c.stack) (is_u16 c.locals && (ins_all_fit c.ins && tables_fit (marks_of c.ins) entry c)) h in
-    let b = both_true (is_u16 c.locals) (ins_all_fit c.ins && tables_fit (marks_of c.ins) entry c) a.1 in
-    let d = both_true (ins_all_fit c.ins) (tables_fit (marks_of c.ins) entry c) b.1 in
-    let t1 = both_true (is_count c.handlers) (list_all (handler_fits (marks_of c.ins)) c.handlers && (is_count c.frames && (frames_fit (marks_of c.ins) None entry c.frames && frames_within (frames_room c) None entry c.frames))) d.1 in
-    let t2 = both_true (list_all (handler_fits (marks_of c.ins)) c.handlers) (is_count c.frames && (frames_fit (marks_of c.ins) None entry c.frames && frames_within (frames_room c) None entry c.frames)) t1.1 in
-    let t3 = both_true (is_count c.frames) (frames_fit (marks_of c.ins) None entry c.frames && frames_within (frames_room c) None entry c.frames) t2.1 in
-    let t4 = both_true (frames_fit (marks_of c.ins) None entry c.frames) (frames_within (frames_room c) None entry c.frames) t3.1 in
+    let a = and_parts (is_u16 c.stack) (is_u16 c.locals && (ins_all_fit c.ins && tables_fit (marks_of c.ins) entry c)) h in
+    let b = and_parts (is_u16 c.locals) (ins_all_fit c.ins && tables_fit (marks_of c.ins) entry c) a.1 in
+    let d = and_parts (ins_all_fit c.ins) (tables_fit (marks_of c.ins) entry c) b.1 in
+    let t1 = and_parts (is_count c.handlers) (list_all (handler_fits (marks_of c.ins)) c.handlers && (is_count c.frames && (frames_fit (marks_of c.ins) None entry c.frames && frames_within (frames_room c) None entry c.frames))) d.1 in
+    let t2 = and_parts (list_all (handler_fits (marks_of c.ins)) c.handlers) (is_count c.frames && (frames_fit (marks_of c.ins) None entry c.frames && frames_within (frames_room c) None entry c.frames)) t1.1 in
+    let t3 = and_parts (is_count c.frames) (frames_fit (marks_of c.ins) None entry c.frames && frames_within (frames_room c) None entry c.frames) t2.1 in
+    let t4 = and_parts (frames_fit (marks_of c.ins) None entry c.frames) (frames_within (frames_room c) None entry c.frames) t3.1 in
     let v = have_append ks (flat_map ins_uses c.ins) (flat_map handler_uses c.handlers ++ table_uses entry c.frames) u in
     let x = have_append ks (flat_map handler_uses c.handlers) (table_uses entry c.frames) v.1 in
-    let i1 = both_true (ltb 0 (size_from 0 c.ins)) (ltb (size_from 0 c.ins) 65536 && (all_fit 0 c.ins && list_all (ins_lands (marks_of c.ins)) c.ins)) d.0 in
-    let i2 = both_true (ltb (size_from 0 c.ins) 65536) (all_fit 0 c.ins && list_all (ins_lands (marks_of c.ins)) c.ins) i1.1 in
+    let i1 = and_parts (ltb 0 (size_from 0 c.ins)) (ltb (size_from 0 c.ins) 65536 && (all_fit 0 c.ins && list_all (ins_lands (marks_of c.ins)) c.ins)) d.0 in
+    let i2 = and_parts (ltb (size_from 0 c.ins) 65536) (all_fit 0 c.ins && list_all (ins_lands (marks_of c.ins)) c.ins) i1.1 in
     let small = ltb-true (size_from 0 c.ins) 65536 i2.0 in
     let few = ltb-true (length c.handlers) 65536 t1.0 in
     let marks-short : length (marks_of c.ins) < 65536 = omega (arith, length_marks 0 c.ins, small) in

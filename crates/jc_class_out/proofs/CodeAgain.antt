@@ -4,8 +4,9 @@ use lib.Dec.{leb}
 use Rattle.std.specs.Prelude.{◌&&◌, nat_lt}
 use Rattle.std.specs.Int.{w16, to_be_bytes}
 use Rattle.std.specs.List.{flat_map, list_all, AllByRecursion}
-use Rattle.std.proofs.lemmas.Bool.{ltb-true, eqb-true, eq-eqb, ne_eqb, lt-ltb, le-leb, lt-leb, or_cases, cases_lt}
+use Rattle.std.proofs.lemmas.Bool.{ltb-true, eqb-true, eq-eqb, ne_eqb, lt-ltb, le-leb, lt-leb, or_cases, cases_lt, and_parts}
 use Rattle.std.proofs.lemmas.List.{length-append, length-replicate, get_or_past}
+use Rattle.jc_rules.proofs.Truths.{not_both}
 use Rattle.jc_class_out.specs.declared.format.Slot.{Slot}
 use Rattle.jc_class_out.specs.declared.model.Handler.{Handler}
 use Rattle.jc_class_out.specs.declared.model.Ins.{Ins}
@@ -18,7 +19,7 @@ use Rattle.jc_class_out.specs.Frames.{begins}
 use Rattle.jc_class_out.specs.Code.{code_on, marks_from, marks_of, size_from, cases_land, lands, all_land, body_at, ends, handler_at}
 use Rattle.jc_class_out.specs.Spelling.{ins_uses, ins_first_uses, spell_ins, spell_code, spell_body, spell_handler, spell_class_or_none}
 use Rattle.jc_class_out.specs.Fitting.{ins_fits, all_fit, case_lands, operand_lands, ins_lands, handler_fits, ins_all_fit}
-use Rattle.jc_class_out.proofs.Numbers.{both_true, u2_again, u4_again, whole_u2, whole_u4}
+use Rattle.jc_class_out.proofs.Numbers.{u2_again, u4_again, whole_u2, whole_u4}
 use Rattle.jc_class_out.proofs.Served.{Serves, HasClass, class_or_none_again}
 use Rattle.jc_class_out.proofs.InsAgain.{Have, Low, Reaches, InsAgain, ins_again}
 
@@ -52,11 +53,8 @@ length_marks at (i ∷ is) =
 begins_past : (marks : List Bool) (to : ℕ) → length marks ≤ to → begins marks to ≡ false
 begins_past marks to le = get_or_past marks to false le
 
-clash : (b : Bool) → b ≡ true → b ≡ false → ⊥
-clash b h f = absurd cc
-
 begins_below_by : (marks : List Bool) (to : ℕ) → begins marks to ≡ true → (length marks ≤ to → ⊥)
-begins_below_by marks to h le = clash (begins marks to) h (begins_past marks to le)
+begins_below_by marks to h le = not_both (begins marks to) h (begins_past marks to le)
 
 -- an instruction begins inside the code
 pub begins_below : (marks : List Bool) (to : ℕ) → begins marks to ≡ true → to < length marks
@@ -108,7 +106,7 @@ pub code_again : (slots : List Slot) (ks : List Known) → Serves ks slots → (
 unfolding spell_code size_from all_fit
 code_again slots ks s at [] lt h u l r = record { size = refl; again = λ start len n tail a b c. code_done slots start len n tail (omega (arith, a, b)) }
 code_again slots ks s at (i ∷ is) lt h u l r =
-    let f = both_true (ins_fits at i) (all_fit (at + ins_size at i) is) h in
+    let f = and_parts (ins_fits at i) (all_fit (at + ins_size at i) is) h in
     let v = have_append ks (ins_uses i) (flat_map ins_uses is) u in
     let w = low_append ks (ins_first_uses i) (flat_map ins_first_uses is) l in
     let place = at % 2 ^ 32 in
@@ -126,13 +124,13 @@ cases_land_again : (marks : List Bool) (left : ℕ) (cs : List SwitchCase) → l
 unfolding cases_land
 cases_land_again marks left [] h = refl
 cases_land_again marks left (c ∷ cs) h =
-    let p = both_true (case_lands marks c) (list_all (case_lands marks) cs) h in
+    let p = and_parts (case_lands marks c) (list_all (case_lands marks) cs) h in
     rw p.0 (cases_land_again marks (left - 8) cs p.1)
 
 lands_again : (marks : List Bool) (left at : ℕ) (o : Operand) → operand_lands marks o ≡ true → lands marks left at o ≡ Ok 0
 lands_again marks left at (op.Jump to) h = rw h refl
 lands_again marks left at (op.Switch otherwise cases) h =
-    let p = both_true (begins marks otherwise) (list_all (case_lands marks) cases) h in
+    let p = and_parts (begins marks otherwise) (list_all (case_lands marks) cases) h in
     rw p.0 (cases_land_again marks (left - 9 - padding at) cases p.1)
 lands_again marks left at _ h = refl
 
@@ -140,20 +138,20 @@ pub all_land_again : (marks : List Bool) (left at : ℕ) (is : List Ins) → lis
 unfolding all_land
 all_land_again marks left at [] h = refl
 all_land_again marks left at (i ∷ is) h =
-    let p = both_true (ins_lands marks i) (list_all (ins_lands marks) is) h in
+    let p = and_parts (ins_lands marks i) (list_all (ins_lands marks) is) h in
     rw (lands_again marks left at i.operand p.0) (all_land_again marks (left - ins_size at i) (at + ins_size at i) is p.1)
 
 -- what lands is within four bytes
 cases_reach : (marks : List Bool) (cs : List SwitchCase) → length marks < 2 ^ 32 → list_all (case_lands marks) cs ≡ true → list_all (λ (c : SwitchCase). ltb c.at (2 ^ 32)) cs ≡ true
 cases_reach marks [] lt h = refl
 cases_reach marks (c ∷ cs) lt h =
-    let p = both_true (case_lands marks c) (list_all (case_lands marks) cs) h in
+    let p = and_parts (case_lands marks c) (list_all (case_lands marks) cs) h in
     let b = begins_below marks c.at p.0 in
     rw (lt-ltb c.at (2 ^ 32) (omega (arith, b, lt))) (cases_reach marks cs lt p.1)
 
 operand_reaches : (marks : List Bool) (o : Operand) → length marks < 2 ^ 32 → operand_lands marks o ≡ true → Reaches o
 operand_reaches marks (op.Switch otherwise cases) lt h =
-    let p = both_true (begins marks otherwise) (list_all (case_lands marks) cases) h in
+    let p = and_parts (begins marks otherwise) (list_all (case_lands marks) cases) h in
     let b = begins_below marks otherwise p.0 in
     (omega (arith, b, lt), cases_reach marks cases lt p.1)
 operand_reaches marks _ lt h = tt
@@ -161,7 +159,7 @@ operand_reaches marks _ lt h = tt
 pub all_reach : (marks : List Bool) (is : List Ins) → length marks < 2 ^ 32 → list_all (ins_lands marks) is ≡ true → AllByRecursion (λ (i : Ins). Reaches i.operand) is
 all_reach marks [] lt h = tt
 all_reach marks (i ∷ is) lt h =
-    let p = both_true (ins_lands marks i) (list_all (ins_lands marks) is) h in
+    let p = and_parts (ins_lands marks i) (list_all (ins_lands marks) is) h in
     (operand_reaches marks i.operand lt p.0, all_reach marks is lt p.1)
 
 -- no more instructions than bytes
@@ -177,9 +175,9 @@ pub record BodyAgain (slots : List Slot) (ks : List Known) (is : List Ins) : Typ
 pub body_again : (slots : List Slot) (ks : List Known) → Serves ks slots → (is : List Ins) → ins_all_fit is ≡ true → Have ks (flat_map ins_uses is) → Low ks (flat_map ins_first_uses is) → BodyAgain slots ks is
 unfolding ins_all_fit body_at spell_body
 body_again slots ks s is h u l =
-    let a = both_true (ltb 0 (size_from 0 is)) (ltb (size_from 0 is) 65536 && (all_fit 0 is && list_all (ins_lands (marks_of is)) is)) h in
-    let b = both_true (ltb (size_from 0 is) 65536) (all_fit 0 is && list_all (ins_lands (marks_of is)) is) a.1 in
-    let c = both_true (all_fit 0 is) (list_all (ins_lands (marks_of is)) is) b.1 in
+    let a = and_parts (ltb 0 (size_from 0 is)) (ltb (size_from 0 is) 65536 && (all_fit 0 is && list_all (ins_lands (marks_of is)) is)) h in
+    let b = and_parts (ltb (size_from 0 is) 65536) (all_fit 0 is && list_all (ins_lands (marks_of is)) is) a.1 in
+    let c = and_parts (all_fit 0 is) (list_all (ins_lands (marks_of is)) is) b.1 in
     let some = ltb-true 0 (size_from 0 is) a.0 in
     let few = ltb-true (size_from 0 is) 65536 b.0 in
     let short : length (marks_of is) < 2 ^ 32 = omega (arith, length_marks 0 is, few) in
@@ -204,9 +202,9 @@ pub handler_again : (slots : List Slot) (ks : List Known) → Serves ks slots �
     → handler_at slots marks (spell_handler ks h ++ rest) ≡ Ok (h, rest)
 unfolding handler_at spell_handler handler_fits
 handler_again slots ks s marks h rest lt f u =
-    let a = both_true (begins marks h.from) (ends marks h.to && (nat_lt h.from h.to && begins marks h.at)) f in
-    let b = both_true (ends marks h.to) (nat_lt h.from h.to && begins marks h.at) a.1 in
-    let c = both_true (nat_lt h.from h.to) (begins marks h.at) b.1 in
+    let a = and_parts (begins marks h.from) (ends marks h.to && (nat_lt h.from h.to && begins marks h.at)) f in
+    let b = and_parts (ends marks h.to) (nat_lt h.from h.to && begins marks h.at) a.1 in
+    let c = and_parts (nat_lt h.from h.to) (begins marks h.at) b.1 in
     let l1 = begins_below marks h.from a.0 in
     let l2 : h.to ≤ length marks = ends_within marks h.to b.0 in
     let l3 = begins_below marks h.at c.1 in

@@ -4,7 +4,7 @@ use Rattle.std.specs.Prelude.{◌&&◌, not, nat_lt, nat_le}
 use Rattle.std.specs.Int.{w16, w32}
 use Rattle.std.specs.List.{flat_map, list_all, AllByRecursion}
 use Rattle.std.specs.Str.{bytes_eq}
-use Rattle.std.proofs.lemmas.Bool.{leb-true, leb-false, eqb-true, eqb-false, lt-ltb, not-true}
+use Rattle.std.proofs.lemmas.Bool.{leb-true, leb-false, eqb-true, eqb-false, lt-ltb, not-true, and_parts}
 use Rattle.std.proofs.lemmas.Slice.Eq.{bytes_eq-Decides}
 use Rattle.jc_class_out.specs.declared.format.Flaw.TheVariants as flaw
 use Rattle.jc_class_out.specs.declared.format.Slot.{Slot}
@@ -20,7 +20,6 @@ use Rattle.jc_class_out.specs.Frames.{begins}
 use Rattle.jc_class_out.specs.Code.{attribute_at, attribute_ends, no_more_at, code_on, marks_of, size_from, cases_land, lands, all_land, body_at, ends, handler_at}
 use Rattle.jc_class_out.specs.Spelling.{class_or_none_uses, ins_uses, ins_first_uses, handler_uses}
 use Rattle.jc_class_out.specs.Fitting.{all_fit, case_lands, operand_lands, ins_lands, ins_all_fit, handler_fits}
-use Rattle.jc_class_out.proofs.Numbers.{both_true}
 use Rattle.jc_class_out.proofs.Good.{Good, good_ok, good_err, good_bind, good_more, good_if, good_wants, good_any, Ranged, Got, Numbered, Reads, Each, u2_good, u4_good}
 use Rattle.jc_class_out.proofs.PoolGood.{PoolOk}
 use Rattle.jc_class_out.proofs.Stands.{StandsBelow, Stands, Stand}
@@ -108,7 +107,7 @@ pub record BodyOk (pool : List Slot) (is : List Ins) (n : ℕ) : Type 0 where
 body_ok : (pool : List Slot) (is : List Ins) (told size : ℕ) → CodeOk pool 0 is size → told ≡ size → ((not (eqb told 0) && nat_le told 65535) ≡ true) → list_all (ins_lands (marks_of is)) is ≡ true → BodyOk pool is (4 + size)
 unfolding ins_all_fit
 body_ok pool is told size code e h g =
-    let p = both_true (not (eqb told 0)) (nat_le told 65535) h in
+    let p = and_parts (not (eqb told 0)) (nat_le told 65535) h in
     let ne = eqb-false told 0 (not-true (eqb told 0) p.0) in
     let le = leb-true told 65535 p.1 in
     record {
@@ -129,8 +128,8 @@ body_good pool ok bytes r =
     (λ is pis. good_bind (λ (k : ℕ). (not (eqb n.0 0) && nat_le n.0 65535 && eqb (length n.1 - length is.1) n.0) ≡ true) Q (wants (not (eqb n.0 0) && nat_le n.0 65535 && eqb (length n.1 - length is.1) n.0) (length bytes)) _
     (good_wants (not (eqb n.0 0) && nat_le n.0 65535 && eqb (length n.1 - length is.1) n.0) (length bytes))
     (λ k h.
-    let p = both_true (not (eqb n.0 0) && nat_le n.0 65535) (eqb (length n.1 - length is.1) n.0) h in
-    let small = leb-true n.0 65535 (both_true (not (eqb n.0 0)) (nat_le n.0 65535) p.0).1 in
+    let p = and_parts (not (eqb n.0 0) && nat_le n.0 65535) (eqb (length n.1 - length is.1) n.0) h in
+    let small = leb-true n.0 65535 (and_parts (not (eqb n.0 0)) (nat_le n.0 65535) p.0).1 in
     let code = pis small in
     let met = eqb-true (length n.1 - length is.1) n.0 p.1 in
     let start : length n.1 - length n.1 ≡ 0 = omega arith in
@@ -151,7 +150,7 @@ pub record HandlerOk (pool : List Slot) (marks : List Bool) (h : Handler) (n : �
 
 handler_fit : (marks : List Bool) (from to at : ℕ) (class : Option (List ℕ)) → begins marks from ≡ true → (ends marks to && nat_lt from to) ≡ true → begins marks at ≡ true → handler_fits marks (record { from = from; to = to; at = at; class = class }) ≡ true
 unfolding handler_fits
-handler_fit marks from to at class h g i = let p = both_true (ends marks to) (nat_lt from to) g in rw (h, p.0, p.1, i) refl
+handler_fit marks from to at class h g i = let p = and_parts (ends marks to) (nat_lt from to) g in rw (h, p.0, p.1, i) refl
 
 pub handler_good : (pool : List Slot) (marks : List Bool) → Reads (HandlerOk pool marks) (handler_at pool marks)
 unfolding handler_at

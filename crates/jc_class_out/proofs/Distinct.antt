@@ -3,19 +3,12 @@ use Rattle.std.proofs.Common.{◌≡◌, ◌<◌, ◌≤◌, ℕ, suc, Bool, tru
 use lib.Dec.{eqb}
 use Rattle.std.specs.Prelude.{◌||◌}
 use Rattle.std.specs.List.{IsDistinct, list_any, AllByRecursion}
-use Rattle.std.proofs.lemmas.Bool.{eqb-true, or_cases}
+use Rattle.std.proofs.lemmas.Bool.{eqb-true, or_cases, true≢false, or_parts}
 use Rattle.std.proofs.lemmas.Map.Steps.{length-le_from_distinct_below}
 use Rattle.jc_class_out.specs.Pool.{Known}
 use Rattle.jc_class_out.specs.Spelling.{same_known, has, add, adds}
 use Rattle.jc_class_out.specs.Fitting.{places}
 use Rattle.jc_class_out.proofs.Known.{same_true, same_refl, has_append, has_pool, has_first, has_later}
-
-true_false : true ≡ false → ⊥
-true_false h = absurd cc
-
-or_false : (a b : Bool) → (a || b) ≡ false → (a ≡ false) × (b ≡ false)
-or_false true b h = absurd cc
-or_false false b h = (refl, h)
 
 -- each constant stands once
 unfoldable Once : List Known → Type 0
@@ -23,7 +16,7 @@ Once [] = Unit {0}
 Once (k ∷ ks) = (has ks k ≡ false) × Once ks
 
 no_self : (x k : Known) → k ≡ x → same_known x k ≡ false → ⊥
-no_self x k e h = true_false (sym (same_refl x) ∙ subst (λ (y : Known). same_known x y ≡ false) e h)
+no_self x k e h = true≢false (sym (same_refl x) ∙ subst (λ (y : Known). same_known x y ≡ false) e h)
 
 not_same_by : (x k : Known) (b : Bool) → same_known k x ≡ b → same_known x k ≡ false → b ≡ false
 not_same_by x k false e h = refl
@@ -36,7 +29,7 @@ once_push : (p : List Known) (k : Known) → Once p → has p k ≡ false → On
 unfolding Once has
 once_push [] k o h = (refl, o)
 once_push (x ∷ p) k o h =
-    let n = or_false (same_known k x) (has p k) h in
+    let n = or_parts (same_known k x) (has p k) h in
     (has_append p (k ∷ []) x ∙ rw (o.0, not_same x k n.0) refl, once_push p k o.1 n.1)
 
 once_add : (p : List Known) (k : Known) (b : Bool) → has p k ≡ b → Once p → Once (cond b p (p ++ k ∷ []))
@@ -61,7 +54,7 @@ Reached f n k = (i : ℕ) × (i < n) × (f i ≡ Some k)
 
 none_of : (a : ℕ) (ys : List ℕ) → list_any (eqb a) ys ≡ false → AllByRecursion (λ (y : ℕ). eqb a y ≡ false) ys
 none_of a [] h = tt
-none_of a (y ∷ ys) h = let p = or_false (eqb a y) (list_any (eqb a) ys) h in (p.0, none_of a ys p.1)
+none_of a (y ∷ ys) h = let p = or_parts (eqb a y) (list_any (eqb a) ys) h in (p.0, none_of a ys p.1)
 
 some_is : (x y : Known) (o : Option Known) → o ≡ Some x → o ≡ Some y → x ≡ y
 some_is x y None h g = absurd cc
@@ -72,11 +65,11 @@ not_there f n ks w k i false h g e = refl
 not_there f n ks w k i true h g e =
     let p = w.from i e in
     let same : p.0 ≡ k = some_is p.0 k (f i) p.1 g in
-    absurd (true_false (sym (subst (λ (x : Known). has ks x ≡ true) same p.2) ∙ h))
+    absurd (true≢false (sym (subst (λ (x : Known). has ks x ≡ true) same p.2) ∙ h))
 
 found : (f : ℕ → Option Known) (n : ℕ) (ks : List Known) → Once ks → ((k : Known) → has ks k ≡ true → Reached f n k) → Found f n ks
 unfolding Once IsDistinct
-found f n [] o r = record { at = []; len = refl; below = λ q h. absurd (true_false (sym h)); from = λ q h. absurd (true_false (sym h)); distinct = tt }
+found f n [] o r = record { at = []; len = refl; below = λ q h. absurd (true≢false (sym h)); from = λ q h. absurd (true≢false (sym h)); distinct = tt }
 found f n (k ∷ ks) o r =
     let ih = found f n ks o.1 (λ x h. r x (has_later k x ks h)) in
     let here = r k (has_first k ks) in

@@ -5,15 +5,16 @@ use Rattle.std.specs.Prelude.{◌&&◌, ◌||◌, not}
 use Rattle.std.specs.Int.{w16, to_be_bytes}
 use Rattle.std.specs.List.{list_all, prefix_len, AllByRecursion}
 use Rattle.std.specs.Ordering.{int_eq}
-use Rattle.std.proofs.lemmas.Bool.{leb-true, lt-ltb}
+use Rattle.std.proofs.lemmas.Bool.{leb-true, lt-ltb, and_parts, true≢false}
 use Rattle.std.proofs.lemmas.List.{length-append, append-nil}
+use Rattle.jc_rules.proofs.Truths.{or_none}
 use Rattle.jc_class_out.specs.declared.format.Slot.{Slot}
 use Rattle.jc_class_out.specs.declared.model.ClassModel.{ClassModel}
 use Rattle.jc_class_out.specs.Pool.{Known, KnownText, KnownWhole, KnownLong, KnownBehind, KnownClass, KnownLiteral, KnownField, KnownMethod, KnownInterface, KnownPair, pool_at}
 use Rattle.jc_class_out.specs.Format.{major, head_at, members_at, read}
 use Rattle.jc_class_out.specs.Spelling.{same_known, has, add, adds, number, members_uses, loads_of, uses, spell_pool, spell_head, spell_members, pool_for, file_of}
 use Rattle.jc_class_out.specs.Fitting.{known_fits, places, members_fit, pool_fits, fits_of}
-use Rattle.jc_class_out.proofs.Numbers.{both_true, u2_again, u4_again}
+use Rattle.jc_class_out.proofs.Numbers.{u2_again, u4_again}
 use Rattle.jc_class_out.proofs.Known.{has_append, has_right, has_first, has_later, has_add, has_pool, same_true}
 use Rattle.jc_class_out.proofs.Served.{Parts, is_behind_known}
 use Rattle.jc_class_out.proofs.InsAgain.{Have, Low}
@@ -25,7 +26,7 @@ use Rattle.jc_class_out.proofs.MembersAgain.{members_again}
 
 all_append : (f : Known → Bool) (ks us : List Known) → list_all f ks ≡ true → list_all f us ≡ true → list_all f (ks ++ us) ≡ true
 all_append f [] us h g = g
-all_append f (k ∷ ks) us h g = let p = both_true (f k) (list_all f ks) h in rw p.0 (all_append f ks us p.1 g)
+all_append f (k ∷ ks) us h g = let p = and_parts (f k) (list_all f ks) h in rw p.0 (all_append f ks us p.1 g)
 
 all_add : (f : Known → Bool) (ks : List Known) (k : Known) (b : Bool) → list_all f ks ≡ true → f k ≡ true → list_all f (cond b ks (ks ++ k ∷ [])) ≡ true
 all_add f ks k true h g = h
@@ -34,7 +35,7 @@ all_add f ks k false h g = all_append f ks (k ∷ []) h (rw g refl)
 pub all_adds : (f : Known → Bool) (ks us : List Known) → list_all f ks ≡ true → list_all f us ≡ true → list_all f (adds ks us) ≡ true
 unfolding adds
 all_adds f ks [] h g = h
-all_adds f ks (u ∷ us) h g = let p = both_true (f u) (list_all f us) g in all_adds f (add ks u) us (all_add f ks u (has ks u) h p.0) p.1
+all_adds f ks (u ∷ us) h g = let p = and_parts (f u) (list_all f us) g in all_adds f (add ks u) us (all_add f ks u (has ks u) h p.0) p.1
 
 -- ---- longs in the pool
 
@@ -74,16 +75,9 @@ orderly_other ks k o b l = record {
   twins = λ n. rw (has_add ks k (KnownLong n), has_add ks k (KnownBehind n), other_long k n l, other_behind k n b, o.twins n) refl;
 }
 
-or_none : (a : Bool) → (a || false) ≡ a
-or_none true = refl
-or_none false = refl
-
 none_there : (n : ℤ) → has (KnownLong n ∷ []) (KnownBehind n) ≡ false
 unfolding has
 none_there n = refl
-
-true_false : true ≡ false → ⊥
-true_false h = absurd cc
 
 spaced_two : (ks : List Known) (n : ℤ) (b : Bool) → Spaced false ks → Twins ks → has ks (KnownLong n) ≡ b → Spaced false (add (cond b ks (ks ++ KnownLong n ∷ [])) (KnownBehind n))
 spaced_two ks n true s t h =
@@ -116,7 +110,7 @@ orderly_adds ks (KnownLong n ∷ k ∷ us) o p =
     orderly_adds (add (add ks (KnownLong n)) k) us two next
 orderly_adds ks (KnownText t ∷ us) o p = orderly_adds (add ks (KnownText t)) us (orderly_other ks (KnownText t) o refl refl) p.1
 orderly_adds ks (KnownWhole t ∷ us) o p = orderly_adds (add ks (KnownWhole t)) us (orderly_other ks (KnownWhole t) o refl refl) p.1
-orderly_adds ks (KnownBehind t ∷ us) o p = absurd (true_false p.0)
+orderly_adds ks (KnownBehind t ∷ us) o p = absurd (true≢false p.0)
 orderly_adds ks (KnownClass t ∷ us) o p = orderly_adds (add ks (KnownClass t)) us (orderly_other ks (KnownClass t) o refl refl) p.1
 orderly_adds ks (KnownLiteral t ∷ us) o p = orderly_adds (add ks (KnownLiteral t)) us (orderly_other ks (KnownLiteral t) o refl refl) p.1
 orderly_adds ks (KnownField c n d ∷ us) o p = orderly_adds (add ks (KnownField c n d)) us (orderly_other ks (KnownField c n d) o refl refl) p.1
@@ -226,9 +220,9 @@ head_again ks slots rest h =
 pub file_again : (c : ClassModel) → fits_of c ≡ true → read (file_of c) ≡ Ok c
 unfolding read file_of fits_of pool_fits
 file_again c h =
-    let f = both_true (members_fit c) (list_all known_fits (uses c) && (leb (places (loads_of c)) 255 && leb (places (uses c)) 65534)) h in
-    let g = both_true (list_all known_fits (uses c)) (leb (places (loads_of c)) 255 && leb (places (uses c)) 65534) f.1 in
-    let n = both_true (leb (places (loads_of c)) 255) (leb (places (uses c)) 65534) g.1 in
+    let f = and_parts (members_fit c) (list_all known_fits (uses c) && (leb (places (loads_of c)) 255 && leb (places (uses c)) 65534)) h in
+    let g = and_parts (list_all known_fits (uses c)) (leb (places (loads_of c)) 255 && leb (places (uses c)) 65534) f.1 in
+    let n = and_parts (leb (places (loads_of c)) 255) (leb (places (uses c)) 65534) g.1 in
     let few = leb-true (places (loads_of c)) 255 n.0 in
     let short = leb-true (places (uses c)) 65534 n.1 in
     let ks = pool_for c in

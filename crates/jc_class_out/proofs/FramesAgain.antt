@@ -4,7 +4,7 @@ use lib.Dec.{leb}
 use Rattle.std.specs.Prelude.{◌&&◌}
 use Rattle.std.specs.Int.{w16, to_be_bytes}
 use Rattle.std.specs.List.{flat_map, list_all}
-use Rattle.std.proofs.lemmas.Bool.{ltb-true, leb-true, lt-ltb, le-ltb, le-leb}
+use Rattle.std.proofs.lemmas.Bool.{ltb-true, leb-true, lt-ltb, le-ltb, le-leb, and_parts}
 use Rattle.std.proofs.lemmas.List.{length-append, append-nil}
 use Rattle.jc_class_out.specs.declared.forms.Form.{Form}
 use Rattle.jc_class_out.specs.declared.forms.Form.TheVariants as form
@@ -18,7 +18,7 @@ use Rattle.jc_class_out.specs.Frames.{begins, offset_item_at, item_by, item_at, 
 use Rattle.jc_class_out.specs.Forms.{form_of, last_of, written_locals, written_stack, delta_of}
 use Rattle.jc_class_out.specs.Spelling.{item_uses, form_uses, frames_uses, counted, spell_item, spell_near, spell_form, spell_frame, spell_frames, spell_table}
 use Rattle.jc_class_out.specs.Fitting.{is_count, item_fits, is_behind, items_fit, form_fits, frame_fits, frames_fit, item_length, items_length, form_length, frame_length, frames_within}
-use Rattle.jc_class_out.proofs.Numbers.{both_true, u2_again, whole_u2, EachAgain, many_again, listed_again}
+use Rattle.jc_class_out.proofs.Numbers.{u2_again, whole_u2, EachAgain, many_again, listed_again}
 use Rattle.jc_class_out.proofs.Served.{Serves, class_again}
 use Rattle.jc_class_out.proofs.Shortest.{FormIs, form_is}
 use Rattle.jc_class_out.proofs.InsAgain.{Have}
@@ -41,14 +41,14 @@ item_again slots ks s marks lt (item.Uninitialized at) rest f u =
 each_item : (slots : List Slot) (ks : List Known) → Serves ks slots → (marks : List Bool) → length marks < 65536 → (is : List Item) → list_all (item_fits marks) is ≡ true → Have ks (flat_map item_uses is) → EachAgain (item_at slots marks) (spell_item ks) is
 each_item slots ks s marks lt [] f u = tt
 each_item slots ks s marks lt (i ∷ is) f u =
-    let p = both_true (item_fits marks i) (list_all (item_fits marks) is) f in
+    let p = and_parts (item_fits marks i) (list_all (item_fits marks) is) f in
     let v = have_append ks (item_uses i) (flat_map item_uses is) u in
     (λ rest. item_again slots ks s marks lt i rest p.0 v.0, each_item slots ks s marks lt is p.1 v.1)
 
 items_again : (slots : List Slot) (ks : List Known) → Serves ks slots → (marks : List Bool) → length marks < 65536 → (is : List Item) (rest : List ℕ) → items_fit marks is ≡ true → Have ks (flat_map item_uses is) → listed (item_at slots marks) (counted (spell_item ks) is ++ rest) ≡ Ok (is, rest)
 unfolding items_fit
 items_again slots ks s marks lt is rest f u =
-    let p = both_true (is_count is) (list_all (item_fits marks) is) f in
+    let p = and_parts (is_count is) (list_all (item_fits marks) is) f in
     listed_again (item_at slots marks) (spell_item ks) is rest (ltb-true (length is) 65536 p.0) (each_item slots ks s marks lt is p.1 u)
 
 place_again : (before : Option ℕ) (at : ℕ) → is_behind before at ≡ true → place_of before (delta_of before at) ≡ at
@@ -80,9 +80,6 @@ unfolding place_at
 place_at_again marks before at rest p =
     let lt = delta_whole marks before at p in
     rw (whole_u2 (delta_of before at) lt, u2_again (delta_of before at) rest lt, place_again before at p.behind, p.begins) refl
-
-near_tag : (n delta : ℕ) → delta < 64 → n ≤ 64 → (n + delta) % 256 ≡ n + delta
-near_tag n delta lt le = omega arith
 
 same_again_by : (slots : List Slot) (ks : List Known) (marks : List Bool) (before : Option ℕ) (seen : List Item) (f : Frame) (rest : List ℕ) (near : Bool) → Place marks before f.at → f.locals ≡ seen → f.stack ≡ [] → ltb (delta_of before f.at) 64 ≡ near
     → frame_at slots marks before seen (cond near ((0 + delta_of before f.at) % 256 ∷ []) (251 ∷ to_be_bytes w16 (delta_of before f.at % 65536)) ++ rest) ≡ Ok (f, rest)
@@ -176,15 +173,15 @@ form_again slots ks s marks before seen f form.Same rest p is h g u v = same_aga
 form_again slots ks s marks before seen f form.SameItem rest p is h g u v =
     let one = one_item f.stack is.1 in
     let head = cond (ltb (delta_of before f.at) 64) ((64 + delta_of before f.at) % 256 ∷ []) (247 ∷ to_be_bytes w16 (delta_of before f.at % 65536)) in
-    let fits : list_all (item_fits marks) (one.0 ∷ []) ≡ true = ap (list_all (item_fits marks)) (sym one.1) ∙ (both_true _ _ g).1 in
+    let fits : list_all (item_fits marks) (one.0 ∷ []) ≡ true = ap (list_all (item_fits marks)) (sym one.1) ∙ (and_parts _ _ g).1 in
     let have : Have ks (flat_map item_uses (one.0 ∷ [])) = subst (λ (x : List Item). Have ks (flat_map item_uses x)) one.1 v in
     let spelled : flat_map (spell_item ks) f.stack ≡ spell_item ks one.0 = ap (flat_map (spell_item ks)) one.1 ∙ one_spelled ks one.0 in
     let whole : (head ++ flat_map (spell_item ks) f.stack) ++ rest ≡ head ++ (spell_item ks one.0 ++ rest) = ap (λ (x : List ℕ). (head ++ x) ++ rest) spelled ∙ append_assoc head (spell_item ks one.0) rest in
-    ap (frame_at slots marks before seen) whole ∙ with_item_by slots ks s marks before seen f one.0 rest (ltb (delta_of before f.at) 64) p is.0 one.1 (both_true _ _ fits).0 (have_append ks (item_uses one.0) [] have).0 refl
+    ap (frame_at slots marks before seen) whole ∙ with_item_by slots ks s marks before seen f one.0 rest (ltb (delta_of before f.at) 64) p is.0 one.1 (and_parts _ _ fits).0 (have_append ks (item_uses one.0) [] have).0 refl
 form_again slots ks s marks before seen f (form.Chop k) rest p is h g u v = chop_tag slots marks before seen f rest k p is.0 is.1 is.2 is.3 is.4
 form_again slots ks s marks before seen f (form.Append k) rest p is h g u v =
     let more = last_of k f.locals in
-    append_tag slots ks s marks before seen more f rest k p is.0 is.1 is.2 is.3 is.4 (both_true _ _ h).1 u
+    append_tag slots ks s marks before seen more f rest k p is.0 is.1 is.2 is.3 is.4 (and_parts _ _ h).1 u
 form_again slots ks s marks before seen f form.Full rest p is h g u v = full_tag slots ks s marks before seen f rest p h g u v
 
 frame_again : (slots : List Slot) (ks : List Known) → Serves ks slots → (marks : List Bool) → length marks < 65536 → (before : Option ℕ) (seen : List Item) (f : Frame) (rest : List ℕ) → frame_fits marks before seen f ≡ true → Have ks (form_uses f (form_of seen f))
@@ -192,9 +189,9 @@ frame_again : (slots : List Slot) (ks : List Known) → Serves ks slots → (mar
 unfolding spell_frame frame_fits form_fits form_uses
 frame_again slots ks s marks lt before seen f rest h u =
     let form = form_of seen f in
-    let a = both_true (begins marks f.at) (is_behind before f.at && form_fits marks f (form_of seen f)) h in
-    let b = both_true (is_behind before f.at) (form_fits marks f (form_of seen f)) a.1 in
-    let c = both_true (items_fit marks (written_locals f (form_of seen f))) (items_fit marks (written_stack f (form_of seen f))) b.1 in
+    let a = and_parts (begins marks f.at) (is_behind before f.at && form_fits marks f (form_of seen f)) h in
+    let b = and_parts (is_behind before f.at) (form_fits marks f (form_of seen f)) a.1 in
+    let c = and_parts (items_fit marks (written_locals f (form_of seen f))) (items_fit marks (written_stack f (form_of seen f))) b.1 in
     let v = have_append ks (flat_map item_uses (written_locals f (form_of seen f))) (flat_map item_uses (written_stack f (form_of seen f))) u in
     let p : Place marks before f.at = record { few = lt; begins = a.0; behind = b.0 } in
     form_again slots ks s marks before seen f (form_of seen f) rest p (form_is seen f) c.0 c.1 v.0 v.1
@@ -204,7 +201,7 @@ frames_again : (slots : List Slot) (ks : List Known) → Serves ks slots → (ma
 unfolding frames_at spell_frames frames_fit frames_uses
 frames_again slots ks s marks lt before seen [] rest h u = refl
 frames_again slots ks s marks lt before seen (f ∷ fs) rest h u =
-    let p = both_true (frame_fits marks before seen f) (frames_fit marks (Some (f.at)) f.locals fs) h in
+    let p = and_parts (frame_fits marks before seen f) (frames_fit marks (Some (f.at)) f.locals fs) h in
     let v = have_append ks (form_uses f (form_of seen f)) (frames_uses f.locals fs) u in
     let regrouped : (spell_frame ks before seen f ++ spell_frames ks (Some (f.at)) f.locals fs) ++ rest ≡ spell_frame ks before seen f ++ (spell_frames ks (Some (f.at)) f.locals fs ++ rest) = append_assoc (spell_frame ks before seen f) (spell_frames ks (Some (f.at)) f.locals fs) rest in
     rw (regrouped, frame_again slots ks s marks lt before seen f (spell_frames ks (Some (f.at)) f.locals fs ++ rest) p.0 v.0, frames_again slots ks s marks lt (Some (f.at)) f.locals fs rest p.1 v.1) refl
@@ -258,7 +255,7 @@ pub length_frames : (ks : List Known) (before : Option ℕ) (seen : List Item) (
 unfolding frames_within spell_frames
 length_frames ks before seen [] room h = omega arith
 length_frames ks before seen (f ∷ fs) room h =
-    let p = both_true (leb (frame_length before seen f) room) (frames_within (room - frame_length before seen f) (Some (f.at)) f.locals fs) h in
+    let p = and_parts (leb (frame_length before seen f) room) (frames_within (room - frame_length before seen f) (Some (f.at)) f.locals fs) h in
     let le = leb-true (frame_length before seen f) room p.0 in
     let ih = length_frames ks (Some (f.at)) f.locals fs (room - frame_length before seen f) p.1 in
     omega (arith, le, ih, length_frame ks before seen f, length-append (spell_frame ks before seen f) (spell_frames ks (Some (f.at)) f.locals fs))

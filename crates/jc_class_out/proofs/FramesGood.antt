@@ -3,7 +3,7 @@ use Rattle.std.proofs.Common.{◌≡◌, ◌<◌, ◌≤◌, ℕ, zero, suc, ◌
 use Rattle.std.specs.Prelude.{nat_lt, nat_le, codes}
 use Rattle.std.specs.Int.{w16}
 use Rattle.std.specs.List.{flat_map, list_all}
-use Rattle.std.proofs.lemmas.Bool.{ltb-true, ltb-false, leb-true, eqb-false, lt-ltb, le-leb}
+use Rattle.std.proofs.lemmas.Bool.{ltb-true, ltb-false, leb-true, eqb-false, lt-ltb, le-leb, and_parts}
 use Rattle.std.proofs.lemmas.List.{length-drop}
 use Rattle.jc_class_out.specs.declared.forms.Form.{Form}
 use Rattle.jc_class_out.specs.declared.forms.Form.TheVariants as form
@@ -19,7 +19,6 @@ use Rattle.jc_class_out.specs.Code.{attribute_at, attribute_ends, no_more_at, fr
 use Rattle.jc_class_out.specs.Forms.{form_of, last_of, delta_of, near_length}
 use Rattle.jc_class_out.specs.Spelling.{class_uses, item_uses, form_uses, frames_uses, table_uses}
 use Rattle.jc_class_out.specs.Fitting.{is_count, item_fits, is_behind, items_fit, form_fits, frame_fits, frames_fit, item_length, items_length, form_length, frame_length, frames_within}
-use Rattle.jc_class_out.proofs.Numbers.{both_true}
 use Rattle.jc_class_out.proofs.Good.{Good, good_ok, good_err, good_bind, good_more, good_if, good_wants, Ranged, Got, Numbered, Reads, Each, Counted, Listed, many_good, listed_good, u1_good, u2_good}
 use Rattle.jc_class_out.proofs.Shortest.{form_same, form_same_item, form_chop, form_append, last_append}
 use Rattle.jc_class_out.proofs.Stands.{Stands, Stand}
@@ -107,7 +106,7 @@ one_long i = omega arith
 all_drop : (f : Item → Bool) (n : ℕ) (is : List Item) → list_all f is ≡ true → list_all f (drop n is) ≡ true
 all_drop f zero is h = h
 all_drop f (suc n) [] h = refl
-all_drop f (suc n) (i ∷ is) h = all_drop f n is (both_true (f i) (list_all f is) h).1
+all_drop f (suc n) (i ∷ is) h = all_drop f n is (and_parts (f i) (list_all f is) h).1
 
 long_drop : (n : ℕ) (is : List Item) → items_length (drop n is) ≤ items_length is
 unfolding items_length

@@ -4,7 +4,7 @@ use lib.Dec.{leb}
 use Rattle.std.specs.Prelude.{◌&&◌, not}
 use Rattle.std.specs.Int.{w16, w32, to_be_bytes, cast_unsigned}
 use Rattle.std.specs.List.{flat_map, list_all, AllByRecursion}
-use Rattle.std.proofs.lemmas.Bool.{ltb-true, leb-true, eqb-true, eq-eqb, or_cases, not-true}
+use Rattle.std.proofs.lemmas.Bool.{ltb-true, leb-true, eqb-true, eq-eqb, or_cases, not-true, and_parts}
 use Rattle.std.proofs.lemmas.List.{length-append, length-replicate}
 use Rattle.jc_class_out.specs.declared.format.Flaw.{Flaw}
 use Rattle.jc_class_out.specs.declared.format.Kind.{Kind}
@@ -20,7 +20,7 @@ use Rattle.jc_class_out.specs.Pool.{Known, KnownWhole, KnownLong, KnownLiteral, 
 use Rattle.jc_class_out.specs.Instructions.{is_array_code, within, kind_of, target, wide_target, load_op, load_wide_op, load_long_op, field_op, method_op, interface_op, class_op, dims_op, byte_op, short_op, array_op, local_op, step_op, jump_op, padding, zeros_at, is_above, case_at, cases_at, switch_op, operand_at, wide_operand_at, wide_at, narrow_at, ins_at, operand_size, wide_size, ins_size}
 use Rattle.jc_class_out.specs.Spelling.{has, number, operand_uses, member_uses, ins_uses, first_uses, ins_first_uses, is_load, wide_distance, distance, spell_case, spell_switch, spell_number, spell_load, spell_member, spell_operand, spell_wide, spell_ins}
 use Rattle.jc_class_out.specs.Fitting.{is_nothing, is_number, is_array, is_local_below, is_step_below, is_load_of, is_load_long, is_member, is_interface_member, is_class_operand, is_dims, is_jump_from, cases_ascend, is_switch, operand_fits, wide_fits, ins_fits, is_signed, is_u8}
-use Rattle.jc_class_out.proofs.Numbers.{both_true, u2_again, u4_again, whole_u1, low_byte_32, low_u2_32, low_byte_16, signed16, unsigned16, signed32, unsigned32}
+use Rattle.jc_class_out.proofs.Numbers.{u2_again, u4_again, whole_u1, low_byte_32, low_u2_32, low_byte_16, signed16, unsigned16, signed32, unsigned32}
 use Rattle.jc_class_out.proofs.Served.{Serves, index_again, known_served, class_again}
 
 -- the list of constants has each of these
@@ -53,8 +53,8 @@ short_again slots ks at _ h = absurd cc
 
 array_small : (n : ℕ) → is_array_code n ≡ true → n < 256
 array_small n h = elim (or_cases (within 4 5 n) (within 8 11 n) h) [
-  | inl a ↦ (let p = both_true (leb 4 n) (leb n 5) a in let l = leb-true n 5 p.1 in omega (arith, l))
-  | inr b ↦ (let p = both_true (leb 8 n) (leb n 11) b in let l = leb-true n 11 p.1 in omega (arith, l))
+  | inl a ↦ (let p = and_parts (leb 4 n) (leb n 5) a in let l = leb-true n 5 p.1 in omega (arith, l))
+  | inr b ↦ (let p = and_parts (leb 8 n) (leb n 11) b in let l = leb-true n 11 p.1 in omega (arith, l))
 ]
 
 array_again : (slots : List Slot) (ks : List Known) (at : ℕ) (o : Operand) → is_array o ≡ true → OperandAgain slots ks at ArrayOf o
@@ -92,7 +92,7 @@ local_again slots ks at _ h = absurd cc
 step_again : (slots : List Slot) (ks : List Known) (at : ℕ) (o : Operand) → is_step_below 256 (2 ^ 7) o ≡ true → OperandAgain slots ks at Step o
 unfolding operand_at spell_operand operand_size step_op
 step_again slots ks at (op.Step n by) h =
-    let p = both_true (ltb n 256) (is_signed (2 ^ 7) by) h in
+    let p = and_parts (ltb n 256) (is_signed (2 ^ 7) by) h in
     record { is = λ left rest. rw (whole_u1 n (ltb-true n 256 p.0), low_byte_16 by p.1) refl; size = refl }
 step_again slots ks at _ h = absurd cc
 
@@ -154,9 +154,9 @@ cases_again : (at : ℕ) (before : Option ℤ) (cs : List SwitchCase) (rest : Li
 unfolding cases_at case_at cases_ascend spell_case
 cases_again at before [] rest la h l = refl
 cases_again at before (c ∷ cs) rest la h l =
-    let p = both_true (is_signed (2 ^ 31) c.key && is_above before c.key) (cases_ascend (Some (c.key)) cs) h in
-    let q = both_true (is_signed (2 ^ 31) c.key) (is_above before c.key) p.0 in
-    let m = both_true (ltb c.at (2 ^ 32)) (list_all (λ (x : SwitchCase). ltb x.at (2 ^ 32)) cs) l in
+    let p = and_parts (is_signed (2 ^ 31) c.key && is_above before c.key) (cases_ascend (Some (c.key)) cs) h in
+    let q = and_parts (is_signed (2 ^ 31) c.key) (is_above before c.key) p.0 in
+    let m = and_parts (ltb c.at (2 ^ 32)) (list_all (λ (x : SwitchCase). ltb x.at (2 ^ 32)) cs) l in
     let tail = flat_map (spell_case at) cs ++ rest in
     let key = to_be_bytes w32 (cast_unsigned w32 c.key) in
     let way = to_be_bytes w32 (wide_distance at c.at) in
@@ -175,7 +175,7 @@ Reaches _ = Unit {0}
 switch_again : (slots : List Slot) (ks : List Known) (at : ℕ) (o : Operand) → at < 2 ^ 32 → is_switch o ≡ true → Reaches o → OperandAgain slots ks at Switch o
 unfolding operand_at spell_operand operand_size switch_op spell_switch
 switch_again slots ks at (op.Switch otherwise cases) la h r =
-    let p = both_true (ltb (length cases) (2 ^ 31)) (cases_ascend None cases) h in
+    let p = and_parts (ltb (length cases) (2 ^ 31)) (cases_ascend None cases) h in
     let few = ltb-true (length cases) (2 ^ 31) p.0 in
     let e : length cases % 2 ^ 32 ≡ length cases = omega (arith, few) in
     let body = flat_map (spell_case at) cases in
@@ -216,7 +216,7 @@ wide_operand_again : (left : ℕ) (k : Kind) (o : Operand) (rest : List ℕ) →
 unfolding wide_fits wide_operand_at spell_wide
 wide_operand_again left Local (op.Local n) rest h = rw (u2_again n rest (ltb-true n 65536 h)) refl
 wide_operand_again left Step (op.Step n by) rest h =
-    let p = both_true (ltb n 65536) (is_signed (2 ^ 15) by) h in
+    let p = and_parts (ltb n 65536) (is_signed (2 ^ 15) by) h in
     rw (u2_again n (to_be_bytes w16 (cast_unsigned w16 by) ++ rest) (ltb-true n 65536 p.0), u2_again (cast_unsigned w16 by) rest (unsigned16 by p.1), signed16 by p.1) refl
 wide_operand_again left _ _ rest h = absurd cc
 
@@ -243,7 +243,7 @@ ins_by : (slots : List Slot) (ks : List Known) → Serves ks slots → (at : ℕ
 unfolding ins_fits ins_at spell_ins wide_at narrow_at ins_first_uses
 ins_by slots ks s at i true e la h u l r =
     let f : (is_u8 i.code && wide_fits (kind_of i.code) i.operand) ≡ true = subst (λ (b : Bool). cond b (is_u8 i.code && wide_fits (kind_of i.code) i.operand) (is_u8 i.code && (not (eqb i.code 0xc4) && operand_fits at (kind_of i.code) i.operand)) ≡ true) e h in
-    let p = both_true (is_u8 i.code) (wide_fits (kind_of i.code) i.operand) f in
+    let p = and_parts (is_u8 i.code) (wide_fits (kind_of i.code) i.operand) f in
     record {
       is = λ rest.
           let a : spell_ins ks at i ≡ 0xc4 ∷ i.code ∷ spell_wide i.operand = rw e refl in
@@ -254,8 +254,8 @@ ins_by slots ks s at i true e la h u l r =
     }
 ins_by slots ks s at i false e la h u l r =
     let f : (is_u8 i.code && (not (eqb i.code 0xc4) && operand_fits at (kind_of i.code) i.operand)) ≡ true = subst (λ (b : Bool). cond b (is_u8 i.code && wide_fits (kind_of i.code) i.operand) (is_u8 i.code && (not (eqb i.code 0xc4) && operand_fits at (kind_of i.code) i.operand)) ≡ true) e h in
-    let p = both_true (is_u8 i.code) (not (eqb i.code 0xc4) && operand_fits at (kind_of i.code) i.operand) f in
-    let q = both_true (not (eqb i.code 0xc4)) (operand_fits at (kind_of i.code) i.operand) p.1 in
+    let p = and_parts (is_u8 i.code) (not (eqb i.code 0xc4) && operand_fits at (kind_of i.code) i.operand) f in
+    let q = and_parts (not (eqb i.code 0xc4)) (operand_fits at (kind_of i.code) i.operand) p.1 in
     let n : eqb i.code 0xc4 ≡ false = not-true (eqb i.code 0xc4) q.0 in
     let o = operand_again slots ks s at (kind_of i.code) i.operand la q.1 u (λ t. subst (λ (b : Bool). Low ks (cond b (first_uses i.operand) [])) t l) r in
     record {

@@ -5,17 +5,10 @@ use Rattle.std.specs.Cmp.{signed_Decides}
 use Rattle.std.specs.List.{position, prefix_len}
 use Rattle.std.specs.Ordering.{int_eq}
 use Rattle.std.specs.Str.{bytes_eq}
-use Rattle.std.proofs.lemmas.Slice.Eq.{bytes_eq-Decides}
-use Rattle.std.proofs.lemmas.Bool.{lt-ltb, ltb-true}
+use Rattle.std.proofs.lemmas.Bool.{lt-ltb, ltb-true, and_parts, true≢false}
+use Rattle.jc_rules.proofs.Truths.{or_none, same_bytes, own_bytes, or_assoc, or_true}
 use Rattle.jc_class_out.specs.Pool.{Known, KnownText, KnownWhole, KnownLong, KnownBehind, KnownClass, KnownLiteral, KnownField, KnownMethod, KnownInterface, KnownPair}
 use Rattle.jc_class_out.specs.Spelling.{same_known, has, add, adds, number, number_if}
-use Rattle.jc_class_out.proofs.Numbers.{both_true}
-
-text_true : (a b : List ℕ) → bytes_eq a b ≡ true → a ≡ b
-text_true a b h = (bytes_eq-Decides a b).0 h
-
-text_refl : (a : List ℕ) → bytes_eq a a ≡ true
-text_refl a = (bytes_eq-Decides a a).1 refl
 
 int_true : (a b : ℤ) → int_eq a b ≡ true → a ≡ b
 int_true a b h = (signed_Decides a b).0 h
@@ -24,54 +17,39 @@ int_refl : (a : ℤ) → int_eq a a ≡ true
 int_refl a = (signed_Decides a a).1 refl
 
 pub same_refl : (k : Known) → same_known k k ≡ true
-same_refl (KnownText a) = text_refl a
+same_refl (KnownText a) = own_bytes a
 same_refl (KnownWhole a) = int_refl a
 same_refl (KnownLong a) = int_refl a
 same_refl (KnownBehind a) = int_refl a
-same_refl (KnownClass a) = text_refl a
-same_refl (KnownLiteral a) = text_refl a
-same_refl (KnownField c n d) = rw (text_refl c, text_refl n, text_refl d) refl
-same_refl (KnownMethod c n d) = rw (text_refl c, text_refl n, text_refl d) refl
-same_refl (KnownInterface c n d) = rw (text_refl c, text_refl n, text_refl d) refl
-same_refl (KnownPair n d) = rw (text_refl n, text_refl d) refl
+same_refl (KnownClass a) = own_bytes a
+same_refl (KnownLiteral a) = own_bytes a
+same_refl (KnownField c n d) = rw (own_bytes c, own_bytes n, own_bytes d) refl
+same_refl (KnownMethod c n d) = rw (own_bytes c, own_bytes n, own_bytes d) refl
+same_refl (KnownInterface c n d) = rw (own_bytes c, own_bytes n, own_bytes d) refl
+same_refl (KnownPair n d) = rw (own_bytes n, own_bytes d) refl
 
 three_true : (f : List ℕ → List ℕ → List ℕ → Known) (c n d e m b : List ℕ) → (bytes_eq c e && (bytes_eq n m && bytes_eq d b)) ≡ true → f c n d ≡ f e m b
 three_true f c n d e m b h =
-    let p = both_true (bytes_eq c e) (bytes_eq n m && bytes_eq d b) h in
-    let q = both_true (bytes_eq n m) (bytes_eq d b) p.1 in
-    rw (text_true c e p.0, text_true n m q.0, text_true d b q.1) refl
+    let p = and_parts (bytes_eq c e) (bytes_eq n m && bytes_eq d b) h in
+    let q = and_parts (bytes_eq n m) (bytes_eq d b) p.1 in
+    rw (same_bytes c e p.0, same_bytes n m q.0, same_bytes d b q.1) refl
 
 pub same_true : (a b : Known) → same_known a b ≡ true → a ≡ b
-same_true (KnownText a) (KnownText b) h = ap KnownText (text_true a b h)
+same_true (KnownText a) (KnownText b) h = ap KnownText (same_bytes a b h)
 same_true (KnownWhole a) (KnownWhole b) h = ap KnownWhole (int_true a b h)
 same_true (KnownLong a) (KnownLong b) h = ap KnownLong (int_true a b h)
 same_true (KnownBehind a) (KnownBehind b) h = ap KnownBehind (int_true a b h)
-same_true (KnownClass a) (KnownClass b) h = ap KnownClass (text_true a b h)
-same_true (KnownLiteral a) (KnownLiteral b) h = ap KnownLiteral (text_true a b h)
+same_true (KnownClass a) (KnownClass b) h = ap KnownClass (same_bytes a b h)
+same_true (KnownLiteral a) (KnownLiteral b) h = ap KnownLiteral (same_bytes a b h)
 same_true (KnownField c n d) (KnownField e m b) h = three_true KnownField c n d e m b h
 same_true (KnownMethod c n d) (KnownMethod e m b) h = three_true KnownMethod c n d e m b h
 same_true (KnownInterface c n d) (KnownInterface e m b) h = three_true KnownInterface c n d e m b h
 same_true (KnownPair n d) (KnownPair m b) h =
-    let p = both_true (bytes_eq n m) (bytes_eq d b) h in
-    rw (text_true n m p.0, text_true d b p.1) refl
+    let p = and_parts (bytes_eq n m) (bytes_eq d b) h in
+    rw (same_bytes n m p.0, same_bytes d b p.1) refl
 same_true _ _ h = absurd cc
 
 -- ---- tests on lists
-
-true_false : true ≡ false → ⊥
-true_false h = absurd cc
-
-or_assoc : (a b c : Bool) → ((a || b) || c) ≡ (a || (b || c))
-or_assoc true b c = refl
-or_assoc false b c = refl
-
-or_none : (a : Bool) → (a || false) ≡ a
-or_none true = refl
-or_none false = refl
-
-or_true : (a : Bool) → (a || true) ≡ true
-or_true true = refl
-or_true false = refl
 
 pub has_append : (p q : List Known) (k : Known) → has (p ++ q) k ≡ (has p k || has q k)
 unfolding has
@@ -93,11 +71,7 @@ unfolding has
 has_later x k ks h = rw h (or_true (same_known k x))
 
 no_self : (a b : Known) → b ≡ a → same_known a b ≡ false → ⊥
-no_self a b e h = let s : same_known a a ≡ false = subst (λ (x : Known). same_known a x ≡ false) e h in absurd (true_false (sym (same_refl a) ∙ s))
-
-same_symm : (a b : Known) (c : Bool) → same_known a b ≡ c → same_known b a ≡ true → c ≡ true
-same_symm a b true h g = refl
-same_symm a b false h g = let e : b ≡ a = same_true b a g in absurd (no_self a b e h)
+no_self a b e h = let s : same_known a a ≡ false = subst (λ (x : Known). same_known a x ≡ false) e h in absurd (true≢false (sym (same_refl a) ∙ s))
 
 has_known : (p : List Known) (k x : Known) (c : Bool) → has p k ≡ true → same_known x k ≡ c → has p x ≡ (has p x || c)
 has_known p k x false h s = sym (or_none (has p x))

@@ -3,11 +3,11 @@ use Rattle.std.proofs.Common.{◌≡◌, ◌<◌, ◌≤◌, ℕ, suc, ◌+◌, 
 use Rattle.std.specs.Prelude.{slice_set}
 use Rattle.std.proofs.lemmas.List.{drop_all, append-nil, take_more_set, replicate_more}
 use Rattle.std.proofs.Math.Seq.{drop-cons}
+use Rattle.std.proofs.lemmas.Bool.{and_parts}
 use Rattle.jc_class_out.specs.declared.model.Ins.{Ins}
 use Rattle.jc_class_out.specs.Instructions.{ins_size}
 use Rattle.jc_class_out.specs.Code.{marks_from, size_from}
 use Rattle.jc_class_out.specs.Fitting.{ins_fits, all_fit}
-use Rattle.jc_class_out.proofs.Numbers.{both_true}
 
 first_of : (list : List Ins) (i : ℕ) (ins : Ins) → i < length list → ins ≡ get_or list i ins → drop i list ≡ ins ∷ drop (i + 1) list
 first_of list i ins lt is = rw (add-one i) (drop-cons list i ins lt ∙ ap (λ (x : Ins). x ∷ drop (suc i) list) (sym is))
@@ -45,4 +45,4 @@ all_measured list i at total le so_far = let e : size_from at (drop i list) ≡ 
 
 pub fit_more : (list : List Ins) (i : ℕ) (ins : Ins) (at : ℕ) → i < length list → ins ≡ get_or list i ins → all_fit at (drop i list) ≡ true → all_fit (at + ins_size at ins) (drop (i + 1) list) ≡ true
 unfolding all_fit
-fit_more list i ins at lt is h = (both_true (ins_fits at ins) (all_fit (at + ins_size at ins) (drop (i + 1) list)) (ap (all_fit at) (sym (first_of list i ins lt is)) ∙ h)).1
+fit_more list i ins at lt is h = (and_parts (ins_fits at ins) (all_fit (at + ins_size at ins) (drop (i + 1) list)) (ap (all_fit at) (sym (first_of list i ins lt is)) ∙ h)).1

@@ -3,7 +3,7 @@ use Rattle.std.proofs.Common.{◌≡◌, ◌<◌, ◌^◌, ℕ, ◌*◌, Bool, t
 use Rattle.std.specs.Prelude.{◌&&◌, codes}
 use Rattle.std.specs.Int.{w16, to_be_bytes}
 use Rattle.std.specs.List.{flat_map, list_all}
-use Rattle.std.proofs.lemmas.Bool.{ltb-true}
+use Rattle.std.proofs.lemmas.Bool.{ltb-true, and_parts}
 use Rattle.std.proofs.lemmas.List.{length-append}
 use Rattle.jc_class_out.specs.declared.format.Slot.{Slot}
 use Rattle.jc_class_out.specs.declared.model.ClassModel.{ClassModel}
@@ -17,7 +17,7 @@ use Rattle.jc_class_out.specs.Pool.{Known, KnownText, KnownClass, class_named_at
 use Rattle.jc_class_out.specs.Format.{field_at, is_bodiless, code_attribute_at, with_code_at, without_code_at, method_at, inner_at, inners_at, class_attributes_at, members_at}
 use Rattle.jc_class_out.specs.Spelling.{has, index, entry_of_method, ins_first_uses, class_uses, class_or_none_uses, name_or_none_uses, code_uses, code_or_none_uses, method_uses, code_first_uses, method_first_uses, field_uses, inner_uses, inners_uses, members_uses, loads_of, counted, spell_class_or_none, spell_name_or_none, spell_attribute, spell_code_model, spell_code_or_none, spell_method, spell_field, spell_inner, spell_inners, spell_interface, spell_members}
 use Rattle.jc_class_out.specs.Fitting.{is_u16, is_count, code_fits, code_or_none_fits, method_fits, field_fits, inner_fits, counts_fit, members_fit}
-use Rattle.jc_class_out.proofs.Numbers.{both_true, u2_again, EachAgain, listed_again}
+use Rattle.jc_class_out.proofs.Numbers.{u2_again, EachAgain, listed_again}
 use Rattle.jc_class_out.proofs.Served.{Serves, class_again, named_again, class_or_none_again, name_or_none_again}
 use Rattle.jc_class_out.proofs.InsAgain.{Have, Low}
 use Rattle.jc_class_out.proofs.CodeAgain.{have_append, low_append}
@@ -32,7 +32,7 @@ descriptor_again slots ks s test t rest f h = rw (named_again ks slots s t rest 
 field_again : (slots : List Slot) (ks : List Known) → Serves ks slots → (f : FieldModel) (rest : List ℕ) → field_fits f ≡ true → Have ks (field_uses f) → field_at slots (spell_field ks f ++ rest) ≡ Ok (f, rest)
 unfolding field_at spell_field field_fits field_uses
 field_again slots ks s f rest h u =
-    let p = both_true (is_u16 f.flags) (is_field_descriptor f.descriptor) h in
+    let p = and_parts (is_u16 f.flags) (is_field_descriptor f.descriptor) h in
     rw (
       u2_again f.flags (index ks (KnownText f.name) ++ (index ks (KnownText f.descriptor) ++ (to_be_bytes w16 0 ++ rest))) (ltb-true f.flags 65536 p.0),
       named_again ks slots s f.name (index ks (KnownText f.descriptor) ++ (to_be_bytes w16 0 ++ rest)) u.0,
@@ -44,7 +44,7 @@ field_again slots ks s f rest h u =
 each_field : (slots : List Slot) (ks : List Known) → Serves ks slots → (fs : List FieldModel) → list_all field_fits fs ≡ true → Have ks (flat_map field_uses fs) → EachAgain (field_at slots) (spell_field ks) fs
 each_field slots ks s [] h u = tt
 each_field slots ks s (f ∷ fs) h u =
-    let p = both_true (field_fits f) (list_all field_fits fs) h in
+    let p = and_parts (field_fits f) (list_all field_fits fs) h in
     let v = have_append ks (field_uses f) (flat_map field_uses fs) u in
     (λ rest. field_again slots ks s f rest p.0 v.0, each_field slots ks s fs p.1 v.1)
 
@@ -78,8 +78,8 @@ code_again slots ks s entry false (Some c) rest f u l = with_code_again slots ks
 method_again : (slots : List Slot) (ks : List Known) → Serves ks slots → (class : List ℕ) (m : MethodModel) (rest : List ℕ) → method_fits class m ≡ true → Have ks (method_uses class m) → Low ks (method_first_uses m) → method_at slots class (spell_method ks class m ++ rest) ≡ Ok (m, rest)
 unfolding method_at spell_method method_fits method_uses
 method_again slots ks s class m rest h u l =
-    let p = both_true (is_u16 m.flags) (is_method_descriptor m.descriptor && code_or_none_fits (is_bodiless m.flags) (entry_of_method class m) m.code) h in
-    let q = both_true (is_method_descriptor m.descriptor) (code_or_none_fits (is_bodiless m.flags) (entry_of_method class m) m.code) p.1 in
+    let p = and_parts (is_u16 m.flags) (is_method_descriptor m.descriptor && code_or_none_fits (is_bodiless m.flags) (entry_of_method class m) m.code) h in
+    let q = and_parts (is_method_descriptor m.descriptor) (code_or_none_fits (is_bodiless m.flags) (entry_of_method class m) m.code) p.1 in
     let code = spell_code_or_none ks (entry_of_method class m) m.code in
     rw (
       u2_again m.flags (index ks (KnownText m.name) ++ (index ks (KnownText m.descriptor) ++ (code ++ rest))) (ltb-true m.flags 65536 p.0),
@@ -91,7 +91,7 @@ method_again slots ks s class m rest h u l =
 each_method : (slots : List Slot) (ks : List Known) → Serves ks slots → (class : List ℕ) (ms : List MethodModel) → list_all (method_fits class) ms ≡ true → Have ks (flat_map (method_uses class) ms) → Low ks (flat_map method_first_uses ms) → EachAgain (method_at slots class) (spell_method ks class) ms
 each_method slots ks s class [] h u l = tt
 each_method slots ks s class (m ∷ ms) h u l =
-    let p = both_true (method_fits class m) (list_all (method_fits class) ms) h in
+    let p = and_parts (method_fits class m) (list_all (method_fits class) ms) h in
     let v = have_append ks (method_uses class m) (flat_map (method_uses class) ms) u in
     let w = low_append ks (method_first_uses m) (flat_map method_first_uses ms) l in
     (λ rest. method_again slots ks s class m rest p.0 v.0 w.0, each_method slots ks s class ms p.1 v.1 w.1)
@@ -117,7 +117,7 @@ inner_again slots ks s i rest h u =
 each_inner : (slots : List Slot) (ks : List Known) → Serves ks slots → (is : List InnerModel) → list_all inner_fits is ≡ true → Have ks (flat_map inner_uses is) → EachAgain (inner_at slots) (spell_inner ks) is
 each_inner slots ks s [] h u = tt
 each_inner slots ks s (i ∷ is) h u =
-    let p = both_true (inner_fits i) (list_all inner_fits is) h in
+    let p = and_parts (inner_fits i) (list_all inner_fits is) h in
     let v = have_append ks (inner_uses i) (flat_map inner_uses is) u in
     (λ rest. inner_again slots ks s i rest p.0 v.0, each_inner slots ks s is p.1 v.1)
 
@@ -165,13 +165,13 @@ each_interface slots ks s (n ∷ ns) u = (λ rest. class_again ks slots s n rest
 pub members_again : (slots : List Slot) (ks : List Known) → Serves ks slots → (c : ClassModel) (rest : List ℕ) → members_fit c ≡ true → Have ks (members_uses c) → Low ks (loads_of c) → members_at slots (spell_members ks c ++ rest) ≡ Ok (c, rest)
 unfolding members_at spell_members members_fit counts_fit members_uses loads_of
 members_again slots ks s c rest h u l =
-    let a = both_true (is_u16 c.flags) ((is_count c.interfaces && (is_count c.fields && (is_count c.methods && is_count c.inner))) && (list_all field_fits c.fields && (list_all (method_fits c.name) c.methods && list_all inner_fits c.inner))) h in
-    let b = both_true (is_count c.interfaces && (is_count c.fields && (is_count c.methods && is_count c.inner))) (list_all field_fits c.fields && (list_all (method_fits c.name) c.methods && list_all inner_fits c.inner)) a.1 in
-    let n1 = both_true (is_count c.interfaces) (is_count c.fields && (is_count c.methods && is_count c.inner)) b.0 in
-    let n2 = both_true (is_count c.fields) (is_count c.methods && is_count c.inner) n1.1 in
-    let n3 = both_true (is_count c.methods) (is_count c.inner) n2.1 in
-    let f1 = both_true (list_all field_fits c.fields) (list_all (method_fits c.name) c.methods && list_all inner_fits c.inner) b.1 in
-    let f2 = both_true (list_all (method_fits c.name) c.methods) (list_all inner_fits c.inner) f1.1 in
+    let a = and_parts (is_u16 c.flags) ((is_count c.interfaces && (is_count c.fields && (is_count c.methods && is_count c.inner))) && (list_all field_fits c.fields && (list_all (method_fits c.name) c.methods && list_all inner_fits c.inner))) h in
+    let b = and_parts (is_count c.interfaces && (is_count c.fields && (is_count c.methods && is_count c.inner))) (list_all field_fits c.fields && (list_all (method_fits c.name) c.methods && list_all inner_fits c.inner)) a.1 in
+    let n1 = and_parts (is_count c.interfaces) (is_count c.fields && (is_count c.methods && is_count c.inner)) b.0 in
+    let n2 = and_parts (is_count c.fields) (is_count c.methods && is_count c.inner) n1.1 in
+    let n3 = and_parts (is_count c.methods) (is_count c.inner) n2.1 in
+    let f1 = and_parts (list_all field_fits c.fields) (list_all (method_fits c.name) c.methods && list_all inner_fits c.inner) b.1 in
+    let f2 = and_parts (list_all (method_fits c.name) c.methods) (list_all inner_fits c.inner) f1.1 in
     let v0 = have_append ks (class_uses c.name) (class_or_none_uses c.superclass ++ (flat_map class_uses c.interfaces ++ (flat_map field_uses c.fields ++ (flat_map (method_uses c.name) c.methods ++ inners_uses c.inner)))) u in
     let v1 = have_append ks (class_or_none_uses c.superclass) (flat_map class_uses c.interfaces ++ (flat_map field_uses c.fields ++ (flat_map (method_uses c.name) c.methods ++ inners_uses c.inner))) v0.1 in
     let v2 = have_append ks (flat_map class_uses c.interfaces) (flat_map field_uses c.fields ++ (flat_map (method_uses c.name) c.methods ++ inners_uses c.inner)) v1.1 in

@@ -2,14 +2,14 @@
 use Rattle.std.proofs.Common.{◌≡◌, ◌<◌, ℕ, ◌+◌, ◌-◌, ◌%◌, Bool, true, false, eqb, List, [], ◌∷◌, ◌++◌, length, map, Option, Some, None, Ok, refl, ap, subst, ◌∙◌, append_assoc, arith}
 use Rattle.std.specs.Int.{w16, w32, w64, to_be_bytes, cast_unsigned}
 use Rattle.std.specs.List.{flat_map, list_all, AllByRecursion}
-use Rattle.std.proofs.lemmas.Bool.{ne_eqb}
+use Rattle.std.proofs.lemmas.Bool.{ne_eqb, and_parts}
 use Rattle.jc_class_out.specs.declared.format.Entry.{Entry}
 use Rattle.jc_class_out.specs.declared.format.Entry.TheVariants as entry
 use Rattle.jc_class_out.specs.declared.format.Slot.{Slot}
 use Rattle.jc_class_out.specs.Pool.{Known, KnownText, KnownWhole, KnownLong, KnownBehind, KnownClass, KnownLiteral, KnownField, KnownMethod, KnownInterface, KnownPair, two_at, entry_by, entry_at, pending_of, slot_at, slots_at, check_entry, check_slot, checked, pool_at}
 use Rattle.jc_class_out.specs.Spelling.{has, number, spell_entry, spell_member_entry, spell_text, spell_pool}
 use Rattle.jc_class_out.specs.Fitting.{known_fits}
-use Rattle.jc_class_out.proofs.Numbers.{both_true, u2_again, u4_again, u8_again, whole_u2, signed32, unsigned32, signed64, unsigned64}
+use Rattle.jc_class_out.proofs.Numbers.{u2_again, u4_again, u8_again, whole_u2, signed32, unsigned32, signed64, unsigned64}
 use Rattle.jc_class_out.proofs.Known.{number_small}
 use Rattle.jc_class_out.proofs.Served.{Serves, Parts, entry_for, entries, is_behind_known, index_again, tag_served, text_served, pair_served}
 use Rattle.jc_class_out.proofs.TextsAgain.{text_again}
@@ -73,7 +73,7 @@ unfolding slots_at slot_at Spaced
 slots_again all [] None rest sp f = ([], refl, refl)
 slots_again all [] (Some left) rest sp f = absurd cc
 slots_again all (k ∷ ks) (Some left) rest sp f =
-    let g = both_true (known_fits k) (list_all known_fits ks) f in
+    let g = and_parts (known_fits k) (list_all known_fits ks) f in
     let b = behind_entry all k (flat_map (spell_entry all) ks ++ rest) sp.0 in
     let long : is_long_known k ≡ false = not_long k sp.0 in
     let ih = slots_again all ks None rest (subst (λ (b : Bool). Spaced b ks) long sp.1) g.1 in
@@ -81,7 +81,7 @@ slots_again all (k ∷ ks) (Some left) rest sp f =
     let regrouped : (spell_entry all k ++ flat_map (spell_entry all) ks) ++ rest ≡ flat_map (spell_entry all) ks ++ rest = append_assoc (spell_entry all k) (flat_map (spell_entry all) ks) rest ∙ b.1 in
     (one ∷ ih.0, rw (regrouped, ih.1) refl, rw (b.0) (ap (λ (x : List Entry). entry.Behind ∷ x) ih.2))
 slots_again all (k ∷ ks) None rest sp f =
-    let g = both_true (known_fits k) (list_all known_fits ks) f in
+    let g = and_parts (known_fits k) (list_all known_fits ks) f in
     let tail = flat_map (spell_entry all) ks ++ rest in
     let whole = spell_entry all k ++ (flat_map (spell_entry all) ks ++ rest) in
     let regrouped : (spell_entry all k ++ flat_map (spell_entry all) ks) ++ rest ≡ spell_entry all k ++ (flat_map (spell_entry all) ks ++ rest) = append_assoc (spell_entry all k) (flat_map (spell_entry all) ks) rest in
@@ -110,7 +110,7 @@ checked_again all slots s [] [] e f p = refl
 checked_again all slots s [] (x ∷ ss) e f p = absurd cc
 checked_again all slots s (k ∷ ks) [] e f p = absurd cc
 checked_again all slots s (k ∷ ks) (x ∷ ss) e f p =
-    let g = both_true (known_fits k) (list_all known_fits ks) f in
+    let g = and_parts (known_fits k) (list_all known_fits ks) f in
     let here : x.entry ≡ entry_for all k = cc in
     let more : entries ss ≡ map (entry_for all) ks = cc in
     rw (here, each_part all slots s x.left k g.0 p.0) (checked_again all slots s ks ss more g.1 p.1)

@@ -3,7 +3,7 @@ use Rattle.std.proofs.Common.{◌≡◌, ◌<◌, ◌^◌, ℕ, zero, suc, ◌+�
 use Rattle.std.specs.Prelude.{◌&&◌, not, nat_lt, codes}
 use Rattle.std.specs.Int.{w16, w32, w64, to_be_bytes, cast_unsigned}
 use Rattle.std.specs.List.{flat_map, list_all}
-use Rattle.std.proofs.lemmas.Bool.{ltb-true}
+use Rattle.std.proofs.lemmas.Bool.{ltb-true, and_parts}
 use Rattle.jc_class_out.specs.declared.forms.Form.{Form}
 use Rattle.jc_class_out.specs.declared.forms.Form.TheVariants as form
 use Rattle.jc_class_out.specs.declared.format.Kind.{Kind}
@@ -30,7 +30,6 @@ use Rattle.jc_class_out.specs.Format.{major, is_bodiless}
 use Rattle.jc_class_out.specs.Forms.{form_of, written_locals, delta_of}
 use Rattle.jc_class_out.specs.Spelling.{is_short, is_load, is_interface, spell_case, spell_switch, spell_number, spell_load, spell_member, spell_operand, spell_wide, spell_ins, spell_code, spell_body, spell_handler, spell_class_or_none, spell_name_or_none, spell_item, spell_near, spell_form, spell_frame, spell_frames, counted, spell_attribute, spell_table, spell_code_attributes, spell_code_model, spell_code_or_none, entry_of_method, spell_method, spell_field, spell_inner, spell_inners, spell_interface, spell_members, spell_member_entry, spell_text, spell_entry, spell_pool, spell_head, pool_for, uses, file_of}
 use Rattle.jc_class_out.specs.Fitting.{is_u8, is_u16, text_fits, known_fits, operand_fits, wide_fits, ins_fits, all_fit, ins_lands, ins_all_fit, tables_fit, code_fits, code_or_none_fits, method_fits, field_fits, inner_fits, counts_fit, members_fit, pool_fits, fits_of}
-use Rattle.jc_class_out.proofs.Numbers.{both_true}
 use Rattle.jc_class_out.proofs.Good.{Ranged}
 use Rattle.jc_class_out.proofs.CodeGood.{all_append}
 use Rattle.jc_class_out.proofs.FileAgain.{all_adds}
@@ -53,7 +52,7 @@ each f h (x ∷ xs) = both (h x) (each f h xs)
 
 each_that : {A : Type 0} (f : A → List ℕ) (test : A → Bool) → ((x : A) → test x ≡ true → InRange (f x)) → (xs : List A) → list_all test xs ≡ true → InRange (flat_map f xs)
 each_that f test h [] g = done
-each_that f test h (x ∷ xs) g = let p = both_true (test x) (list_all test xs) g in both (h x p.0) (each_that f test h xs p.1)
+each_that f test h (x ∷ xs) g = let p = and_parts (test x) (list_all test xs) g in both (h x p.0) (each_that f test h xs p.1)
 
 u2 : (n : ℕ) → InRange (to_be_bytes w16 n)
 u2 n = record { ok = (omega arith, (omega arith, tt)) }
@@ -83,7 +82,7 @@ unit u h = unit_by u (eqb u 0) (ltb u 0x80) (ltb u 0x800) (ltb-true u 65536 h) r
 text : (t : List ℕ) → text_fits t ≡ true → InRange (spell_text t)
 unfolding spell_text text_fits
 text t h =
-    let p = both_true (list_all is_u16 t) (nat_lt (length (text_bytes t)) 65536) h in
+    let p = and_parts (list_all is_u16 t) (nat_lt (length (text_bytes t)) 65536) h in
     (byte (omega arith) (both (u2 (length (text_bytes t) % 65536)) (each_that unit_bytes is_u16 unit t p.0)))
 
 member_entry : (ks : List Known) (tag : ℕ) (c n d : List ℕ) → tag < 256 → InRange (spell_member_entry ks tag c n d)
@@ -138,7 +137,7 @@ load_by false n = u2 n
 -- the dimensions have a byte
 dims_fit : (at : ℕ) (k : Kind) (c : List ℕ) (n : ℕ) → operand_fits at k (op.Dims c n) ≡ true → n < 256
 unfolding operand_fits
-dims_fit at kind.Dims c n h = ltb-true n 256 (both_true (nat_lt 0 n) (is_u8 n) h).1
+dims_fit at kind.Dims c n h = ltb-true n 256 (and_parts (nat_lt 0 n) (is_u8 n) h).1
 dims_fit at _ c n h = absurd cc
 
 operand : (ks : List Known) (fit at : ℕ) (k : Kind) (o : Operand) → operand_fits fit k o ≡ true → InRange (spell_operand ks at k o)
@@ -162,10 +161,10 @@ wide _ = done
 
 ins_by : (ks : List Known) (fit at : ℕ) (i : Ins) (b : Bool) → cond b (is_u8 (i.code) && wide_fits (kind_of (i.code)) (i.operand)) (is_u8 (i.code) && (not (eqb (i.code) 0xc4) && operand_fits fit (kind_of (i.code)) (i.operand))) ≡ true
     → InRange (cond b (0xc4 ∷ i.code ∷ spell_wide (i.operand)) (i.code ∷ spell_operand ks at (kind_of (i.code)) (i.operand)))
-ins_by ks fit at i true h = let p = both_true (is_u8 (i.code)) (wide_fits (kind_of (i.code)) (i.operand)) h in (byte (omega arith) ((byte (ltb-true (i.code) 256 p.0) (wide (i.operand)))))
+ins_by ks fit at i true h = let p = and_parts (is_u8 (i.code)) (wide_fits (kind_of (i.code)) (i.operand)) h in (byte (omega arith) ((byte (ltb-true (i.code) 256 p.0) (wide (i.operand)))))
 ins_by ks fit at i false h =
-    let p = both_true (is_u8 (i.code)) (not (eqb (i.code) 0xc4) && operand_fits fit (kind_of (i.code)) (i.operand)) h in
-    let q = both_true (not (eqb (i.code) 0xc4)) (operand_fits fit (kind_of (i.code)) (i.operand)) p.1 in
+    let p = and_parts (is_u8 (i.code)) (not (eqb (i.code) 0xc4) && operand_fits fit (kind_of (i.code)) (i.operand)) h in
+    let q = and_parts (not (eqb (i.code) 0xc4)) (operand_fits fit (kind_of (i.code)) (i.operand)) p.1 in
     (byte (ltb-true (i.code) 256 p.0) (operand ks fit at (kind_of (i.code)) (i.operand) q.1))
 
 ins : (ks : List Known) (fit at : ℕ) (i : Ins) → ins_fits fit i ≡ true → InRange (spell_ins ks at i)
@@ -176,7 +175,7 @@ code : (ks : List Known) (fit at : ℕ) (is : List Ins) → all_fit fit is ≡ t
 unfolding all_fit spell_code
 code ks fit at [] h = done
 code ks fit at (i ∷ is) h =
-    let p = both_true (ins_fits fit i) (all_fit (fit + ins_size fit i) is) h in
+    let p = and_parts (ins_fits fit i) (all_fit (fit + ins_size fit i) is) h in
     both (ins ks fit (at % 2 ^ 32) i p.0) (code ks (fit + ins_size fit i) (at + length (spell_ins ks (at % 2 ^ 32) i)) is p.1)
 
 -- ---- tables
@@ -237,12 +236,12 @@ code_attributes ks entry (f ∷ fs) = both (u2 1) (attribute ks (codes "StackMap
 code_model : (ks : List Known) (entry : List Item) (c : CodeModel) → code_fits entry c ≡ true → InRange (spell_code_model ks entry c)
 unfolding code_fits ins_all_fit spell_code_model spell_body
 code_model ks entry c h =
-    let a = both_true (is_u16 (c.stack)) (is_u16 (c.locals) && (ins_all_fit (c.ins) && tables_fit (marks_of (c.ins)) entry c)) h in
-    let b = both_true (is_u16 (c.locals)) (ins_all_fit (c.ins) && tables_fit (marks_of (c.ins)) entry c) a.1 in
-    let d = both_true (ins_all_fit (c.ins)) (tables_fit (marks_of (c.ins)) entry c) b.1 in
-    let i1 = both_true (nat_lt 0 (size_from 0 (c.ins))) (nat_lt (size_from 0 (c.ins)) 65536 && (all_fit 0 (c.ins) && list_all (ins_lands (marks_of (c.ins))) (c.ins))) d.0 in
-    let i2 = both_true (nat_lt (size_from 0 (c.ins)) 65536) (all_fit 0 (c.ins) && list_all (ins_lands (marks_of (c.ins))) (c.ins)) i1.1 in
-    let i3 = both_true (all_fit 0 (c.ins)) (list_all (ins_lands (marks_of (c.ins))) (c.ins)) i2.1 in
+    let a = and_parts (is_u16 (c.stack)) (is_u16 (c.locals) && (ins_all_fit (c.ins) && tables_fit (marks_of (c.ins)) entry c)) h in
+    let b = and_parts (is_u16 (c.locals)) (ins_all_fit (c.ins) && tables_fit (marks_of (c.ins)) entry c) a.1 in
+    let d = and_parts (ins_all_fit (c.ins)) (tables_fit (marks_of (c.ins)) entry c) b.1 in
+    let i1 = and_parts (nat_lt 0 (size_from 0 (c.ins))) (nat_lt (size_from 0 (c.ins)) 65536 && (all_fit 0 (c.ins) && list_all (ins_lands (marks_of (c.ins))) (c.ins))) d.0 in
+    let i2 = and_parts (nat_lt (size_from 0 (c.ins)) 65536) (all_fit 0 (c.ins) && list_all (ins_lands (marks_of (c.ins))) (c.ins)) i1.1 in
+    let i3 = and_parts (all_fit 0 (c.ins)) (list_all (ins_lands (marks_of (c.ins))) (c.ins)) i2.1 in
     let body = both (u4 _) (code ks 0 0 (c.ins) i3.0) in
     both (u2 _) (both (u2 _) (both body
     (both (list (spell_handler ks) (handler ks) (c.handlers)) (code_attributes ks entry (c.frames)))))
@@ -250,14 +249,14 @@ code_model ks entry c h =
 code_or_none : (ks : List Known) (bodiless : Bool) (entry : List Item) (o : Option CodeModel) → code_or_none_fits bodiless entry o ≡ true → InRange (spell_code_or_none ks entry o)
 code_or_none ks bodiless entry None h = u2 0
 code_or_none ks bodiless entry (Some c) h =
-    let p = both_true (not bodiless) (code_fits entry c) h in
+    let p = and_parts (not bodiless) (code_fits entry c) h in
     both (u2 1) (attribute ks (codes "Code") (spell_code_model ks entry c) (code_model ks entry c p.1))
 
 method : (ks : List Known) (class : List ℕ) (m : MethodModel) → method_fits class m ≡ true → InRange (spell_method ks class m)
 unfolding method_fits spell_method
 method ks class m h =
-    let p = both_true (is_u16 (m.flags)) (is_method_descriptor (m.descriptor) && code_or_none_fits (is_bodiless (m.flags)) (entry_of_method class m) (m.code)) h in
-    let q = both_true (is_method_descriptor (m.descriptor)) (code_or_none_fits (is_bodiless (m.flags)) (entry_of_method class m) (m.code)) p.1 in
+    let p = and_parts (is_u16 (m.flags)) (is_method_descriptor (m.descriptor) && code_or_none_fits (is_bodiless (m.flags)) (entry_of_method class m) (m.code)) h in
+    let q = and_parts (is_method_descriptor (m.descriptor)) (code_or_none_fits (is_bodiless (m.flags)) (entry_of_method class m) (m.code)) p.1 in
     both (u2 _) (both (u2 _) (both (u2 _) (code_or_none ks (is_bodiless (m.flags)) (entry_of_method class m) (m.code) q.1)))
 
 field : (ks : List Known) (f : FieldModel) → InRange (spell_field ks f)
@@ -283,16 +282,16 @@ methods ks class ms h = both (u2 _) (each_that (spell_method ks class) (method_f
 members : (ks : List Known) (c : ClassModel) → members_fit c ≡ true → InRange (spell_members ks c)
 unfolding members_fit spell_members
 members ks c h =
-    let a = both_true (is_u16 (c.flags)) (counts_fit c && (list_all field_fits (c.fields) && (list_all (method_fits (c.name)) (c.methods) && list_all inner_fits (c.inner)))) h in
-    let b = both_true (counts_fit c) (list_all field_fits (c.fields) && (list_all (method_fits (c.name)) (c.methods) && list_all inner_fits (c.inner))) a.1 in
-    let d = both_true (list_all field_fits (c.fields)) (list_all (method_fits (c.name)) (c.methods) && list_all inner_fits (c.inner)) b.1 in
-    let e = both_true (list_all (method_fits (c.name)) (c.methods)) (list_all inner_fits (c.inner)) d.1 in
+    let a = and_parts (is_u16 (c.flags)) (counts_fit c && (list_all field_fits (c.fields) && (list_all (method_fits (c.name)) (c.methods) && list_all inner_fits (c.inner)))) h in
+    let b = and_parts (counts_fit c) (list_all field_fits (c.fields) && (list_all (method_fits (c.name)) (c.methods) && list_all inner_fits (c.inner))) a.1 in
+    let d = and_parts (list_all field_fits (c.fields)) (list_all (method_fits (c.name)) (c.methods) && list_all inner_fits (c.inner)) b.1 in
+    let e = and_parts (list_all (method_fits (c.name)) (c.methods)) (list_all inner_fits (c.inner)) d.1 in
     both (u2 _) (both (u2 _) (both (class_or_none ks (c.superclass)) (both (list (spell_interface ks) (interface ks) (c.interfaces))
     (both (list (spell_field ks) (field ks) (c.fields)) (both (methods ks (c.name) (c.methods) e.0) (inners ks (c.inner)))))))
 
 pub file_ranged : (c : ClassModel) → fits_of c ≡ true → Ranged (file_of c)
 unfolding fits_of pool_fits file_of
 file_ranged c h =
-    let p = both_true (members_fit c) (list_all known_fits (uses c) && _) h in
-    let q = both_true (list_all known_fits (uses c)) _ p.1 in
+    let p = and_parts (members_fit c) (list_all known_fits (uses c) && _) h in
+    let q = and_parts (list_all known_fits (uses c)) _ p.1 in
     (both (head (pool_for c) (all_adds known_fits [] (uses c) refl q.0)) (members (pool_for c) c p.0)).ok

@@ -2,16 +2,16 @@
 use Rattle.std.proofs.Common.{◌≡◌, ◌<◌, ◌≤◌, ℕ, zero, suc, ◌+◌, ◌-◌, Bool, true, false, cond, ltb, eqb, List, [], ◌∷◌, ◌++◌, length, take, drop, refl, sym, ap, ◌∙◌, arith}
 use lib.Dec.{leb}
 use Rattle.std.specs.Prelude.{◌&&◌}
-use Rattle.std.proofs.lemmas.Bool.{ltb-true, leb-true, eqb-true, eq-eqb, ne_eqb, lt-ltb, le-ltb, le-leb, ltb-false}
+use Rattle.std.proofs.lemmas.Bool.{ltb-true, leb-true, eqb-true, eq-eqb, ne_eqb, lt-ltb, le-ltb, le-leb, ltb-false, and_parts}
 use Rattle.std.proofs.lemmas.List.{length-append, length-drop, length-take-le, take_all, drop_at}
 use Rattle.std.proofs.lemmas.Slice.Eq.{bytes_eq-Decides}
+use Rattle.jc_rules.proofs.Truths.{not_both}
 use Rattle.jc_class_out.specs.declared.forms.Form.{Form}
 use Rattle.jc_class_out.specs.declared.forms.Form.TheVariants.{Same, SameItem, Chop, Append, Full}
 use Rattle.jc_class_out.specs.declared.model.Frame.{Frame}
 use Rattle.jc_class_out.specs.declared.model.Item.{Item}
 use Rattle.jc_class_out.specs.declared.model.Item.TheVariants as item
 use Rattle.jc_class_out.specs.Forms.{same_item, alike, bare_form, form_of, last_of}
-use Rattle.jc_class_out.proofs.Numbers.{both_true}
 
 -- ---- items that are the same
 
@@ -45,7 +45,7 @@ unfolding alike
 alike_more [] ys h le = refl
 alike_more (x ∷ xs) [] h le = absurd (omega (arith, le))
 alike_more (x ∷ xs) (y ∷ ys) h le =
-    let p = both_true (same_item x y) (alike xs ys) h in
+    let p = and_parts (same_item x y) (alike xs ys) h in
     let ih = alike_more xs ys p.1 (omega (arith, le)) in
     let e : x ≡ y = same_item_true x y p.0 in
     rw e (ap (λ (l : List Item). y ∷ l) ih)
@@ -55,7 +55,7 @@ unfolding alike
 alike_less xs [] h le = refl
 alike_less [] (y ∷ ys) h le = absurd (omega (arith, le))
 alike_less (x ∷ xs) (y ∷ ys) h le =
-    let p = both_true (same_item x y) (alike xs ys) h in
+    let p = and_parts (same_item x y) (alike xs ys) h in
     let ih = alike_less xs ys p.1 (omega (arith, le)) in
     let e : x ≡ y = same_item_true x y p.0 in
     rw e (ap (λ (l : List Item). y ∷ l) ih)
@@ -85,9 +85,6 @@ FormIs seen f SameItem = (f.locals ≡ seen) × (length f.stack ≡ 1)
 FormIs seen f (Chop k) = (0 < k) × (k ≤ 3) × (k ≤ length seen) × (f.locals ≡ take (length seen - k) seen) × (f.stack ≡ [])
 FormIs seen f (Append k) = (0 < k) × (k ≤ 3) × (length (last_of k f.locals) ≡ k) × (f.locals ≡ seen ++ last_of k f.locals) × (f.stack ≡ [])
 FormIs seen f Full = Unit {0}
-
-not_both : (b : Bool) → b ≡ true → b ≡ false → ⊥
-not_both b h g = absurd cc
 
 no_items : (xs : List Item) → length xs ≡ 0 → xs ≡ []
 no_items [] h = refl

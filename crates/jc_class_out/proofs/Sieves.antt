@@ -5,6 +5,7 @@ use Rattle.std.specs.Prelude.{◌&&◌, ◌||◌, nat_lt}
 use Rattle.std.specs.List.{filter}
 use Rattle.std.proofs.lemmas.Bool.{ltb-true, ltb-false, lt-ltb, le-ltb, eqb-true, eqb-false, ne_eqb, leb-true, leb-false, le-leb, lt-leb}
 use Rattle.std.proofs.lemmas.List.{length-append}
+use Rattle.jc_rules.proofs.Truths.{or_none, not_both as clash}
 use Rattle.jc_class_out.specs.Pool.{Known}
 use Rattle.jc_class_out.specs.Spelling.{Told, has, add, adds, same_known}
 use Rattle.jc_class_out.specs.Sifting.{spread, is_of, sift, sifted, SieveSees}
@@ -85,13 +86,6 @@ record Split (p q : Known → Bool) (ks ps qs : List Known) : Type 0 where
   size : length ks ≡ length ps + length qs
   first : (k : Known) → p k ≡ true → has ks k ≡ has ps k
   second : (k : Known) → q k ≡ true → has ks k ≡ has qs k
-
-clash : (b : Bool) → b ≡ true → b ≡ false → ⊥
-clash b h g = absurd cc
-
-or_none : (a : Bool) → (a || false) ≡ a
-or_none true = refl
-or_none false = refl
 
 length_add : (ks : List Known) (k : Known) (b : Bool) → length (cond b ks (ks ++ k ∷ [])) ≡ cond b (length ks) (length ks + 1)
 length_add ks k true = refl

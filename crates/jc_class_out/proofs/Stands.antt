@@ -2,6 +2,7 @@
 use Rattle.std.proofs.Common.{◌≡◌, ◌<◌, ℕ, zero, suc, ◌-◌, ℤ, Bool, true, false, eqb, List, [], ◌∷◌, ◌++◌, length, Option, Some, None, Result, Ok, Err, refl, sym, ap, subst, ◌∙◌, arith}
 use Rattle.std.specs.Prelude.{◌&&◌, slice_get, option_and_then}
 use Rattle.std.specs.List.{AllByRecursion}
+use Rattle.std.proofs.lemmas.Bool.{and_parts}
 use Rattle.jc_class_out.specs.declared.format.Entry.{Entry}
 use Rattle.jc_class_out.specs.declared.format.Entry.TheVariants as entry
 use Rattle.jc_class_out.specs.declared.format.Flaw.{Flaw}
@@ -12,7 +13,6 @@ use Rattle.jc_class_out.specs.Descriptors.{is_field_descriptor, is_method_descri
 use Rattle.jc_class_out.specs.Pool.{Known, KnownText, KnownWhole, KnownLong, KnownBehind, KnownClass, KnownLiteral, KnownField, KnownMethod, KnownInterface, KnownPair, entry_of, a_text, text_of, a_class, class_of, both, a_pair, pair_of, member_by, one_by, two_by, known_of_entry, known_of, tag_of, tag_at, pending_of, text_is, pair_is, is_descriptor, check_member, check_entry, check_slot}
 use Rattle.jc_class_out.specs.Spelling.{class_uses, pair_uses, member_uses}
 use Rattle.jc_class_out.specs.Fitting.{known_fits}
-use Rattle.jc_class_out.proofs.Numbers.{both_true}
 use Rattle.jc_class_out.proofs.PoolGood.{EntryOk, SlotsOk, IsChecked, PoolOk}
 
 -- ---- look-ups that found something
@@ -329,7 +329,7 @@ member_tested : (pool : List Slot) (left : ℕ) (test : List ℕ → Bool) (clas
 member_tested pool left test class pair m p h e =
     let t = then_ok (wants (eqb (tag_at pool class) 7) (left - 1)) (wants (eqb (tag_at pool pair) 12 && pair_is test (pair_of pool pair)) (left - 3)) m h in
     let b = wants_ok (eqb (tag_at pool pair) 12 && pair_is test (pair_of pool pair)) (left - 3) m t in
-    let q = both_true (eqb (tag_at pool pair) 12) (pair_is test (pair_of pool pair)) b in
+    let q = and_parts (eqb (tag_at pool pair) 12) (pair_is test (pair_of pool pair)) b in
     sym (ap (pair_is test) e) ∙ q.1
 
 behind_fits : (o : Option Entry) (k : Known) → behind_of o ≡ Some k → known_fits k ≡ true

@@ -4,12 +4,12 @@ use lib.Dec.{leb}
 use Rattle.std.specs.Prelude.{◌||◌}
 use Rattle.std.specs.List.{list_all}
 use Rattle.std.specs.Int.{w16, to_be_bytes}
-use Rattle.std.proofs.lemmas.Bool.{cases_lt, ltb-true, le-ltb, lt-ltb, le-leb, ne_eqb}
+use Rattle.std.proofs.lemmas.Bool.{cases_lt, ltb-true, le-ltb, lt-ltb, le-leb, ne_eqb, or_right, and_parts, or_left}
 use Rattle.std.proofs.lemmas.List.{take_at, drop_at, length-append}
 use Rattle.jc_class_out.specs.Texts.{unit_bytes, text_bytes, unit_at, units_on, text_of_bytes}
 use Rattle.jc_class_out.specs.Pool.{text_at}
 use Rattle.jc_class_out.specs.Fitting.{text_fits, is_u16}
-use Rattle.jc_class_out.proofs.Numbers.{both_true, u2_again, whole_u2}
+use Rattle.jc_class_out.proofs.Numbers.{u2_again, whole_u2}
 
 one_again : (u : ℕ) (rest : List ℕ) → 0 < u → u < 0x80 → unit_at (u ∷ rest) ≡ Some (u, rest)
 one_again u rest h g = rw (le-leb 1 u h, lt-ltb u 0x80 g) refl
@@ -25,13 +25,6 @@ two_again u rest h g =
 
 three_by : (a b c : ℕ) (rest : List ℕ) → 0xE0 ≤ a → a < 0xF0 → 0x80 ≤ b → b < 0xC0 → 0x80 ≤ c → c < 0xC0 → (leb 0xE1 a || leb 0xA0 b) ≡ true → unit_at (a ∷ b ∷ c ∷ rest) ≡ Some ((a - 0xE0) * 4096 + (b - 0x80) * 64 + (c - 0x80), rest)
 three_by a b c rest h g k l m n long = rw (le-leb 1 a (omega (arith, h)), le-ltb a 0x80 (omega (arith, h)), le-leb 0xC0 a (omega (arith, h)), le-ltb a 0xE0 h, le-leb 0xE0 a h, lt-ltb a 0xF0 g, le-leb 0x80 b k, lt-ltb b 0xC0 l, le-leb 0x80 c m, lt-ltb c 0xC0 n, long) refl
-
-or_right : (a b : Bool) → b ≡ true → (a || b) ≡ true
-or_right true b h = refl
-or_right false b h = h
-
-or_left : (a b : Bool) → a ≡ true → (a || b) ≡ true
-or_left a b h = rw h refl
 
 three_long : (u : ℕ) → 0x800 ≤ u → u < 2 ^ 16 → (leb 0xE1 (0xE0 + u / 4096) || leb 0xA0 (0x80 + u / 64 % 64)) ≡ true
 three_long u h g = elim (cases_lt u 4096) [
@@ -56,12 +49,6 @@ unit_again (suc v) rest g =
         | inr b ↦ rw (nz, le-ltb u 0x80 a, le-ltb u 0x800 b) (three_again u rest b g)
       ]
     ]
-
--- a unit has a first byte
-record Bytes (u : ℕ) : Type 0 where
-  first : ℕ
-  more : List ℕ
-  is : unit_bytes u ≡ first ∷ more
 
 bytes_by : (a b c : Bool) (p q r s : List ℕ) (x y z w : ℕ) (ps qs rs ss : List ℕ) → (P : List ℕ → Type 0) → P (x ∷ ps) → P (y ∷ qs) → P (z ∷ rs) → P (w ∷ ss) → P (cond a (x ∷ ps) (cond b (y ∷ qs) (cond c (z ∷ rs) (w ∷ ss))))
 bytes_by true b c p q r s x y z w ps qs rs ss P i j k l = i
@@ -91,20 +78,20 @@ units_again (u ∷ us) zero h le =
     let s = starts u in
     absurd (omega (arith, le, length-append (unit_bytes u) (text_bytes us), ap length s.2))
 units_again (u ∷ us) (suc n) h le =
-    let p = both_true (is_u16 u) (list_all is_u16 us) h in
+    let p = and_parts (is_u16 u) (list_all is_u16 us) h in
     let s = starts u in
     let l : length (text_bytes us) ≤ n = omega (arith, le, length-append (unit_bytes u) (text_bytes us), ap length s.2) in
     units_step n u (unit_bytes u) (text_bytes us) us s (unit_again u (text_bytes us) (ltb-true u 65536 p.0)) (units_again us n p.1 l)
 
 pub text_bytes_again : (t : List ℕ) → text_fits t ≡ true → text_of_bytes (text_bytes t) ≡ Some t
 unfolding text_fits
-text_bytes_again t h = units_again t (length (text_bytes t)) ((both_true (list_all is_u16 t) (ltb (length (text_bytes t)) 65536) h).0) (omega arith)
+text_bytes_again t h = units_again t (length (text_bytes t)) ((and_parts (list_all is_u16 t) (ltb (length (text_bytes t)) 65536) h).0) (omega arith)
 
 pub text_again : (t rest : List ℕ) → text_fits t ≡ true → text_at ((to_be_bytes w16 (length (text_bytes t) % 65536) ++ text_bytes t) ++ rest) ≡ Ok (t, rest)
 unfolding text_at text_fits
 text_again t rest h =
     let bytes = text_bytes t in
-    let lt : length (text_bytes t) < 65536 = ltb-true _ _ ((both_true (list_all is_u16 t) (ltb (length (text_bytes t)) 65536) h).1) in
+    let lt : length (text_bytes t) < 65536 = ltb-true _ _ ((and_parts (list_all is_u16 t) (ltb (length (text_bytes t)) 65536) h).1) in
     let e : length (text_bytes t) % 65536 ≡ length (text_bytes t) = whole_u2 (length (text_bytes t)) lt in
     let regrouped : (to_be_bytes w16 (length (text_bytes t)) ++ text_bytes t) ++ rest ≡ to_be_bytes w16 (length (text_bytes t)) ++ (text_bytes t ++ rest) = append_assoc (to_be_bytes w16 (length (text_bytes t))) (text_bytes t) rest in
     let long : ltb (length (text_bytes t ++ rest)) (length (text_bytes t)) ≡ false = le-ltb _ _ (omega (arith, length-append (text_bytes t) rest)) in

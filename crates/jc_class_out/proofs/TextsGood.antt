@@ -3,11 +3,10 @@ use Rattle.std.proofs.Common.{◌≡◌, ◌<◌, ◌≤◌, ℕ, zero, suc, ◌
 use lib.Dec.{leb}
 use Rattle.std.specs.Prelude.{◌&&◌, ◌||◌, option_and_then, nat_lt, nat_le}
 use Rattle.std.specs.List.{list_all}
-use Rattle.std.proofs.lemmas.Bool.{ltb-true, leb-true, eqb-true, ne_eqb, lt-ltb, le-ltb, or_cases}
+use Rattle.std.proofs.lemmas.Bool.{ltb-true, leb-true, eqb-true, ne_eqb, lt-ltb, le-ltb, or_cases, and_parts}
 use Rattle.std.proofs.lemmas.List.{length-append}
 use Rattle.jc_class_out.specs.Texts.{unit_bytes, text_bytes, is_more, two, three, unit_at, units_on, text_of_bytes}
 use Rattle.jc_class_out.specs.Fitting.{is_u16}
-use Rattle.jc_class_out.proofs.Numbers.{both_true}
 
 -- what holds of all that there may be
 record Sure {A : Type 0} (P : A → Type 0) (o : Option A) : Type 0 where
@@ -48,23 +47,23 @@ three_long u h = rw (ne_eqb u 0 (λ e. omega (arith, e, h)), le-ltb u 0x80 (omeg
 
 one_good : (a : ℕ) (rest : List ℕ) → (nat_le 1 a && nat_lt a 0x80) ≡ true → UnitOk (a ∷ rest) (a, rest)
 one_good a rest h =
-    let p = both_true (nat_le 1 a) (nat_lt a 0x80) h in
+    let p = and_parts (nat_le 1 a) (nat_lt a 0x80) h in
     let lo = leb-true 1 a p.0 in
     let hi = ltb-true a 0x80 p.1 in
     (omega (arith, hi), omega (arith, one_long a lo hi))
 
 two_size : (a b : ℕ) → 0xC0 ≤ a → a < 0xE0 → 0x80 ≤ b → b < 0xC0 → ((eqb a 0xC0 && eqb b 0x80) || leb 0xC2 a) ≡ true → length (unit_bytes ((a - 0xC0) * 64 + (b - 0x80))) ≡ 2
 two_size a b h g i j t = elim (or_cases (eqb a 0xC0 && eqb b 0x80) (leb 0xC2 a) t) [
-  | inl z ↦ (let p = both_true (eqb a 0xC0) (eqb b 0x80) z in let n : (a - 0xC0) * 64 + (b - 0x80) ≡ 0 = omega (arith, eqb-true a 0xC0 p.0, eqb-true b 0x80 p.1) in rw n refl)
+  | inl z ↦ (let p = and_parts (eqb a 0xC0) (eqb b 0x80) z in let n : (a - 0xC0) * 64 + (b - 0x80) ≡ 0 = omega (arith, eqb-true a 0xC0 p.0, eqb-true b 0x80 p.1) in rw n refl)
   | inr z ↦ (let le = leb-true 0xC2 a z in two_long ((a - 0xC0) * 64 + (b - 0x80)) (omega (arith, le, g, i, j)) (omega (arith, le, g, i, j)))
 ]
 
 two_good : (a : ℕ) (rest : List ℕ) → (nat_le 0xC0 a && nat_lt a 0xE0) ≡ true → Sure (UnitOk (a ∷ rest)) (two a rest)
 two_good a [] h = sure_none (UnitOk (a ∷ []))
 two_good a (b ∷ rest) h = sure_if (UnitOk (a ∷ b ∷ rest)) (is_more b && ((eqb a 0xC0 && eqb b 0x80) || leb 0xC2 a)) _ _ (λ t.
-    let p = both_true (nat_le 0xC0 a) (nat_lt a 0xE0) h in
-    let q = both_true (is_more b) ((eqb a 0xC0 && eqb b 0x80) || leb 0xC2 a) t in
-    let m = both_true (nat_le 0x80 b) (nat_lt b 0xC0) q.0 in
+    let p = and_parts (nat_le 0xC0 a) (nat_lt a 0xE0) h in
+    let q = and_parts (is_more b) ((eqb a 0xC0 && eqb b 0x80) || leb 0xC2 a) t in
+    let m = and_parts (nat_le 0x80 b) (nat_lt b 0xC0) q.0 in
     let alo = leb-true 0xC0 a p.0 in
     let ahi = ltb-true a 0xE0 p.1 in
     let blo = leb-true 0x80 b m.0 in
@@ -81,11 +80,11 @@ three_good : (a : ℕ) (rest : List ℕ) → (nat_le 0xE0 a && nat_lt a 0xF0) �
 three_good a [] h = sure_none (UnitOk (a ∷ []))
 three_good a (b ∷ []) h = sure_none (UnitOk (a ∷ b ∷ []))
 three_good a (b ∷ c ∷ rest) h = sure_if (UnitOk (a ∷ b ∷ c ∷ rest)) (is_more b && (is_more c && (leb 0xE1 a || leb 0xA0 b))) _ _ (λ t.
-    let p = both_true (nat_le 0xE0 a) (nat_lt a 0xF0) h in
-    let q = both_true (is_more b) (is_more c && (leb 0xE1 a || leb 0xA0 b)) t in
-    let s = both_true (is_more c) (leb 0xE1 a || leb 0xA0 b) q.1 in
-    let m = both_true (nat_le 0x80 b) (nat_lt b 0xC0) q.0 in
-    let n = both_true (nat_le 0x80 c) (nat_lt c 0xC0) s.0 in
+    let p = and_parts (nat_le 0xE0 a) (nat_lt a 0xF0) h in
+    let q = and_parts (is_more b) (is_more c && (leb 0xE1 a || leb 0xA0 b)) t in
+    let s = and_parts (is_more c) (leb 0xE1 a || leb 0xA0 b) q.1 in
+    let m = and_parts (nat_le 0x80 b) (nat_lt b 0xC0) q.0 in
+    let n = and_parts (nat_le 0x80 c) (nat_lt c 0xC0) s.0 in
     let alo = leb-true 0xE0 a p.0 in
     let ahi = ltb-true a 0xF0 p.1 in
     let blo = leb-true 0x80 b m.0 in

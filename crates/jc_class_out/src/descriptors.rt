@@ -1,7 +1,6 @@
 //! Descriptors of fields and methods (JVMS 4.3).
-ghost use Rattle.std.specs.Prelude.{◌≡◌, ◌+◌, ◌≤◌, MatchOption, None, Some, true, false, length, codes};
-ghost use Rattle.std.specs.Str.{bytes_eq};
-ghost use Rattle.jc_class_out.specs.Descriptors.{is_base, name_end, type_end, nothing_left, is_field_descriptor, units_of_type, parameters_on, is_result, units_if, parameter_units, is_method_descriptor};
+ghost use Rattle.std.specs.Prelude.{◌≡◌, ◌+◌, ◌≤◌, MatchOption, None, Some, true, false, length};
+ghost use Rattle.jc_class_out.specs.Descriptors.{is_base, name_end, type_end, is_field_descriptor, units_of_type, parameters_on, is_result, parameter_units, is_method_descriptor};
 
 fn base(unit: u16) -> bool
     ensures { result ≡ is_base unit }

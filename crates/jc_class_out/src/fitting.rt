@@ -1,15 +1,12 @@
 //! Whether what a class says has room in the fields of a file.
 ghost use Rattle.std.specs.Prelude.{◌≡◌, ◌≤◌, ◌+◌, ◌*◌, ◌<◌, ◌^◌, ◌&&◌, true, false, nat_lt, MatchOption, None, Some, length, take, replicate, ◌++◌, ◌∷◌, ◌-◌};
 ghost use Rattle.std.specs.List.{list_all};
-ghost use Rattle.jc_class_out.specs.Descriptors.{parameter_units, or_zero, is_field_descriptor, is_method_descriptor};
-ghost use Rattle.jc_class_out.specs.Pool.{is_descriptor};
-ghost use Rattle.jc_class_out.specs.Texts.{unit_bytes, text_bytes};
 ghost use Rattle.jc_class_out.specs.Instructions.{target, is_above, operand_size, wide_size, ins_size};
 ghost use Rattle.jc_class_out.specs.Frames.{begins};
-ghost use Rattle.jc_class_out.specs.Code.{marks_of, marks_from, size_from, ends};
+ghost use Rattle.jc_class_out.specs.Code.{marks_of, size_from, ends};
 ghost use Rattle.jc_class_out.specs.Format.{is_bodiless};
 ghost use Rattle.jc_class_out.specs.Forms.{start_locals, place_before, locals_before};
-ghost use Rattle.jc_class_out.specs.Fitting.{IsSize, ItemsTake, FormTakes, FrameTakes, is_u8, is_u16, is_signed, is_count, text_fits, known_fits, is_nothing, is_number, is_array_number, is_array, is_local_below, is_step_below, is_loaded, is_load_of, is_load_long, is_member, is_interface_member, is_class_operand, is_dims, is_jump_from, cases_ascend, is_switch, operand_fits, wide_fits, ins_fits, all_fit, case_lands, operand_lands, ins_lands, handler_fits, item_fits, is_behind, items_fit, form_fits, frame_fits, frames_fit, item_length, items_length, form_length, frame_length, frames_within, frames_room, ins_all_fit, tables_fit, code_fits, code_or_none_fits, method_fits, field_fits, inner_fits, counts_fit, members_fit};
+ghost use Rattle.jc_class_out.specs.Fitting.{IsSize, ItemsTake, FormTakes, FrameTakes, is_u8, is_u16, is_signed, is_nothing, is_number, is_array_number, is_array, is_local_below, is_step_below, is_loaded, is_load_of, is_load_long, is_member, is_interface_member, is_class_operand, is_dims, is_jump_from, cases_ascend, is_switch, operand_fits, wide_fits, ins_fits, all_fit, case_lands, operand_lands, ins_lands, handler_fits, item_fits, is_behind, items_fit, form_fits, frame_fits, frames_fit, item_length, items_length, form_length, frame_length, frames_within, ins_all_fit, tables_fit, code_fits, code_or_none_fits, method_fits, field_fits, inner_fits, counts_fit, members_fit};
 
 use crate::descriptors::{field_descriptor, method_descriptor, units_of_parameters};
 use crate::forms::{

@@ -1,7 +1,7 @@
 //! The room that numbers and texts take in a file.
-ghost use Rattle.std.specs.Prelude.{◌≡◌, ◌+◌, ◌-◌, ◌^◌, ◌<◌, ◌&&◌, ◌||◌, min, true, cond, length, take, nat_lt, nat_le, ◌↔◌, IsTrue};
+ghost use Rattle.std.specs.Prelude.{◌≡◌, ◌+◌, ◌-◌, ◌^◌, ◌<◌, ◌&&◌, ◌||◌, min, true, length, take, nat_lt, nat_le, ◌↔◌, IsTrue};
 ghost use Rattle.std.specs.List.{list_all};
-ghost use Rattle.jc_class_out.specs.Texts.{unit_bytes, text_bytes};
+ghost use Rattle.jc_class_out.specs.Texts.{unit_bytes};
 ghost use Rattle.jc_class_out.specs.Pool.{is_descriptor};
 ghost use Rattle.jc_class_out.specs.Spelling.{known, same_known, has, loads_of, uses};
 ghost use Rattle.jc_class_out.specs.Format.{HasClassFile};

@@ -1,6 +1,5 @@
 //! Texts in modified UTF-8 (JVMS 4.4.7).
-ghost use Rattle.std.specs.Prelude.{◌≡◌, ◌++◌, ◌+◌, ◌≤◌, ◌*◌, OnOk, length};
-ghost use Rattle.std.specs.List.{flat_map};
+ghost use Rattle.std.specs.Prelude.{◌≡◌, ◌++◌, ◌+◌, ◌≤◌, ◌*◌, OnOk};
 ghost use Rattle.jc_class_out.specs.Texts.{unit_bytes, text_bytes};
 
 use jc_rules::WantOfMemory;

@@ -3,7 +3,7 @@ ghost use Rattle.std.specs.Prelude.{◌≡◌, ◌∷◌, [], OnOk};
 ghost use Rattle.std.specs.List.{flat_map};
 ghost use Rattle.jc_class_out.specs.Pool.{Known, KnownText};
 ghost use Rattle.jc_class_out.specs.Forms.{start_locals, locals_before, form_of};
-ghost use Rattle.jc_class_out.specs.Spelling.{known, Told, class_uses, pair_uses, class_or_none_uses, name_or_none_uses, loaded_uses, member_uses, operand_uses, ins_uses, first_uses, ins_first_uses, handler_uses, item_uses, form_uses, frames_uses, table_uses, code_uses, code_or_none_uses, method_uses, code_first_uses, method_first_uses, field_uses, inner_uses, inners_uses, members_uses, loads_of, uses};
+ghost use Rattle.jc_class_out.specs.Spelling.{known, Told, class_uses, pair_uses, class_or_none_uses, name_or_none_uses, loaded_uses, member_uses, operand_uses, ins_uses, ins_first_uses, handler_uses, item_uses, form_uses, frames_uses, table_uses, code_uses, code_or_none_uses, method_uses, method_first_uses, field_uses, inner_uses, inners_uses, members_uses, loads_of, uses};
 
 use crate::forms::{Before, Form, Start, locals_in, shortest, stack_in, start_of};
 use crate::kinds::kind;

@@ -2,7 +2,7 @@
 ghost use Rattle.std.specs.Prelude.{◌≡◌, ◌<◌, ◌++◌, IfOk, OnOk};
 ghost use Rattle.std.specs.List.{All};
 ghost use Rattle.jc_class_out.specs.Format.{IsClassFile, HasClassFile};
-ghost use Rattle.jc_class_out.specs.Spelling.{known, knowns, add, adds, uses, pool_for, file_of};
+ghost use Rattle.jc_class_out.specs.Spelling.{knowns, add, uses, pool_for, file_of};
 
 use crate::pool::{Pool, intern, put_head};
 use crate::uses::{Visitor, tell_uses};

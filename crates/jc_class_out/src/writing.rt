@@ -2,7 +2,7 @@
 ghost use Rattle.std.specs.Prelude.{◌≡◌, ◌++◌, ◌∷◌, [], ◌%◌, ◌^◌, ◌+◌, OnOk, length, replicate, None};
 ghost use Rattle.std.specs.List.{flat_map};
 ghost use Rattle.std.specs.Int.{w16, w32, w64, to_be_bytes, cast_unsigned};
-ghost use Rattle.jc_class_out.specs.Spelling.{knowns, known, number, index, wide_distance, distance, spell_case, spell_switch, interface_tail, spell_number, spell_load, spell_member, spell_operand, spell_wide, spell_ins, spell_code, spell_body, spell_handler, spell_class_or_none, spell_name_or_none, spell_item, counted, spell_near, spell_form, spell_frame, spell_frames, spell_attribute, spell_table, spell_code_attributes, spell_code_model, spell_code_or_none, spell_method, spell_field, spell_inner, spell_inners, spell_interface, spell_members};
+ghost use Rattle.jc_class_out.specs.Spelling.{knowns, known, number, index, wide_distance, spell_case, spell_switch, interface_tail, spell_number, spell_load, spell_member, spell_operand, spell_wide, spell_ins, spell_code, spell_body, spell_handler, spell_class_or_none, spell_name_or_none, spell_item, counted, spell_near, spell_form, spell_frame, spell_frames, spell_attribute, spell_table, spell_code_attributes, spell_code_model, spell_code_or_none, spell_method, spell_field, spell_inner, spell_inners, spell_interface, spell_members};
 ghost use Rattle.jc_class_out.specs.Spelling.{loaded_known, member_known};
 ghost use Rattle.jc_class_out.specs.Pool.{KnownText, KnownClass};
 ghost use Rattle.jc_class_out.specs.Instructions.{padding};

@@ -2,6 +2,8 @@
 use Rattle.std.proofs.lemmas.Bool.Decides.{nat_tests}
 use Rattle.std.proofs.Common.{◌≡◌, ◌⊎◌, inl, inr, ℕ, zero, suc, ◌==◌, ◌-◌, ◌<◌, arith, Bool, true, false, not, ◌&&◌, ◌||◌, Option, Some, None, List, [], ◌∷◌, ◌++◌, if◌then◌else◌, refl, sym, ap, subst, ◌∙◌}
 use Rattle.std.specs.List.{list_any}
+use Rattle.std.proofs.lemmas.Bool.{or_parts}
+use Rattle.jc_rules.proofs.Truths.{or_true}
 use Rattle.jc_types.specs.declared.form.Ty.{Ty}
 use Rattle.jc_types.specs.declared.ids.ClassId.{ClassId}
 use Rattle.jc_types.specs.declared.table.Table.{Table}
@@ -32,15 +34,6 @@ in_either x (y ∷ xs) ys (inr m) = by (in_either x xs ys m)
     by : IsIn x xs ⊎ IsIn x ys → IsIn x (y ∷ xs) ⊎ IsIn x ys
     by (inl m) = inl (inr m)
     by (inr m) = inr m
-
-or_true : (a : Bool) → (a || true) ≡ true
-or_true true = refl
-or_true false = refl
-
-or_both : (a b : Bool) → (a || b) ≡ false → (a ≡ false) × (b ≡ false)
-or_both false false e = (refl, refl)
-or_both false true e = cc
-or_both true b e = cc
 
 any_of : (f : Ty → Bool) (x : Ty) (xs : List Ty) → IsIn x xs → f x ≡ true → list_any f xs ≡ true
 any_of f x [] m e = absurd m
@@ -148,7 +141,7 @@ unique_all met (s ∷ ss) u =
 noted_all : (met ss : List Ty) → some_other met ss ≡ false → (x : Ty) → IsIn x ss → IsIn x (met ++ all_new met ss)
 noted_all met [] e x m = absurd m
 noted_all met (s ∷ ss) e x m =
-    let both = or_both (is_other met s) (some_other (met ++ if_new met s) ss) e in
+    let both = or_parts (is_other met s) (some_other (met ++ if_new met s) ss) e in
     subst (IsIn x) (assoc met (if_new met s) (all_new (met ++ if_new met s) ss)) (by both.0 (λ m. noted_all (met ++ if_new met s) ss both.1 x m) m)
   where
     by : is_other met s ≡ false → (IsIn x ss → IsIn x ((met ++ if_new met s) ++ all_new (met ++ if_new met s) ss)) → IsIn x (s ∷ ss) → IsIn x ((met ++ if_new met s) ++ all_new (met ++ if_new met s) ss)
@@ -301,7 +294,7 @@ complete : (T : Table) (n : ℕ) (met level : List Ty) → Unique met → Closed
 unfolding meets_other above_within
 complete T zero met level u c e = record { all = met; unique = u; kept = λ x m. m; above = λ v x o m. absurd m }
 complete T (suc n) met level u c e =
-    let parts = or_both (some_other met (all_supers T level)) (meets_other T n (met ++ next T met level) (next T met level)) e in
+    let parts = or_parts (some_other met (all_supers T level)) (meets_other T n (met ++ next T met level) (next T met level)) e in
     made parts.0 (complete T n (met ++ next T met level) (next T met level) (unique_all met (all_supers T level) u) (closed_more T met level parts.0 c) parts.1)
   where
     reach : (rest : Reached T n (met ++ next T met level) (next T met level)) (x s : Ty) → IsIn s (met ++ next T met level) → (x ≡ s) ⊎ IsIn x (above_within T n s) → IsIn x rest.all

@@ -2,15 +2,13 @@
 use Rattle.std.proofs.Common.{◌≡◌, ℕ, ◌==◌, Bool, true, false, cond, Option, Some, None, List, [], ◌∷◌, ◌++◌, if◌then◌else◌, arith, refl, sym, ap, ◌∙◌}
 use Rattle.std.specs.Prelude.{nat_eq}
 use Rattle.std.proofs.lemmas.Bool.Decides.{nat_tests}
+use Rattle.jc_rules.proofs.Truths.{same_number}
 use Rattle.jc_types.specs.declared.form.Ty.{Ty}
 use Rattle.jc_types.specs.declared.ids.ClassId.{ClassId}
 use Rattle.jc_judge.specs.Kinds.{class_of}
 use Rattle.jc_judge.specs.Views.{is_class}
 use Rattle.jc_header_rules.specs.Inheriting.{is_of_class}
 use Rattle.jc_class_rules.specs.Climbing.{AreFirsts, first_with, met_as}
-
-pub firsts_begin : (firsts : ℕ → Option Ty) → ((l : ℕ) → firsts l ≡ None) → AreFirsts firsts []
-firsts_begin firsts none = λ s k e. none k.0
 
 pub met_none : (met : List Ty) (s : Ty) → class_of s ≡ None → met_as met s ≡ None
 met_none [] s e = refl
@@ -42,9 +40,6 @@ same_test a b e = grind (arith, nat_tests)
 
 other_test : (a b : ℕ) → nat_eq a b ≡ false → (a == b) ≡ false
 other_test a b e = grind (arith, nat_tests)
-
-same_number : (a b : ℕ) → nat_eq a b ≡ true → a ≡ b
-same_number a b e = grind (arith, nat_tests)
 
 pub first_more : (old new : ℕ → Option Ty) (met : List Ty) (s : Ty) → AreFirsts old met → met_as met s ≡ None → ((l : ℕ) → new l ≡ first_with old (class_of s) s l) → AreFirsts new (met ++ s ∷ [])
 first_more old new met s firsts none put = λ u k e. put k.0 ∙ by_class u k e (class_of s) refl

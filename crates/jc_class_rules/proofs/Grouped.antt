@@ -1,10 +1,11 @@
 -- The members of a class agree where those of each name do.
 use Rattle.std.proofs.lemmas.Bool.Decides.{nat_tests}
-use Rattle.std.proofs.lemmas.Slice.Eq.{bytes_eq-Decides}
 use Rattle.std.proofs.Common.{◌≡◌, ◌⊎◌, inl, inr, nat_eq, ℕ, zero, suc, ◌+◌, ◌<◌, ◌≤◌, ◌==◌, arith, Bool, true, false, not, ◌&&◌, ◌||◌, cond, Option, Some, None, List, [], ◌∷◌, ◌++◌, length, refl, sym, ap, subst, ◌∙◌}
 use Rattle.std.specs.List.{list_any}
 use Rattle.std.specs.Option.{option_to_list}
 use Rattle.std.specs.Str.{bytes_eq}
+use Rattle.std.proofs.lemmas.Bool.{and_right}
+use Rattle.jc_rules.proofs.Truths.{same_bytes, own_bytes, other_bytes, self_equal, equal_numbers}
 use Rattle.jc_types.specs.declared.declarations.MethodDecl.{MethodDecl}
 use Rattle.jc_types.specs.declared.form.Ty.{Ty}
 use Rattle.jc_types.specs.declared.ids.ClassId.{ClassId}
@@ -93,23 +94,6 @@ each_no f (x ∷ xs) = ap (both (no_if (f x))) (each_no f xs) ∙ no_either (f x
 
 -- ---- names
 
-same_bytes : (a b : List ℕ) → bytes_eq a b ≡ true → a ≡ b
-same_bytes a b e = (bytes_eq-Decides a b).0 e
-
-own_bytes : (a : List ℕ) → bytes_eq a a ≡ true
-own_bytes a = (bytes_eq-Decides a a).1 refl
-
-other_bytes : (a b : List ℕ) → bytes_eq a b ≡ false → bytes_eq b a ≡ false
-other_bytes a b e = by (bytes_eq b a) refl
-  where
-    by : (c : Bool) → bytes_eq b a ≡ c → c ≡ false
-    by true f = let g : bytes_eq a b ≡ true = subst (λ x. bytes_eq a x ≡ true) (sym (same_bytes b a f)) (own_bytes a) in cc
-    by false f = refl
-
-and_false : (a b : Bool) → b ≡ false → (a && b) ≡ false
-and_false true b e = e
-and_false false b e = refl
-
 -- those that have this name
 abbrev named_only : Table → List ℕ → List MethodView → List MethodView
 named_only T x [] = []
@@ -130,18 +114,18 @@ module _ (T : Table) (x : List ℕ) (v w : MethodView) (named : has_name T x v.i
       ap (λ b. (b && (same_signature v w || is_erasure T v w)) || subsignature T w v) turned ∙ ap (λ b. b && (same_signature w v || is_erasure T w v)) away
 
   not_meeting : (k : ClassId) → meets T k v w ≡ false
-  not_meeting k = and_false (not (v.id.0 == w.id.0) && not (same_class (owner T v.id) k) && not (same_class (owner T w.id) k)) (override_equivalent T v w) not_equivalent
+  not_meeting k = and_right (not (v.id.0 == w.id.0) && not (same_class (owner T v.id) k) && not (same_class (owner T w.id) k)) (override_equivalent T v w) not_equivalent
 
   not_below : own_below T w.id v.id ≡ false
   not_below =
-      and_false (is_above T (owner T w.id) (owner T v.id) && is_inheritable T (owner T w.id) v.id) (subsignature_of T (class_view T (owner T w.id) w.id) (class_view T (owner T w.id) v.id))
+      and_right (is_above T (owner T w.id) (owner T v.id) && is_inheritable T (owner T w.id) v.id) (subsignature_of T (class_view T (owner T w.id) w.id) (class_view T (owner T w.id) v.id))
       (unnamed T (owner T w.id) w.id v.id away)
 
   not_overridden : overrides T w.id v.id ≡ false
-  not_overridden = overrides_told T w.id v.id ∙ and_false (is_instance T w.id && is_instance T v.id) (own_below T w.id v.id) not_below
+  not_overridden = overrides_told T w.id v.id ∙ and_right (is_instance T w.id && is_instance T v.id) (own_below T w.id v.id) not_below
 
   not_hidden : hides T w.id v.id ≡ false
-  not_hidden = hides_told T w.id v.id ∙ and_false (is_method T w.id && is_method T v.id && is_static T w.id && is_static T v.id) (own_below T w.id v.id) not_below
+  not_hidden = hides_told T w.id v.id ∙ and_right (is_method T w.id && is_method T v.id && is_static T w.id && is_static T v.id) (own_below T w.id v.id) not_below
 
 -- ---- what is asked of a member, beside those of its name
 
@@ -334,12 +318,6 @@ module _ (T : Table) (t : Ty) where
           subst (λ n. is_viewed (view T (owner T n) t) ≡ true) (sym (id_of_view T t (record { 0 = i }) v e)) (viewed_owner T t (record { 0 = i }) v e)
       by (inr m) h = h m
 
-is_self : (n : ℕ) → (n == n) ≡ true
-is_self n = grind (arith, nat_tests)
-
-number : (a b : ℕ) → (a == b) ≡ true → a ≡ b
-number a b e = grind (arith, nat_tests)
-
 beyond : (a b : ℕ) → (a == b) ≡ false → b ≤ a → suc b ≤ a
 beyond a b e le = grind (arith, nat_tests)
 
@@ -348,10 +326,10 @@ in_picked test i zero r from to e = absurd (omega arith)
 in_picked test i (suc n) r from to e = by (test i) (r.0 == i) refl refl (λ low. in_picked test (suc i) n r low (omega arith) e)
   where
     by : (t b : Bool) → test i ≡ t → (r.0 == i) ≡ b → (suc i ≤ r.0 → In r (ids_of (picked test (suc i) n))) → In r (ids_of (cond t (i ∷ []) [] ++ picked test (suc i) n))
-    by true true g f h = inl (ap (λ j. record { 0 = j }) (number r.0 i f))
+    by true true g f h = inl (ap (λ j. record { 0 = j }) (equal_numbers r.0 i f))
     by true false g f h = inr (h (beyond r.0 i f from))
     by false true g f h =
-        let here : test i ≡ true = subst (λ j. test j ≡ true) (number r.0 i f) e in cc
+        let here : test i ≡ true = subst (λ j. test j ≡ true) (equal_numbers r.0 i f) e in cc
     by false false g f h = h (beyond r.0 i f from)
 
 member_stands : (T : Table) (k : ClassId) (v : MethodView) → In v (all_members T k) → In v.id (standing T k)
@@ -421,7 +399,7 @@ module _ (T : Table) (k : ClassId) where
 -- ---- few members
 
 meets_none : (T : Table) (k : ClassId) (v : MethodView) → meets T k v v ≡ false
-meets_none T k v = ap (λ b. not b && not (same_class (owner T v.id) k) && not (same_class (owner T v.id) k) && override_equivalent T v v) (is_self v.id.0)
+meets_none T k v = ap (λ b. not b && not (same_class (owner T v.id) k) && not (same_class (owner T v.id) k) && override_equivalent T v v) (self_equal v.id.0)
 
 one_alone : (T : Table) (k : ClassId) (v : MethodView) → all_answers (fitting T k (v ∷ [])) (v ∷ []) ≡ Yes
 unfolding fitting meets_badly
@@ -606,7 +584,7 @@ class_joined T k ids r e f = f ∙ all_told (name_agrees T k) ids ∙ ap (all_an
 module _ (T : Table) (k : ClassId) (x : List ℕ) where
   no_candidate : (m : MethodId) → stands_in T k m ≡ false → if_candidate T (own_type T k) m ≡ []
   no_candidate m out =
-      ap (λ b. cond b (m ∷ []) []) (and_false (is_candidate T (own_type T k) m) (has_method T (own_type T k) m) (by (method_owner_of T m) out))
+      ap (λ b. cond b (m ∷ []) []) (and_right (is_candidate T (own_type T k) m) (has_method T (own_type T k) m) (by (method_owner_of T m) out))
     where
       second : (a b : Bool) → (a || b) ≡ false → b ≡ false
       second true b e = cc
@@ -667,7 +645,7 @@ module _ (T : Table) (k : ClassId) (index : MethodIndex) (known : IsMethodIndex 
   seen_more old new o r h e is more g there = subst (λ a. both a (group g) ≡ a) (sym is) (by o e (sym (more g) ∙ there))
     where
       at : (j : ℕ) (b : Bool) → nat_eq j g ≡ b → Some j ≡ named (method_name_of T m) index.names → cond b true (old g) ≡ true → both (both answer (name_agrees T k m)) (group g) ≡ both answer (name_agrees T k m)
-      at j true f e t = ap (both (both answer (name_agrees T k m))) (sym (by_group g (sym e ∙ ap Some (number j g f)))) ∙ twice
+      at j true f e t = ap (both (both answer (name_agrees T k m))) (sym (by_group g (sym e ∙ ap Some (equal_numbers j g f)))) ∙ twice
       at j false f e t = kept (group g) (h g t)
 
       by : (o : Option ℕ) → o ≡ named (method_name_of T m) index.names → marked_with old o g ≡ true → both (both answer (name_agrees T k m)) (group g) ≡ both answer (name_agrees T k m)

@@ -2,6 +2,8 @@
 use Rattle.std.proofs.lemmas.Bool.Decides.{nat_tests}
 use Rattle.std.proofs.Common.{◌≡◌, ℕ, suc, ◌+◌, arith, Bool, true, false, not, ◌&&◌, ◌||◌, cond, Option, Some, None, List, [], ◌∷◌, ◌++◌, length, if◌then◌else◌, add-one, refl, sym, ap, ◌∙◌}
 use Rattle.std.specs.List.{list_any}
+use Rattle.std.proofs.lemmas.Bool.{or_parts}
+use Rattle.jc_rules.proofs.Truths.{and_none}
 use Rattle.jc_rules.specs.declared.rule.Place.{Place}
 use Rattle.jc_rules.specs.declared.rule.Refusal.{Refusal}
 use Rattle.jc_types.specs.declared.declarations.MethodDecl.{MethodDecl}
@@ -47,22 +49,14 @@ agreement_least found true Deep place = sym (later found (at 511 place) (at 512 
 
 -- ---- methods of classes that aren't above are left open by none
 
-none_of : (a b : Bool) → (a || b) ≡ false → (a ≡ false) × (b ≡ false)
-none_of true b e = cc
-none_of false b e = (refl, e)
-
-and_false : (b : Bool) → (b && false) ≡ false
-and_false true = refl
-and_false false = refl
-
 module _ (T : Table) (k : ClassId) where
   not_open : (m : MethodId) → stands_in T k m ≡ false → is_left_open T k m ≡ false
   not_open m out =
-      let apart = none_of (same_class (owner T m) k) (is_viewed (view T (owner T m) (own_type T k))) out in
+      let apart = or_parts (same_class (owner T m) k) (is_viewed (view T (owner T m) (own_type T k))) out in
       let not_above : is_member_above T k m ≡ false =
       ap (λ b. b || (is_above T k (owner T m) && is_inheritable T k m)) apart.0 ∙ ap (λ b. not (same_class k (owner T m)) && b && is_inheritable T k m) apart.1
-      ∙ ap (λ b. b && is_inheritable T k m) (and_false (not (same_class k (owner T m)))) in
-      ap (λ b. is_instance T m && is_abstract T m && b && is_none (select T k m)) not_above ∙ ap (λ b. b && is_none (select T k m)) (and_false (is_instance T m && is_abstract T m))
+      ∙ ap (λ b. b && is_inheritable T k m) (and_none (not (same_class k (owner T m)))) in
+      ap (λ b. is_instance T m && is_abstract T m && b && is_none (select T k m)) not_above ∙ ap (λ b. b && is_none (select T k m)) (and_none (is_instance T m && is_abstract T m))
 
   open_from : (i : ℕ) (ds : List MethodDecl) → list_any (is_left_open T k) (ids_of (picked (is_standing T k) i (length ds))) ≡ leaves_open T k i ds
   open_from i [] = refl

@@ -1,5 +1,5 @@
 //! The stage of headers at classes.
-ghost use Rattle.std.specs.Prelude.{◌≡◌, ◌&&◌, Some, IfOk, slice_get};
+ghost use Rattle.std.specs.Prelude.{◌≡◌, ◌&&◌, IfOk};
 ghost use Rattle.jc_types.specs.Breaks.{least};
 ghost use Rattle.jc_overriding.specs.Viewing.{own_type};
 ghost use Rattle.jc_members.specs.Named.{IsMethodIndex};

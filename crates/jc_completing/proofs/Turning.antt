@@ -25,10 +25,6 @@ turns_at (suc k) turn i (suc u) t h g =
     let b : u ≡ suc u - 1 = omega arith in
     rw (← a, ← b) refl
 
-pub finally_none : (P : TypedProgram) (r : e.Inner) (run : Stmt → TypedRun Completion) (k : ℕ) (m : TypedRun Completion) (ss : List Stmt) (u : ℕ) (t : TypedState)
-    → ss ≡ [] → s.finally P r run k m ss u t ≡ m u t
-finally_none P r run k m ss u t h = rw h refl
-
 pub finally_some : (P : TypedProgram) (r : e.Inner) (run : Stmt → TypedRun Completion) (k : ℕ) (m : TypedRun Completion) (ss : List Stmt) (u : ℕ) (t : TypedState)
     → (ss ≡ [] → ⊥) → s.finally P r run k m ss u t
     ≡ both_ways m (λ c. bind (s.run_all P r run k ss) (λ d. instead d (give c))) (λ a. bind (s.run_all P r run k ss) (λ d. instead d (throw a))) u t

@@ -9,7 +9,6 @@ ghost use Rattle.jc_pending.specs.Level as l;
 ghost use Rattle.jc_pending.specs.Statements.{completion_task};
 ghost use Rattle.jc_pending.specs.declared.statements.CompletionTask.TheVariants as t;
 ghost use Rattle.jc_running.specs.declared.value.Completion.{Completion};
-ghost use Rattle.jc_meaning.specs.Kept.{TypedRun};
 ghost use Rattle.jc_typed.specs.Trees.{StmtForm};
 
 use crate::listing::{arms_back, stmts_back};

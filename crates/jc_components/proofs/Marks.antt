@@ -16,9 +16,6 @@ first_of [] ys j l = absurd (omega arith)
 first_of (x ∷ xs) ys zero l = refl
 first_of (x ∷ xs) ys (suc j) l = first_of xs ys j (omega arith)
 
-pub none_reached : (rows : List (List ℕ)) → AreReached rows [] 0
-none_reached rows = record { count = refl; told = λ c l. absurd (omega arith) }
-
 marked_first : (marks : List Bool) (b : Bool) (c : ℕ) → c < length marks → is_marked (marks ++ b ∷ []) c ≡ is_marked marks c
 marked_first marks b c l = ap or_false (first_of marks (b ∷ []) c l)
 

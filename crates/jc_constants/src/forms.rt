@@ -1,5 +1,5 @@
 //! Expressions by their forms.
-ghost use Rattle.std.specs.Prelude.{◌≡◌, ◌∷◌, ◌++◌, [], Some, map, IfOk, OnOk};
+ghost use Rattle.std.specs.Prelude.{◌≡◌, ◌∷◌, ◌++◌, [], Some, map, IfOk};
 ghost use Rattle.jc_declares.specs.Constants.{formed_expr, as_expr, literal_constant, binary_operator, conditional, chained, prefixed, cast_formed, all_parts, constant_of};
 ghost use Rattle.jc_looking.specs.Members.{known_in};
 ghost use Rattle.jc_looking.specs.Scenes.{IsScene};

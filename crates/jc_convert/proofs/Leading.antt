@@ -1,5 +1,7 @@
 -- The steps of each row of the tables lead from the one type to the other.
 use Rattle.std.proofs.Common.{◌≡◌, ◌⊎◌, ◌==◌, ◌&&◌, Bool, true, false, Option, Some, None, List, [], ◌∷◌, if◌then◌else◌, inl, inr, refl, sym, ap, subst, ◌∙◌}
+use Rattle.std.proofs.lemmas.Bool.{and_from}
+use Rattle.jc_rules.proofs.Truths.{and_first, and_second}
 use Rattle.jc_types.specs.declared.constant.Constant.{Constant}
 use Rattle.jc_types.specs.declared.constant.Constant.TheVariants.{Whole, Text}
 use Rattle.jc_types.specs.declared.conversion.Conversion.{Conversion}
@@ -44,18 +46,6 @@ truth_yes : (b : Bool) → truth b ≡ Yes → b ≡ true
 truth_yes true e = refl
 truth_yes false e = cc
 
-first_true : (a b : Bool) → (a && b) ≡ true → a ≡ true
-first_true true b e = refl
-first_true false b e = cc
-
-second_true : (a b : Bool) → (a && b) ≡ true → b ≡ true
-second_true true b e = e
-second_true false b e = cc
-
-both_true : (a b : Bool) → a ≡ true → b ≡ true → (a && b) ≡ true
-both_true true b e f = f
-both_true false b e f = cc
-
 same_primitive : (p q : Primitive) → (prim_number p == prim_number q) ≡ true → Prim p ≡ Prim q
 same_primitive Boolean Boolean e = refl
 same_primitive Byte Byte e = refl
@@ -85,7 +75,7 @@ fits_numeric (Some (Text units)) q e = cc
 
 narrows_numeric : (c : Option Constant) (p q : Primitive) → narrows c p q ≡ true → (is_numeric p && is_numeric q) ≡ true
 narrows_numeric c p q e =
-    both_true _ _ (small_numeric p (first_true (is_small p) _ e)) (fits_numeric c q (second_true (is_small p) _ e))
+    and_from _ _ (small_numeric p (and_first (is_small p) _ e)) (fits_numeric c q (and_second (is_small p) _ e))
 
 -- ---- steps
 
@@ -129,8 +119,8 @@ boxes_unchecked T env p t e = (box T p, boxed T p, (t, (refl, inr (inl (refl, e)
 -- a constant that narrows to q and is boxed
 boxes_constant : (T : Table) (env : List Bounds) (c : Option Constant) (p : Primitive) (t : Ty) (q : Primitive) → narrows_to_box T c p t q ≡ true → LeadsBy T env (Prim p) t (checked (Narrow q ∷ BoxUp ∷ []))
 boxes_constant T env c p t q e =
-    let is : t ≡ box T q = same_told t (box T q) (first_true (same t (box T q)) _ e) in
-    let ok = narrows_numeric c p q (second_true (same t (box T q)) _ e) in
+    let is : t ≡ box T q = same_told t (box T q) (and_first (same t (box T q)) _ e) in
+    let ok = narrows_numeric c p q (and_second (same t (box T q)) _ e) in
     (Prim q, record { from = p; is_from = refl; is_to = refl; holds = ok }, (t, record { of = q; is_primitive = refl; is_class = is }, refl))
 
 -- ---- unboxing

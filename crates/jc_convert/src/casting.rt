@@ -4,7 +4,7 @@ ghost use Rattle.jc_types.specs.declared.form.Ty.{out-Ty};
 ghost use Rattle.jc_judge.specs.Meeting.{as_one};
 ghost use Rattle.jc_convert.specs.Rows.{first_row};
 ghost use Rattle.jc_convert.specs.Converting.{unboxed};
-ghost use Rattle.jc_convert.specs.Casting.{is_numeric, primitive_casts, narrowing_casts, reference_casts, boxing_casts, bound_within, bound_of, unboxing_check, unboxing_casts, casts_from_primitive, casts_from_reference, cast};
+ghost use Rattle.jc_convert.specs.Casting.{is_numeric, primitive_casts, narrowing_casts, reference_casts, bound_within, bound_of, unboxing_check, unboxing_casts, casts_from_primitive, casts_from_reference, cast};
 
 use crate::answer::Converts;
 use crate::boxing::{box_type, primitive_below, unboxed, unboxing};

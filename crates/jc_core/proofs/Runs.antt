@@ -1,11 +1,11 @@
 -- Runs, one step after the other.
-use Rattle.std.proofs.Common.{◌≡◌, ◌+◌, ◌∙◌, ◌++◌, ◌∷◌, [], ℕ, zero, suc, List, drop, refl, sym, ap, subst, arith, append_assoc, true}
+use Rattle.std.proofs.Common.{◌≡◌, ◌+◌, ◌∙◌, ◌++◌, ◌∷◌, [], ℕ, zero, suc, List, drop, refl, sym, ap, subst, arith, true}
 use Rattle.std.specs.Prelude.{is_some, slice_get}
 use Rattle.std.proofs.lemmas.List.{append-nil}
 use Rattle.std.specs.declared.option.Option.{Option}
 use Rattle.std.specs.declared.option.Option.TheVariants.{Some, None}
 use Rattle.jc_class_out.specs.declared.model.ClassModel.{ClassModel}
-use Rattle.jc_jvm.specs.Calls.{Step, Moves, Asks, Quiet, Puts}
+use Rattle.jc_jvm.specs.Calls.{Step, Moves, Asks, Quiet}
 use Rattle.jc_jvm.specs.Runs.{Run, ending_of, failed_checks, failing, run_by, run_of, rests}
 use Rattle.jc_jvm.specs.Table.{step_of}
 use Rattle.jc_jvm.specs.Thrown.{State, Going, Over}
@@ -32,24 +32,7 @@ told-same : (output output' : List ℕ) (taken taken' : ℕ) (after : State) →
 told-same output output' taken taken' after o t =
     ap (λ (x : List ℕ). let r : Told = record { output = x; taken = taken; after = after } in r) o ∙ ap (λ (x : ℕ). let r : Told = record { output = output'; taken = x; after = after } in r) t
 
--- a run whose first step shows nothing
-pub run_quiet : (classes : List ClassModel) (n m : ℕ) (s after : State) (input : List ℕ) → m ≡ suc n → step_of classes s ≡ Moves Quiet after → told (run_of classes m s input) ≡ told (run_of classes n after input)
-run_quiet classes n m s after input at is = told-suc classes n m s input (Moves Quiet after) at is
-
 -- ---- a run that was seen so far, over steps up to one that is seen, which leave so many
-
--- nothing is seen of the last
-pub run_went : (classes : List ClassModel) (out input : List ℕ) (taken n m : ℕ) (s after : State) (whole : Told) → told (run_of classes n s input) ≡ told (run_by (Moves Quiet after) input (run_of classes m)) →
-    ahead out taken (told (run_of classes n s input)) ≡ whole → ahead out taken (told (run_of classes m after input)) ≡ whole
-run_went classes out input taken n m s after whole is so = ap (λ (t : Told). ahead out taken t) (sym is) ∙ so
-
--- a byte goes out
-pub run_put : (classes : List ClassModel) (out more input : List ℕ) (taken n m byte : ℕ) (s after : State) (whole : Told) → told (run_of classes n s input) ≡ told (run_by (Moves (Puts byte) after) input (run_of classes m)) → more ≡ out ++ byte ∷ [] →
-    ahead out taken (told (run_of classes n s input)) ≡ whole → ahead more taken (told (run_of classes m after input)) ≡ whole
-run_put classes out more input taken n m byte s after whole is grown so =
-    let rest = run_of classes m after input in
-    told-same (more ++ rest.output) (out ++ byte ∷ rest.output) (taken + rest.taken) (taken + rest.taken) rest.after (ap (λ (xs : List ℕ). xs ++ rest.output) grown ∙ append_assoc out (byte ∷ []) rest.output) refl
-    ∙ ap (λ (t : Told). ahead out taken t) (sym is) ∙ so
 
 beyond : (xs : List ℕ) (k : ℕ) → slice_get xs k ≡ None → drop k xs ≡ []
 beyond [] zero e = refl

@@ -2,6 +2,7 @@
 use Rattle.std.proofs.Common.{arith, ◌≡◌, ◌<◌, ℕ, zero, suc, ◌&&◌, Bool, true, false, Option, Some, None, List, [], ◌∷◌, length, slice_get, refl, sym, ap, subst}
 use Rattle.std.specs.Prelude.{◌==◌, ◌||◌}
 use Rattle.std.proofs.lemmas.Grind.{common_steps}
+use Rattle.jc_rules.proofs.Truths.{and_second, and_first}
 use Rattle.jc_declares.specs.declared.heads.Heads.{Heads}
 use Rattle.jc_declares.specs.Heads.{Named, supers_of}
 use Rattle.jc_declares.specs.Looking.{Knowledge, has}
@@ -14,14 +15,6 @@ record Opened (H : Heads) (K : Knowledge) (c : ℕ) : Type 0 where
   supers : List ℕ
   found : written_supers H K c (supers_of H c) ≡ Some supers
 
-right_true : (a b : Bool) → (a && b) ≡ true → b ≡ true
-right_true true b e = e
-right_true false b e = cc
-
-left_true : (a b : Bool) → (a && b) ≡ true → a ≡ true
-left_true true b e = refl
-left_true false b e = e
-
 module _ (H : Heads) (K : Knowledge) (c : ℕ) (k : Named) where
   by_supers : (o : Option (List ℕ)) → written_supers H K c (supers_of H c) ≡ o → all_known K (needs H K c) ≡ true → settled_by H K c o ≡ Some k → Opened H K c
   by_supers None f r e = cc
@@ -29,7 +22,7 @@ module _ (H : Heads) (K : Knowledge) (c : ℕ) (k : Named) where
 
   by_all : (b : Bool) → (is_some (slice_get H.classes c) && all_known K (needs H K c)) ≡ b → if_all b (settled_by H K c (written_supers H K c (supers_of H c))) ≡ Some k → Opened H K c
   by_all false r e = cc
-  by_all true r e = by_supers (written_supers H K c (supers_of H c)) refl (right_true (is_some (slice_get H.classes c)) _ r) e
+  by_all true r e = by_supers (written_supers H K c (supers_of H c)) refl (and_second (is_some (slice_get H.classes c)) _ r) e
 
   opened : settled H K c ≡ Some k → Opened H K c
   opened e = by_all (is_some (slice_get H.classes c) && all_known K (needs H K c)) refl e
@@ -40,13 +33,13 @@ told (Some k) e = (k, refl)
 
 each_known : (K : Knowledge) (cs : List ℕ) (d : ℕ) → all_known K cs ≡ true → has d cs ≡ true → is_some (K d) ≡ true
 each_known K [] d e m = cc
-each_known K (c ∷ cs) d e m = by (d == c) refl m (each_known K cs d (right_true _ _ e))
+each_known K (c ∷ cs) d e m = by (d == c) refl m (each_known K cs d (and_second _ _ e))
   where
     equal : (a b : ℕ) → (a == b) ≡ true → a ≡ b
     equal a b e = grind (arith, common_steps)
 
     by : (b : Bool) → (d == c) ≡ b → (b || has d cs) ≡ true → (has d cs ≡ true → is_some (K d) ≡ true) → is_some (K d) ≡ true
-    by true s m f = subst (λ x. is_some (K x) ≡ true) (sym (equal d c s)) (left_true _ _ e)
+    by true s m f = subst (λ x. is_some (K x) ≡ true) (sym (equal d c s)) (and_first _ _ e)
     by false s m f = f m
 
 module _ (H : Heads) where

@@ -3,6 +3,7 @@ use Rattle.std.proofs.Common.{◌≡◌, ◌⊎◌, inl, inr, ◌<◌, ◌≤◌
 use Rattle.std.specs.Prelude.{cond, ◌==◌, ◌||◌}
 use Rattle.std.proofs.lemmas.Grind.{common_steps}
 use Rattle.std.proofs.lemmas.Option.{slice_get_within, slice_get_past}
+use Rattle.jc_rules.proofs.Truths.{is_less, less_is}
 use Rattle.jc_declares.specs.declared.heads.Heads.{Heads}
 use Rattle.jc_declares.specs.Looking.{Knowledge, has}
 use Rattle.jc_declares.specs.Heads.{Named}
@@ -41,12 +42,6 @@ has_in c (d ∷ cs) e = by (c == d) refl e (has_in c cs)
     by true s e f = inl (equal c d s)
     by false s e f = inr (f e)
 
-below : (c n : ℕ) → nat_lt c n ≡ true → c < n
-below c n e = grind (arith, common_steps)
-
-is_below : (c n : ℕ) → c < n → nat_lt c n ≡ true
-is_below c n l = grind (arith, common_steps)
-
 in_places : (n x : ℕ) (cs : List ℕ) → IsIn x (places n cs) → IsIn x cs × (x < n)
 in_places n x [] m = absurd m
 in_places n x (c ∷ cs) m = by (nat_lt c n) refl m (in_places n x cs)
@@ -55,7 +50,7 @@ in_places n x (c ∷ cs) m = by (nat_lt c n) refl m (in_places n x cs)
     further_in p = (inr p.0, p.1)
 
     first : nat_lt c n ≡ true → x ≡ c → IsIn x (c ∷ cs) × (x < n)
-    first s e = (inl e, subst (λ k. k < n) (sym e) (below c n s))
+    first s e = (inl e, subst (λ k. k < n) (sym e) (is_less c n s))
 
     by : (b : Bool) → nat_lt c n ≡ b → IsIn x (cond b (c ∷ []) [] ++ places n cs) → (IsIn x (places n cs) → IsIn x cs × (x < n)) → IsIn x (c ∷ cs) × (x < n)
     by true s (inl e) f = first s e
@@ -67,7 +62,7 @@ placed_in n x [] m l = absurd m
 placed_in n x (c ∷ cs) m l = by (nat_lt c n) refl m (λ i. placed_in n x cs i l)
   where
     not_below : {A : Type 0} → nat_lt c n ≡ false → x ≡ c → A
-    not_below s e = let t : nat_lt c n ≡ true = is_below c n (subst (λ k. k < n) e l) in cc
+    not_below s e = let t : nat_lt c n ≡ true = less_is c n (subst (λ k. k < n) e l) in cc
 
     by : (b : Bool) → nat_lt c n ≡ b → IsIn x (c ∷ cs) → (IsIn x cs → IsIn x (places n cs)) → IsIn x (cond b (c ∷ []) [] ++ places n cs)
     by true s (inl e) f = inl e

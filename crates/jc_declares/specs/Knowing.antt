@@ -125,9 +125,6 @@ abbrev pub or_none : Option (List ℕ) → List ℕ
 or_none None = []
 or_none (Some cs) = cs
 
-abbrev pub direct_supers : Heads → ℕ → List ℕ
-direct_supers H c = or_none (written_supers H (known H) c (supers_of H c))
-
 -- ---- cycles (JLS 8.1.4, 9.1.3)
 
 -- class d is needed by class c, or by what it needs

@@ -1,7 +1,7 @@
 //! Runs of a program from its beginning.
 ghost use Rattle.std.specs.Prelude.{IfOk, [], ◌≡◌};
 ghost use Rattle.jc_meaning.specs.Calls as c;
-ghost use Rattle.jc_meaning.specs.Meaning.{main_outcome, meaning, outcome, run_main, run_static, seen};
+ghost use Rattle.jc_meaning.specs.Meaning.{main_outcome, meaning, outcome, run_main, seen};
 ghost use Rattle.jc_meaning.specs.Programs.{method_class};
 ghost use Rattle.jc_meaning.specs.Kept.{TypedState};
 ghost use Rattle.jc_running.specs.Outcomes.{Out, behind};

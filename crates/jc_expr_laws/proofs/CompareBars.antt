@@ -2,6 +2,7 @@
 use Rattle.std.proofs.Common.{◌≡◌, ℕ, ◌≤◌, Bool, true, false, cond, List, [], ◌∷◌, ◌++◌, length, refl, sym, ap, ◌∙◌, subst, ⊎_elim, ◌⊎◌, inl, inr, arith}
 use Rattle.std.proofs.lemmas.Bool.{false≢true, and_parts, and_from, cond_both, cond-false}
 use Rattle.std.specs.Prelude.{◌&&◌, not}
+use Rattle.jc_rules.proofs.Truths.{not_false as not_true}
 use Rattle.jc_lexer.specs.declared.token.Token.{Token}
 use Rattle.jc_reading.specs.Kinds.{kind_code, is_in, front_code, one_of}
 use Rattle.jc_reading.specs.Reading.{Read, Found, Stopped}
@@ -10,10 +11,6 @@ use Rattle.jc_reading.proofs.Forms.{Form, Stands, Begins, Lawful}
 use Rattle.jc_reading.proofs.Stepwise.{Steady}
 use Rattle.jc_reading.specs.Reach.{Within}
 use Rattle.jc_expr_laws.specs.CompareReading.{barring}
-
-not_true : (b : Bool) → not b ≡ true → b ≡ false
-not_true true e = absurd (false≢true e)
-not_true false e = refl
 
 not_false : (b : Bool) → b ≡ false → not b ≡ true
 not_false true e = absurd (false≢true (sym e))

@@ -5,6 +5,7 @@ use Rattle.std.proofs.lemmas.Bool.{false≢true, and_left, and_parts, or_cases, 
 use Rattle.std.proofs.lemmas.Grind.{common_steps}
 use Rattle.std.specs.Prelude.{◌&&◌, ◌||◌, not, nat_le}
 use Rattle.std.specs.List.{list_all}
+use Rattle.jc_rules.proofs.Truths.{and_assoc}
 use Rattle.jc_lexer.specs.declared.token.Sign.TheVariants as sign_of
 use Rattle.jc_lexer.specs.declared.token.Token.{Token}
 use Rattle.jc_tree.specs.declared.expression.Creation.{Creation, Creation-F, out-Creation, roll-Creation, roll-out-Creation}
@@ -66,10 +67,6 @@ shuffle_object true a s true g k l = ap (λ b. b) (shuffle_four a s g k l)
     shuffle_four a s g k l = grind (arith, common_steps)
 shuffle_object true a s false g k l = grind (arith, common_steps)
 shuffle_object false a s d g k l = refl
-
-and_again : (a b c : Bool) → ((a && b) && c) ≡ (a && (b && c))
-and_again true b c = refl
-and_again false b c = refl
 
 module _ (h : ℕ) (expr : Run Expr) (array : Run ArrayInit) (below : Below h expr array) where
   abbrev ATail : Coded ArrayTail
@@ -172,7 +169,7 @@ module _ (h : ℕ) (expr : Run Expr) (array : Run ArrayInit) (below : Below h ex
   fit_array : (el : BaseTree) (t : ArrayTail) → creation_fits (array_creation el t) ≡ (nat_le (base_height el) h && ATail.fits t)
   fit_array el (u, This p) =
       good_of (creation_of.Initialised el p.1.0 p.1.1) _ _ (creation_height-Initialised el p.1.0 p.1.1) (creation_shape-Initialised el p.1.0 p.1.1)
-      ∙ ap (λ b. b && is_array p.1.1) (room_max (base_height el) (array_height p.1.1) h) ∙ and_again (nat_le (base_height el) h) (nat_le (array_height p.1.1) h) (is_array p.1.1)
+      ∙ ap (λ b. b && is_array p.1.1) (room_max (base_height el) (array_height p.1.1) h) ∙ and_assoc (nat_le (base_height el) h) (nat_le (array_height p.1.1) h) (is_array p.1.1)
   fit_array el (u, That p) =
       let more : List Expr = sizes p.1.1.0 in
       good_of (creation_of.Sized el p.0 more p.1.1.1) _ _ (creation_height-Sized el p.0 more p.1.1.1) (creation_shape-Sized el p.0 more p.1.1.1)

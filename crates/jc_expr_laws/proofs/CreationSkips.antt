@@ -3,6 +3,7 @@ use Rattle.std.proofs.Common.{◌≡◌, ℕ, zero, suc, Bool, true, false, cond
 use Rattle.std.proofs.Math.Bool.{and-true}
 use Rattle.std.proofs.lemmas.Bool.{false≢true, and_left, cond-false}
 use Rattle.std.specs.Prelude.{◌&&◌, not, nat_le}
+use Rattle.jc_rules.proofs.Truths.{not_false}
 use Rattle.jc_lexer.specs.declared.token.Key.{Key}
 use Rattle.jc_lexer.specs.declared.token.Key.TheVariants as key_of
 use Rattle.jc_lexer.specs.declared.token.Sign.{Sign}
@@ -64,15 +65,11 @@ from_test false k j e = (refl, some_is k j e)
 abbrev plain_kind : TokenKind → Bool
 plain_kind k = not (is_brace k)
 
-not_brace : (b : Bool) → not b ≡ true → b ≡ false
-not_brace true e = absurd (false≢true e)
-not_brace false e = refl
-
 skipped_picks : PicksSome TokenKind skipped_codes picks_skipped (λ k. told k None) plain_kind
 skipped_picks = record {
   tells = λ t k e. ((from_test (is_brace t.kind) t.kind k e).1, tt, λ q. absurd (false≢true q), λ q. absurd (false≢true q));
   fitting = λ t k e. let w = from_test (is_brace t.kind) t.kind k e in ap (λ j. not (is_brace j)) (sym w.1) ∙ ap not w.0;
-  picks = λ t k i g. ap (λ j. cond (is_brace j) None (Some j)) i.0 ∙ cond-false (is_brace k) None (Some k) (not_brace (is_brace k) g);
+  picks = λ t k i g. ap (λ j. cond (is_brace j) None (Some j)) i.0 ∙ cond-false (is_brace k) None (Some k) (not_false (is_brace k) g);
   coded = λ t k e. kind_skipped t.kind (from_test (is_brace t.kind) t.kind k e).0;
   apart = λ k. refl;
   sample = record { kind = kind_of.Key key_of.Null; from = 0; to = 0; touches = false };

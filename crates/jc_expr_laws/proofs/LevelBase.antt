@@ -3,6 +3,7 @@ use Rattle.std.proofs.Common.{◌≡◌, ℕ, ◌≤◌, Bool, true, false, List
 use Rattle.std.proofs.Math.Path.{fun_ext}
 use Rattle.std.proofs.lemmas.Bool.{false≢true, and_parts, and_from, or_left, leb-true, le-leb}
 use Rattle.std.specs.Prelude.{◌&&◌, nat_le, not}
+use Rattle.jc_rules.proofs.Truths.{as_true}
 use Rattle.jc_lexer.specs.declared.token.Sign.TheVariants as sign_of
 use Rattle.jc_lexer.specs.declared.token.Token.{Token}
 use Rattle.jc_tree.specs.declared.expression.ArrayInit.{ArrayInit}
@@ -54,11 +55,6 @@ low_post e h g =
     subst (λ (z : Shape). stands 14 z ≡ true) (sym (expr_shape-out e))
     (low_layer (out-Expr e) (subst (λ (n : ℕ). n ≤ 1) (expr_height-out e) (leb-true (expr_height e) 1 h)) (sym (ap (λ (z : Shape). z.good) (expr_shape-out e)) ∙ g))
 
-same_bool : (a b : Bool) → (a ≡ true → b ≡ true) → (b ≡ true → a ≡ true) → a ≡ b
-same_bool true b f g = sym (f refl)
-same_bool false true f g = g refl
-same_bool false false f g = refl
-
 module _ (post : Run Expr) (lp : Lawful Expr (formed (post_coded 1 post))) where
   abbrev Post : Expr → Bool
   Post e = nat_le (expr_height e) 1 && stands 14 (expr_shape e)
@@ -66,7 +62,7 @@ module _ (post : Run Expr) (lp : Lawful Expr (formed (post_coded 1 post))) where
   lowest : (fits : Expr → Bool) (starts goes : List Token → Bool) → ((e : Expr) → Post e ≡ true → fits e ≡ true) → ((e : Expr) → fits e ≡ true → Post e ≡ true) → ((ts : List Token) → one_of bare_codes ts ≡ true → starts ts ≡ true) → ((ts : List Token) → one_of post_goes ts ≡ true → goes ts ≡ true) →
       Lawful Expr (record { tell = expr_tokens; fits = fits; run = post; starts = starts; goes_on = goes; empties = false })
   lowest fits starts goes f g s t =
-      let same : Post ≡ fits = fun_ext (λ e. same_bool (Post e) (fits e) (f e) (g e)) in
+      let same : Post ≡ fits = fun_ext (λ e. as_true (Post e) (fits e) (f e) (g e)) in
       loosened_laws Expr (record { tell = expr_tokens; fits = fits; run = post; starts = one_of bare_codes; goes_on = one_of post_goes; empties = false }) starts goes
       (subst (λ (x : Expr → Bool). Lawful Expr (record { tell = expr_tokens; fits = x; run = post; starts = one_of bare_codes; goes_on = one_of post_goes; empties = false })) same lp) s t
 

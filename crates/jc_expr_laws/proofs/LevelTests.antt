@@ -2,6 +2,7 @@
 use Rattle.std.proofs.Common.{◌≡◌, ℕ, Bool, true, false, cond, List, [], ◌∷◌, ◌++◌, refl, sym, ◌∙◌, subst, ⊎_elim}
 use Rattle.std.proofs.lemmas.Bool.{false≢true, eqb-true, eq-eqb, or_left, or_right, or_cases, and_parts, cond-true}
 use Rattle.std.specs.Prelude.{◌==◌, ◌&&◌, ◌||◌, not}
+use Rattle.jc_rules.proofs.Truths.{not_false}
 use Rattle.jc_lexer.specs.declared.token.Token.{Token}
 use Rattle.jc_reading.specs.Kinds.{kind_code, is_in, front_code, one_of}
 use Rattle.jc_reading.proofs.Signs.{none_common, apart_sets, all_in, within_sets}
@@ -33,10 +34,6 @@ abbrev pub clashes : List (List ℕ) → List (List ℕ) → Bool
 clashes [] others = true
 clashes (op ∷ ops) others = clashes_with op others && clashes ops others
 
-not_in : (b : Bool) → not b ≡ true → b ≡ false
-not_in true e = absurd (false≢true e)
-not_in false e = refl
-
 not_so : (b : Bool) → (b ≡ true → ⊥) → b ≡ false
 not_so true f = absurd (f refl)
 not_so false f = refl
@@ -46,7 +43,7 @@ no_operand : (c : ℕ) (codes : List ℕ) (ts : List Token) → not (is_in expr_
 no_operand c codes [] n m e = false≢true m
 no_operand c codes (t ∷ ts) n m e =
     let k = eqb-true (kind_code t.kind) c (and_parts (kind_code t.kind == c) (matches codes ts) m).0 in
-    false≢true (sym (not_in (is_in expr_codes c) n) ∙ subst (λ (j : ℕ). is_in expr_codes j ≡ true) k e)
+    false≢true (sym (not_false (is_in expr_codes c) n) ∙ subst (λ (j : ℕ). is_in expr_codes j ≡ true) k e)
 
 clash_apart : (cs ds : List ℕ) (ts : List Token) → clash cs ds ≡ true → matches cs ts ≡ true → matches ds ts ≡ true → ⊥
 clash_apart [] [] ts c m n = false≢true c

@@ -3,6 +3,7 @@ use Rattle.std.proofs.Common.{◌≡◌, ℕ, map, length, refl, sym, ap, ◌∙
 use Rattle.std.proofs.lemmas.Bool.{false≢true, and_parts}
 use Rattle.std.specs.Prelude.{◌&&◌, ◌||◌, ◌==◌, ◌+◌, not, nat_le, [], ◌∷◌, Bool, List, None, Some, false, true}
 use Rattle.std.specs.List.{list_all}
+use Rattle.jc_rules.proofs.Truths.{not_false}
 use Rattle.jc_tree.specs.declared.expression.AssignOp.TheVariants as assign_of
 use Rattle.jc_tree.specs.declared.expression.BinaryOp.TheVariants as binary_of
 use Rattle.jc_lexer.specs.declared.token.Key.TheVariants as key_of
@@ -96,10 +97,6 @@ diamond_closed : (diamond : Bool) → Closed (diamond_tokens diamond)
 diamond_closed true = seq (token (sign sign_of.Less) (λ s. refl)) (token (sign sign_of.Greater) (λ s. refl))
 diamond_closed false = nothing
 
-not_brace : (b : Bool) → not b ≡ true → b ≡ false
-not_brace true e = absurd (false≢true e)
-not_brace false e = refl
-
 abbrev PartClosed : SkipPart → Type 0
 PartClosed x = is_skip_part x ≡ true → Inside (skip_part_tokens x)
 
@@ -117,7 +114,7 @@ plain_skip_part y = map-SkipPart SomeSkipPart SomeSkip SkipPart Skip (λ z. z.0)
 
 skip_part_layer : (y : SkipPart-F SomeSkipPart SomeSkip) → skip_part_step (map-SkipPart SkipPart Skip Bool Bool is_skip_part is_skip (plain_skip_part y)) ≡ true → Inside (skip_part_told (map-SkipPart SkipPart Skip Spelled Spelled skip_part_tokens skip_tokens (plain_skip_part y)))
 skip_part_layer (SkipPart-F.Inner skip) g = also_inside (skip.1 g)
-skip_part_layer (SkipPart-F.Token kind) g = token_inside (told kind None) (λ a c. no_brace kind a c (not_brace (is_brace kind) g))
+skip_part_layer (SkipPart-F.Token kind) g = token_inside (told kind None) (λ a c. no_brace kind a c (not_false (is_brace kind) g))
 
 skip_part_rolled : (y : SkipPart-F SomeSkipPart SomeSkip) → PartClosed (roll-SkipPart (plain_skip_part y))
 unfolding skip_part_tokens skip_tokens is_skip_part is_skip

@@ -3,6 +3,7 @@ use Rattle.std.proofs.Common.{◌≡◌, ℕ, suc, Bool, true, false, List, [], 
 use Rattle.std.proofs.Math.Bool.{and-true}
 use Rattle.std.proofs.lemmas.Bool.{false≢true, and_left, and_parts, and_from}
 use Rattle.std.specs.Prelude.{◌&&◌, nat_le}
+use Rattle.jc_rules.proofs.Truths.{and_assoc}
 use Rattle.jc_lexer.specs.declared.token.Key.TheVariants as key_of
 use Rattle.jc_lexer.specs.declared.token.Sign.TheVariants as sign_of
 use Rattle.jc_lexer.specs.declared.token.Token.{Token}
@@ -81,10 +82,6 @@ proper_member (That p) = true
 abbrev proper : Plain → Bool
 proper (That (That (That (This (at, (u, m)))))) = proper_member m
 proper _ = true
-
-pub and_again : (a b c : Bool) → ((a && b) && c) ≡ (a && (b && c))
-and_again true b c = refl
-and_again false b c = refl
 
 pub join_two : (a m g : Bool) → ((a && m) && (g && true)) ≡ ((a && true) && (m && g))
 join_two true m g = ap (λ b. m && b) (and-true g)
@@ -208,7 +205,7 @@ module _ (h : ℕ) (expr : Run Expr) (array : Run ArrayInit) (below : Below h ex
       fits_at h (expr_of.New p.0 p.1) _ _ (expr_height-New p.0 p.1) (expr_shape-New p.0 p.1) ∙ ap (λ b. nat_le (creation_height p.1) h && b) (and-true (creation_shape p.1).good)
   fit_plain (That (That (That (That (That (This p)))))) g = fits_at h (expr_of.VoidLiteral p.0) 0 _ (expr_height-VoidLiteral p.0) (expr_shape-VoidLiteral p.0) ∙ low
   fit_plain (That (That (That (That (That (That p)))))) g =
-      fits_at h (expr_of.Paren p.0 p.1.0) _ _ (expr_height-Paren p.0 p.1.0) (expr_shape-Paren p.0 p.1.0) ∙ sym (and_again (nat_le (expr_height p.1.0) h) (is_expr p.1.0) true)
+      fits_at h (expr_of.Paren p.0 p.1.0) _ _ (expr_height-Paren p.0 p.1.0) (expr_shape-Paren p.0 p.1.0) ∙ sym (and_assoc (nat_le (expr_height p.1.0) h) (is_expr p.1.0) true)
 
   fits_proper : (a : Plain) → Plains.fits a ≡ true → proper a ≡ true
   fits_proper (This p) g = refl

@@ -42,7 +42,7 @@ pub record LongestExpr (tokens : List Token) (at : ℕ) : Type 0 where
   pub longest : (other : Expr) (rest : List Token) → SpellsExpr most_height (drop at tokens) other rest → length tokens ≤ next + length rest
   pub is_reach : IsExprReach tokens at reach
 
--- no expression has the tokens of another, and at each place stands a longest one or none
+-- no two expressions of at most 200 heights have the same tokens, and at each place stands a longest one or none
 pub record ExpressionsAreTold : Type 0 where
   pub one_expr : (tokens : List Token) (at : ℕ) (expr other : Expr) (next : ℕ) → ExprStands tokens at expr next → ExprStands tokens at other next → other ≡ expr
   pub decided : (tokens : List Token) (at : ℕ) → at ≤ length tokens → LongestExpr tokens at ⊎ ((place : ℕ) × NoExprFault tokens at (fault_of.Syntax place))

@@ -9,8 +9,8 @@ use crate::noting::{is_instance, note_form};
 use jc_acts::{box_of, capture, forget, one_value, prefixes};
 use jc_numbers::{boolean_of, converted};
 use jc_pending::{
-    CallTask, ClassTask, ExpressionTask, Given, Next, NothingToValue, TargetTask, UseTodo, call,
-    class, expression, operand, used, wait,
+    CallTask, ClassTask, ExpressionTask, Given, Next, NothingToValue, UseTodo, call, class,
+    expression, operand, used, wait,
 };
 use jc_rules::{Items, Place};
 use jc_running::Value;

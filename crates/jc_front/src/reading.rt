@@ -51,7 +51,7 @@ fn unbroken_table(alloc: Global, units: &[SourceUnit]) -> Result<Table, Stop<Ref
 
 /// Reads the sources with these texts through all stages that are built. A refusal is the least break of the first stage that has one. Where a stage
 /// behind the trees refuses, tokens and trees stay in memory until the program ends: to free those of a large source takes as long as a stage.
-#[tactic(auto, using(crate::proofs::Reached::are_sources, crate::proofs::Reached::units_stop))]
+#[tactic(auto, using(crate::proofs::Reached::are_sources))]
 pub fn sources_of(alloc: Global, texts: &[Items<u8>]) -> Result<Sources, Stop<Refusal>>
     ensures sources { IfOk result (λ sources. AreSources texts.now sources) }
     ensures refused { IfErr result (λ stop. IsBreak texts.now stop) }

@@ -9,7 +9,6 @@ pub mod FramedTypes
 pub mod Laws
 pub mod ShapesOfExpressions
 pub mod ShapesOfStatements
-pub mod Spelled
 pub mod Stands
 pub mod TokensOfExpressions
 pub mod TokensOfStatements

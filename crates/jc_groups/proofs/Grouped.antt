@@ -4,6 +4,7 @@ use Rattle.std.specs.Prelude.{cond, ◌==◌}
 use Rattle.std.proofs.lemmas.Grind.{common_steps}
 use Rattle.std.proofs.lemmas.List.{get_or-set_same}
 use Rattle.std.proofs.lemmas.Option.{slice_get-get_or}
+use Rattle.jc_rules.proofs.Truths.{equal_numbers, other_numbers}
 use Rattle.jc_groups.specs.Groups.{or_empty, group_in, padded, grouped_in, grouped_as, grouped_all, picked_as, picked}
 
 abbrev nothing : List ℕ
@@ -20,12 +21,6 @@ get_other (x ∷ T) zero zero y ne = absurd (ne refl)
 get_other (x ∷ T) zero (suc s) y ne = refl
 get_other (x ∷ T) (suc q) zero y ne = refl
 get_other (x ∷ T) (suc q) (suc s) y ne = get_other T q s y (λ e. ne (ap suc e))
-
-equal_numbers : (a b : ℕ) → (a == b) ≡ true → a ≡ b
-equal_numbers a b e = grind (arith, common_steps)
-
-other_numbers : (a b : ℕ) → (a == b) ≡ false → a ≢ b
-other_numbers a b e = grind (arith, common_steps)
 
 empty_group : (k s : ℕ) → or_empty (slice_get (replicate k nothing) s) ≡ []
 empty_group zero s = refl

@@ -2,6 +2,8 @@
 use Rattle.std.proofs.Common.{◌≡◌, ◌⊎◌, ℕ, suc, ◌==◌, nat_lt, Bool, true, false, not, ◌&&◌, ◌||◌, cond, inl, inr, List, [], ◌∷◌, ◌++◌, Option, Some, None, refl, sym, ap, ◌∙◌, arith}
 use Rattle.std.proofs.lemmas.Bool.Decides.{nat_tests}
 use Rattle.std.specs.List.{list_any}
+use Rattle.std.proofs.lemmas.Bool.{or_left, true≢false}
+use Rattle.jc_rules.proofs.Truths.{self_equal, and_first}
 use Rattle.jc_types.specs.declared.declarations.ClassDecl.{ClassDecl}
 use Rattle.jc_types.specs.declared.declarations.MethodDecl.{MethodDecl}
 use Rattle.jc_types.specs.declared.form.Ty.{Ty}
@@ -33,10 +35,6 @@ swapped true false e = refl
 swapped false true e = refl
 swapped false false e = cc
 
-first_of : (a b : Bool) → a ≡ true → (a || b) ≡ true
-first_of true b e = refl
-first_of false b e = cc
-
 same_turned : (a b : ℕ) → (a == b) ≡ true → (b == a) ≡ true
 same_turned a b e = grind (arith, nat_tests)
 
@@ -58,12 +56,6 @@ all_three true true true false e f g h is = cc
 all_three true true false d e f g h is = cc
 all_three true false c d e f g h is = cc
 all_three false b c d e f g h is = cc
-
-pub true_not_false : true ≡ false → ⊥
-true_not_false e = cc
-
-self : (n : ℕ) → (n == n) ≡ true
-self n = grind (arith, nat_tests)
 
 -- ---- two declarations of one class
 
@@ -176,14 +168,10 @@ module _ (T : Table) (k : ClassId) where
   has v (inr h) = has_from 0 T.methods v (among_remaining (all_methods T k) (all_methods T k) v h)
 
   not_own : (v : MethodView) → same_class (owner T v.id) k ≡ false → IsOwnOrMember T k v → IsAmong v (all_members T k)
-  not_own v e (inl h) = absurd (let no : true ≡ false = sym h.1 ∙ e in true_not_false no)
+  not_own v e (inl h) = absurd (let no : true ≡ false = sym h.1 ∙ e in true≢false no)
   not_own v e (inr h) = h
 
 -- ---- of one class
-
-pub and_first : (a b : Bool) → (a && b) ≡ true → a ≡ true
-and_first true b e = refl
-and_first false b e = cc
 
 one_sort : (a b : Bool) → a ≡ true → b ≡ true → ((a && b) || (not a && not b)) ≡ true
 one_sort true true e f = refl
@@ -235,7 +223,7 @@ module _ (T : Table) (unbroken : headers_breaks T ≡ []) where
           one_declaration T unbroken v.id.0 w.id.0 mine.declaration theirs.declaration mine.number theirs.number
           (one_sort (is_method T v.id) (is_method T w.id) (and_first (is_method T v.id) (is_own T (own_type T k) v.id || inherits_in T (class_of (own_type T k)) v.id) mine.candidate)
           (and_first (is_method T w.id) (is_own T (own_type T k) w.id || inherits_in T (class_of (own_type T k)) w.id) theirs.candidate))
-          (ap (λ (l : ClassId). same_class l (owner T w.id)) here ∙ ap (same_class k) there ∙ self n)
+          (ap (λ (l : ClassId). same_class l (owner T w.id)) here ∙ ap (same_class k) there ∙ self_equal n)
           (ap (λ x. override_equivalent T x (declared_view T w.id)) (sym one) ∙ ap (override_equivalent T v) (sym two) ∙ equivalent)
 
 -- ---- for one method
@@ -265,10 +253,10 @@ module _ (T : Table) (k : ClassId) where
       by : (v.id ≡ m) ⊎ (subsignature_of T (class_view T k v.id) (class_view T k m) ≡ true) → (w.id ≡ m) ⊎ (subsignature_of T (class_view T k w.id) (class_view T k m) ≡ true)
           → (v.id ≡ m) ⊎ ((w.id ≡ m) ⊎ HasNoParameters (class_view T k m)) → (v.id ≡ w.id) ⊎ (override_equivalent T v w ≡ true)
       by (inl p) (inl q) is = inl (p ∙ sym q)
-      by (inl p) (inr q) is = inr (swapped (subsignature T w v) (subsignature T v w) (first_of (subsignature T w v) (subsignature T v w) (signed m w v f (ap (class_view T k) (sym p) ∙ e) q)))
-      by (inr p) (inl q) is = inr (first_of (subsignature T v w) (subsignature T w v) (signed m v w e (ap (class_view T k) (sym q) ∙ f) p))
-      by (inr p) (inr q) (inl r) = inr (swapped (subsignature T w v) (subsignature T v w) (first_of (subsignature T w v) (subsignature T v w) (signed m w v f (ap (class_view T k) (sym r) ∙ e) q)))
-      by (inr p) (inr q) (inr (inl r)) = inr (first_of (subsignature T v w) (subsignature T w v) (signed m v w e (ap (class_view T k) (sym r) ∙ f) p))
+      by (inl p) (inr q) is = inr (swapped (subsignature T w v) (subsignature T v w) (or_left (subsignature T w v) (subsignature T v w) (signed m w v f (ap (class_view T k) (sym p) ∙ e) q)))
+      by (inr p) (inl q) is = inr (or_left (subsignature T v w) (subsignature T w v) (signed m v w e (ap (class_view T k) (sym q) ∙ f) p))
+      by (inr p) (inr q) (inl r) = inr (swapped (subsignature T w v) (subsignature T v w) (or_left (subsignature T w v) (subsignature T v w) (signed m w v f (ap (class_view T k) (sym r) ∙ e) q)))
+      by (inr p) (inr q) (inr (inl r)) = inr (or_left (subsignature T v w) (subsignature T w v) (signed m v w e (ap (class_view T k) (sym r) ∙ f) p))
       by (inr p) (inr q) (inr (inr r)) = in_view (class_view T k m) refl r
         where
           in_view : (o : Option MethodView) → class_view T k m ≡ o → HasNoParameters o → (v.id ≡ w.id) ⊎ (override_equivalent T v w ≡ true)

@@ -1,8 +1,9 @@
 -- Supertypes of one class, methods that override, and bodies.
 use Rattle.std.proofs.Common.{◌≡◌, ◌⊎◌, ℕ, suc, ◌+◌, ◌==◌, Bool, true, false, not, ◌&&◌, ◌||◌, if◌then◌else◌, inl, inr, List, [], ◌∷◌, ◌++◌, Option, Some, None, refl, sym, ap, ◌∙◌, arith}
 use Rattle.std.proofs.Math.Numerals.{add-one}
-use Rattle.std.proofs.lemmas.Bool.Decides.{nat_tests}
 use Rattle.std.specs.List.{list_any}
+use Rattle.std.proofs.lemmas.Bool.{and_from, or_parts}
+use Rattle.jc_rules.proofs.Truths.{self_equal}
 use Rattle.jc_rules.specs.declared.rule.Place.{Place}
 use Rattle.jc_rules.specs.declared.rule.Refusal.{Refusal}
 use Rattle.jc_types.specs.declared.declarations.ClassDecl.{ClassDecl}
@@ -29,7 +30,7 @@ use Rattle.jc_header_rules.specs.Headers.{answer_of_views, differ, says_wrongly,
 use Rattle.jc_header_rules.specs.Inheriting.{agreement_broken, agreements, all_members, all_above, class_breaks, conflicts, has_conflict, is_concrete, is_generic_throwable, is_left_open, is_member_above, is_none, is_of_class, leaves_open, members_disagree}
 use Rattle.jc_header_rules.specs.Results.{answer_by, converts_unchecked, reference_answer, result_answer, yes_if}
 use Rattle.jc_header_laws.specs.Facts.{AreOne, Fit, FindsBody, IsNumber, ReferenceFits, ResultFits, TypeFits}
-use Rattle.jc_header_laws.proofs.Lists.{and_rest, each_unbroken, fore, none_is, not_broken, not_false, or_false, rear}
+use Rattle.jc_header_laws.proofs.Lists.{and_rest, each_unbroken, fore, none_is, not_broken, not_false, rear}
 
 -- ---- at a class
 
@@ -57,11 +58,8 @@ first_three T k n c e =
     fore ((generic T k c ++ conflicting T k c) ++ left_open T k c) (disagreeing T k c)
     (fore (((generic T k c ++ conflicting T k c) ++ left_open T k c) ++ disagreeing T k c) (unsettled T k c) e)
 
-self : (n : ℕ) → (n == n) ≡ true
-self n = grind (arith, nat_tests)
-
 are_of_class : (s t : Ty) (l : ClassId) → class_of s ≡ Some l → class_of t ≡ Some l → is_of_class (class_of s) t ≡ true
-are_of_class s t l h g = ap (λ o. is_of_class o t) h ∙ ap (is_class l) g ∙ self l.0
+are_of_class s t l h g = ap (λ o. is_of_class o t) h ∙ ap (is_class l) g ∙ self_equal l.0
 
 pub are_one : (T : Table) → headers_breaks T ≡ [] → (n : ℕ) (c : ClassDecl) → IsNumber 0 n c T.classes → AreOne T (record { 0 = n })
 are_one T e n c at s t l h g p q =
@@ -79,12 +77,9 @@ some_of (Some x) e = (x, refl)
 not_left : (T : Table) (k : ClassId) (i m : ℕ) (d : MethodDecl) (ds : List MethodDecl) → leaves_open T k i ds ≡ false → IsNumber i m d ds → is_left_open T k (record { 0 = m }) ≡ false
 not_left T k i m d [] e h = absurd h
 not_left T k i m d (x ∷ ds) e (inl h) =
-    ap (λ (j : ℕ). is_left_open T k (record { 0 = j })) h.0 ∙ (or_false (is_left_open T k (record { 0 = i })) (leaves_open T k (i + 1) ds) e).0
+    ap (λ (j : ℕ). is_left_open T k (record { 0 = j })) h.0 ∙ (or_parts (is_left_open T k (record { 0 = i })) (leaves_open T k (i + 1) ds) e).0
 not_left T k i m d (x ∷ ds) e (inr h) =
-    not_left T k (suc i) m d ds (ap (λ j. leaves_open T k j ds) (sym (add-one i)) ∙ (or_false (is_left_open T k (record { 0 = i })) (leaves_open T k (i + 1) ds) e).1) h
-
-and_true : (a b : Bool) → a ≡ true → b ≡ true → (a && b) ≡ true
-and_true a b h g = ap (λ c. c && b) h ∙ g
+    not_left T k (suc i) m d ds (ap (λ j. leaves_open T k j ds) (sym (add-one i)) ∙ (or_parts (is_left_open T k (record { 0 = i })) (leaves_open T k (i + 1) ds) e).1) h
 
 pub finds_body : (T : Table) → headers_breaks T ≡ [] → (n m : ℕ) (c : ClassDecl) (d : MethodDecl) → IsNumber 0 n c T.classes → IsNumber 0 m d T.methods → FindsBody T (record { 0 = n }) c (record { 0 = m })
 finds_body T e n m c d at there concrete instance abstract member =
@@ -95,8 +90,8 @@ finds_body T e n m c d at there concrete instance abstract member =
     let third : left_open T k c ≡ [] = rear (generic T k c ++ conflicting T k c) (left_open T k c) three in
     let none : open_here ≡ false = and_rest (is_concrete T k c) open_here concrete (not_broken (is_concrete T k c && open_here) 509 c.place third) in
     let closed : is_left_open T k i ≡ false = not_left T k 0 m d T.methods none there in
-    let two : (is_instance T i && is_abstract T i) ≡ true = and_true (is_instance T i) (is_abstract T i) instance abstract in
-    let three : (is_instance T i && is_abstract T i && is_member_above T k i) ≡ true = and_true (is_instance T i && is_abstract T i) (is_member_above T k i) two member in
+    let two : (is_instance T i && is_abstract T i) ≡ true = and_from (is_instance T i) (is_abstract T i) instance abstract in
+    let three : (is_instance T i && is_abstract T i && is_member_above T k i) ≡ true = and_from (is_instance T i && is_abstract T i) (is_member_above T k i) two member in
     let found : is_none (select T k i) ≡ false = and_rest (is_instance T i && is_abstract T i && is_member_above T k i) (is_none (select T k i)) three closed in
     some_of (select T k i) found
 

@@ -1,5 +1,6 @@
 -- Written types without faults.
 use Rattle.std.proofs.Common.{◌≡◌, ℕ, suc, ◌+◌, ◌==◌, Bool, true, false, ◌||◌, if◌then◌else◌, inl, inr, List, [], ◌∷◌, ◌++◌, length, Option, Some, None, refl, sym, ap, ◌∙◌, arith}
+use Rattle.std.proofs.lemmas.Bool.{or_parts}
 use Rattle.jc_rules.specs.declared.rule.Place.{Place}
 use Rattle.jc_rules.specs.declared.rule.Refusal.{Refusal}
 use Rattle.jc_types.specs.declared.declarations.ClassDecl.{ClassDecl}
@@ -32,7 +33,7 @@ use Rattle.jc_header_rules.specs.Checked.{IsAmong}
 use Rattle.jc_header_rules.specs.Places.{broken_if, of_each, of_written}
 use Rattle.jc_header_rules.specs.Types.{bounds_broken, class_broken, depends_on_itself, class_types_broken, faults_broken, field_broken, has_wildcard_at, kind_broken, method_broken, supertype_broken, type_broken, types_breaks, types_broken, use_broken, variable_broken, written_broken}
 use Rattle.jc_header_laws.specs.Facts.{IsNumber, IsPair, IsThere, IsWritten}
-use Rattle.jc_header_laws.proofs.Lists.{each_unbroken, fore, not_broken, or_false, rear, some_number}
+use Rattle.jc_header_laws.proofs.Lists.{each_unbroken, fore, not_broken, rear, some_number}
 
 less_one : {m n : ℕ} → suc m ≡ suc n → m ≡ n
 less_one l = grind (arith)
@@ -85,7 +86,7 @@ reference_yes i upper lower meets e =
     let below : is_no upper ≡ false = not_one (is_no upper) (fault.Bound i) (fore _ (fault_if (is_no lower) (fault.SuperBound i)) two) in
     let above : is_no lower ≡ false = not_one (is_no lower) (fault.SuperBound i) (rear (fault_if (is_no upper) (fault.Bound i)) _ two) in
     let deep : (is_deep upper ≡ false) × (is_deep lower ≡ false) =
-    or_false (is_deep upper) (is_deep lower)
+    or_parts (is_deep upper) (is_deep lower)
     (not_one (is_deep upper || is_deep lower) fault.Deep (rear ((fault_if (is_no upper) (fault.Bound i) ++ fault_if (is_no lower) (fault.SuperBound i)) ++ fault_if meets (fault.ClassesMeet i)) _ e)) in
     (is_yes upper below deep.0, is_yes lower above deep.1)
 

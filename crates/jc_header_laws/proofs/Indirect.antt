@@ -3,6 +3,8 @@ use Rattle.std.proofs.Common.{◌≡◌, ◌⊎◌, ◌≢◌, inl, inr, ℕ, ze
 use Rattle.std.proofs.lemmas.Bool.Decides.{nat_tests}
 use Rattle.std.proofs.lemmas.Option.{slice_get_within}
 use Rattle.std.specs.Str.{bytes_eq}
+use Rattle.std.proofs.lemmas.Bool.{and_from, and_parts, or_left}
+use Rattle.jc_rules.proofs.Truths.{own_bytes, not_both, self_equal}
 use Rattle.jc_types.specs.declared.declarations.ClassDecl.{ClassDecl}
 use Rattle.jc_types.specs.declared.declarations.MethodDecl.{MethodDecl}
 use Rattle.jc_types.specs.declared.ids.ClassId.{ClassId}
@@ -24,7 +26,7 @@ use Rattle.jc_members.specs.Listing.{has_method}
 use Rattle.jc_members.proofs.Replacing.{overrides_told, own_below, replaces_alike, replaces_no_method, replaces_none, replaces_unlike}
 use Rattle.jc_clashes.specs.Stage.{HasNoClash}
 use Rattle.jc_clashes.proofs.Alike.{of_meeting}
-use Rattle.jc_clashes.proofs.Lists.{In, and_both, and_true, is_false, is_self, not_both, own_bytes, self_same}
+use Rattle.jc_clashes.proofs.Lists.{In, is_false, self_same}
 use Rattle.jc_clashes.proofs.Reaching.{further, here, reached_told, reaches_named, step}
 use Rattle.jc_clashes.proofs.Told.{View, belongs_has, has_of, in_replaced, of_has, viewed, without_in}
 use Rattle.jc_header_laws.specs.Facts.{ErasuresStand, IsNumber, OverridesBeyond, ReplacesReached, SignsReached}
@@ -51,10 +53,6 @@ numbered_in (x ∷ xs) i (suc n) lt =
     let same : suc i + n ≡ i + suc n = omega arith in
     (rest.0, inr (subst (λ j. IsNumber (suc i) j rest.0 xs) same rest.1))
 
-or_first : (a b : Bool) → a ≡ true → (a || b) ≡ true
-or_first true b e = refl
-or_first false b e = cc
-
 -- ---- what one step tells
 
 module _ (T : Table) where
@@ -72,8 +70,8 @@ module _ (T : Table) where
       let two = other_of (is_method T n) refl in
       let same = alike_of (is_static T m) (is_static T n) refl refl in
       let below : own_below T m n ≡ true = sym (replaces_alike T m n one two same) ∙ e in
-      let both = and_both (is_above T (owner T m) (owner T n) && is_inheritable T (owner T m) n) (subsignature_of T (class_view T (owner T m) m) (class_view T (owner T m) n)) below in
-      record { method = one; other = two; alike = same; below = below; above = (and_both (is_above T (owner T m) (owner T n)) (is_inheritable T (owner T m) n) both.0).0; signed = both.1 }
+      let both = and_parts (is_above T (owner T m) (owner T n) && is_inheritable T (owner T m) n) (subsignature_of T (class_view T (owner T m) m) (class_view T (owner T m) n)) below in
+      record { method = one; other = two; alike = same; below = below; above = (and_parts (is_above T (owner T m) (owner T n)) (is_inheritable T (owner T m) n) both.0).0; signed = both.1 }
     where
       method_of : (b : Bool) → is_method T m ≡ b → is_method T m ≡ true
       method_of true f = f
@@ -162,13 +160,13 @@ module _ (T : Table) where
       above_it = up_is_above T h k (owner T p) c.up
 
       has_other : has_method T (own_type T k) p ≡ true
-      has_other = ap (λ o. is_viewed (view_of_owner T (own_type T k) o)) c.owned ∙ (and_both (not (same_class k (owner T p))) (is_viewed (view T (owner T p) (own_type T k))) above_it).1
+      has_other = ap (λ o. is_viewed (view_of_owner T (own_type T k) o)) c.owned ∙ (and_parts (not (same_class k (owner T p))) (is_viewed (view T (owner T p) (own_type T k))) above_it).1
 
       own : View T k m
       own =
           belongs_has T k m (method_within m c.method)
-          (and_true (is_method T m && (same_class k (owner T m) || is_inheritable T k m)) (has_method T (own_type T k) m)
-          (and_true (is_method T m) (same_class k (owner T m) || is_inheritable T k m) c.method (or_first (same_class k k) (is_inheritable T k m) (is_self k.0))) (viewed T k m c.seen.0 c.seen.1))
+          (and_from (is_method T m && (same_class k (owner T m) || is_inheritable T k m)) (has_method T (own_type T k) m)
+          (and_from (is_method T m) (same_class k (owner T m) || is_inheritable T k m) c.method (or_left (same_class k k) (is_inheritable T k m) (self_equal k.0))) (viewed T k m c.seen.0 c.seen.1))
 
       other_second : (a b : Bool) → b ≡ true → (a || b) ≡ true
       other_second true b e = refl
@@ -177,8 +175,8 @@ module _ (T : Table) where
       inherited : View T k p
       inherited =
           belongs_has T k p (method_within p c.other)
-          (and_true (is_method T p && (same_class k (owner T p) || is_inheritable T k p)) (has_method T (own_type T k) p)
-          (and_true (is_method T p) (same_class k (owner T p) || is_inheritable T k p) c.other (other_second (same_class k (owner T p)) (is_inheritable T k p) open_to)) has_other)
+          (and_from (is_method T p && (same_class k (owner T p) || is_inheritable T k p)) (has_method T (own_type T k) p)
+          (and_from (is_method T p) (same_class k (owner T p) || is_inheritable T k p) c.other (other_second (same_class k (owner T p)) (is_inheritable T k p) open_to)) has_other)
 
       -- nothing that the class has is below its own method
       not_replaced : replaced T own.view (all_methods T k) ≡ false
@@ -223,7 +221,7 @@ module _ (T : Table) where
       signed_there stand = by (stand own.view inherited.view (among_of own.view (remaining T (all_methods T k)) is_member) (among_of inherited.view (all_methods T k) (of_has T k inherited.view inherited.has)) names met)
         where
           same_class_twice : same_class (owner T own.view.id) k ≡ true
-          same_class_twice = ap (λ n. same_class (owner T n) k) own.is ∙ is_self k.0
+          same_class_twice = ap (λ n. same_class (owner T n) k) own.is ∙ self_equal k.0
 
           by : ((own.view.id.0 == inherited.view.id.0) ≡ true) ⊎ ((subsignature T own.view inherited.view ≡ true) ⊎ (is_settled T k (remaining T (all_methods T k)) own.view inherited.view ≡ true))
               → subsignature T own.view inherited.view ≡ true
@@ -239,7 +237,7 @@ module _ (T : Table) where
               let among = is_among inherited.view.id (remaining T (all_methods T k)) in
               let back = subsignature T inherited.view own.view in
               let bodies = not (with_body T own.view) || with_body T inherited.view in
-              let first = and_both mine among (and_both (mine && among) back (and_both (mine && among && back) bodies e).0).0 in
+              let first = and_parts mine among (and_parts (mine && among) back (and_parts (mine && among && back) bodies e).0).0 in
               absurd (let no : not true ≡ true = ap not (sym same_class_twice) ∙ first.0 in cc)
 
       outright : ErasuresStand T k → replaces T m p ≡ true
@@ -249,7 +247,7 @@ module _ (T : Table) where
           let signs : subsignature_of T (class_view T k m) (class_view T k p) ≡ true =
           ap (λ o. subsignature_of T o (class_view T k p)) mine ∙ ap (λ o. subsignature_of T (Some own.view) o) theirs ∙ signed_there stand in
           replaces_alike T m p c.method c.other c.alike
-          ∙ and_true (is_above T k (owner T p) && is_inheritable T k p) (subsignature_of T (class_view T k m) (class_view T k p)) (and_true (is_above T k (owner T p)) (is_inheritable T k p) above_it open_to) signs
+          ∙ and_from (is_above T k (owner T p) && is_inheritable T k p) (subsignature_of T (class_view T k m) (class_view T k p)) (and_from (is_above T k (owner T p)) (is_inheritable T k p) above_it open_to) signs
 
   -- ---- the laws
 
@@ -282,8 +280,8 @@ module _ (T : Table) where
 
     pub overrides_beyond : (m n p : MethodId) → OverridesBeyond T m n p
     overrides_beyond m n p e f open_to =
-        let first : replaces T m n ≡ true = or_first (overrides T m n) (hides T m n) e in
-        let second : replaces T n p ≡ true = or_first (overrides T n p) (hides T n p) f in
+        let first : replaces T m n ≡ true = or_left (overrides T m n) (hides T m n) e in
+        let second : replaces T n p ≡ true = or_left (overrides T n p) (hides T n p) f in
         let one = parts m n first in
         let two = parts n p second in
         let up : Up T (owner T m).0 (owner T n).0 = above_up T h (owner T m) (owner T n) one.above in
@@ -296,9 +294,9 @@ module _ (T : Table) where
         let way : reaches T m p ≡ true =
         subst (λ j. reaches_within T j m p ≡ true) enough (in_more m (length T.methods - 2) 2 p (step T m 1 n p there (step T m 0 m n within (here T m 0) first) second)) in
         let it = parts m p (replaces_reached m p beyond way open_to) in
-        let mine = and_both (is_instance T m) (is_instance T n) (and_both (is_instance T m && is_instance T n) (own_below T m n) (sym (overrides_told T m n) ∙ e)).0 in
-        let theirs = and_both (is_instance T n) (is_instance T p) (and_both (is_instance T n && is_instance T p) (own_below T n p) (sym (overrides_told T n p) ∙ f)).0 in
-        overrides_told T m p ∙ and_true (is_instance T m && is_instance T p) (own_below T m p) (and_true (is_instance T m) (is_instance T p) mine.0 theirs.1) it.below
+        let mine = and_parts (is_instance T m) (is_instance T n) (and_parts (is_instance T m && is_instance T n) (own_below T m n) (sym (overrides_told T m n) ∙ e)).0 in
+        let theirs = and_parts (is_instance T n) (is_instance T p) (and_parts (is_instance T n && is_instance T p) (own_below T n p) (sym (overrides_told T n p) ∙ f)).0 in
+        overrides_told T m p ∙ and_from (is_instance T m && is_instance T p) (own_below T m p) (and_from (is_instance T m) (is_instance T p) mine.0 theirs.1) it.below
 
   pub signs_reached : (clear : HasNoClash T) (n : ℕ) (c : ClassDecl) → IsNumber 0 n c T.classes → SignsReached T (record { 0 = n })
   signs_reached clear n c at v w member there way = by (erasures_stand T (of_methods T clear) n c at v w member there names met)

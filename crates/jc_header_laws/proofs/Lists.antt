@@ -1,6 +1,7 @@
 -- What has no break, part by part.
 use Rattle.std.proofs.Common.{◌≡◌, ℕ, suc, Bool, true, false, not, ◌&&◌, ◌||◌, inl, inr, List, [], ◌∷◌, ◌++◌, refl, sym, ap, ◌∙◌}
 use Rattle.std.specs.List.{list_any}
+use Rattle.std.proofs.lemmas.Bool.{or_parts}
 use Rattle.jc_rules.specs.declared.rule.Place.{Place}
 use Rattle.jc_rules.specs.declared.rule.Refusal.{Refusal}
 use Rattle.jc_header_rules.specs.Checked.{IsAmong}
@@ -30,14 +31,10 @@ pub not_broken : (b : Bool) (rule : ℕ) (place : Place) → broken_if b rule pl
 not_broken false rule place e = refl
 not_broken true rule place e = absurd cc
 
-pub or_false : (a b : Bool) → (a || b) ≡ false → (a ≡ false) × (b ≡ false)
-or_false true b e = absurd cc
-or_false false b e = (refl, e)
-
 pub none_is : {X : Type 0} (p : X → Bool) (x : X) (xs : List X) → list_any p xs ≡ false → IsAmong x xs → p x ≡ false
 none_is p x [] e h = absurd h
-none_is p x (y ∷ ys) e (inl h) = ap p h ∙ (or_false (p y) (list_any p ys) e).0
-none_is p x (y ∷ ys) e (inr h) = none_is p x ys (or_false (p y) (list_any p ys) e).1 h
+none_is p x (y ∷ ys) e (inl h) = ap p h ∙ (or_parts (p y) (list_any p ys) e).0
+none_is p x (y ∷ ys) e (inr h) = none_is p x ys (or_parts (p y) (list_any p ys) e).1 h
 
 -- of a conjunction that fails, where its first part holds
 pub and_rest : (a b : Bool) → a ≡ true → (a && b) ≡ false → b ≡ false

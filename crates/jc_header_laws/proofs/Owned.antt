@@ -1,8 +1,8 @@
 -- A method as its own class has it is as it is declared.
 use Rattle.std.proofs.Common.{◌≡◌, ℕ, suc, ◌==◌, Bool, true, false, List, [], ◌∷◌, ◌++◌, map, length, Option, Some, None, if◌then◌else◌, refl, sym, ap, ◌∙◌, arith}
 use Rattle.std.proofs.Math.Numerals.{add-one}
-use Rattle.std.proofs.lemmas.Bool.Decides.{nat_tests}
 use Rattle.std.specs.Option.{option_map}
+use Rattle.jc_rules.proofs.Truths.{equal_numbers, self_equal}
 use Rattle.jc_types.specs.declared.form.Arg.{Arg, roll-Arg}
 use Rattle.jc_types.specs.declared.form.Arg.TheVariants.{Exact, outs-Exact}
 use Rattle.jc_types.specs.declared.form.Ty.{Ty, Ty-F, fold-Ty}
@@ -22,14 +22,8 @@ use Rattle.jc_overriding.specs.Viewing.{With, class_view, declared_view, is_stat
 
 -- ---- variables for themselves
 
-number : (a b : ℕ) → (a == b) ≡ true → a ≡ b
-number a b e = grind (arith, nat_tests)
-
-self : (n : ℕ) → (n == n) ≡ true
-self n = grind (arith, nat_tests)
-
 one_variable : (w v : VarId) (b : Bool) → (w.0 == v.0) ≡ b → (t : Ty) → t ≡ Variable v → (if b then Variable w else t) ≡ Variable v
-one_variable w v true e t h = ap (λ (n : ℕ). Variable (record { 0 = n })) (number w.0 v.0 e)
+one_variable w v true e t h = ap (λ (n : ℕ). Variable (record { 0 = n })) (equal_numbers w.0 v.0 e)
 one_variable w v false e t h = h
 
 for_itself : (vars : List VarId) (v : VarId) → replacement vars (map (λ w. Variable w) vars) v ≡ Variable v
@@ -78,7 +72,7 @@ mapped_length (v ∷ vars) = ap suc (mapped_length vars)
 counted_own : (vars : List VarId) → counted vars (map (λ v. Exact (Variable v)) vars) ≡ Some (map (λ v. Exact (Variable v)) vars)
 counted_own [] = refl
 counted_own (v ∷ vars) =
-    ap (λ b. if b then Some (map (λ v. Exact (Variable v)) (v ∷ vars)) else None) (ap (λ n. suc n == suc (length vars)) (mapped_length vars) ∙ self (suc (length vars)))
+    ap (λ b. if b then Some (map (λ v. Exact (Variable v)) (v ∷ vars)) else None) (ap (λ n. suc n == suc (length vars)) (mapped_length vars) ∙ self_equal (suc (length vars)))
 
 module _ (T : Table) (k : ClassId) where
   abbrev own_args : List Arg
@@ -89,7 +83,7 @@ module _ (T : Table) (k : ClassId) where
   class_own = ap class_at (outs-Class k own_args)
 
   within_own : (n : ℕ) → view_within T (suc n) k (own_type T k) ≡ Some (own_type T k)
-  within_own n = ap (λ b. if b then Some (own_type T k) else first_of (view_within T n k) (supers T (own_type T k))) (ap (is_class k) class_own ∙ self k.0)
+  within_own n = ap (λ b. if b then Some (own_type T k) else first_of (view_within T n k) (supers T (own_type T k))) (ap (is_class k) class_own ∙ self_equal k.0)
 
   view_own : view T k (own_type T k) ≡ Some (own_type T k)
   unfolding view

@@ -1,5 +1,6 @@
 -- The body that is selected.
 use Rattle.std.proofs.Common.{◌≡◌, ◌⊎◌, ℕ, zero, suc, ◌+◌, Bool, true, false, not, ◌&&◌, cond, if◌then◌else◌, inl, inr, List, [], ◌∷◌, ◌++◌, Option, Some, None, refl, sym, ap, ◌∙◌}
+use Rattle.std.proofs.lemmas.Bool.{true≢false}
 use Rattle.jc_types.specs.declared.declarations.ClassDecl.{ClassDecl}
 use Rattle.jc_types.specs.declared.declarations.MethodDecl.{MethodDecl}
 use Rattle.jc_types.specs.declared.ids.ClassId.{ClassId}
@@ -13,13 +14,13 @@ use Rattle.jc_header_rules.specs.Headers.{differ, method_breaks, pair_broken, wa
 use Rattle.jc_header_rules.specs.Inheriting.{class_breaks}
 use Rattle.jc_header_rules.specs.Places.{of_each}
 use Rattle.jc_header_laws.specs.Facts.{HasNoParameters, IsNumber, OneChosen}
-use Rattle.jc_header_laws.proofs.Bodies.{one_selected, true_not_false}
+use Rattle.jc_header_laws.proofs.Bodies.{one_selected}
 use Rattle.jc_header_laws.proofs.Fitting.{overriding_none, throwing_others, without_body}
 use Rattle.jc_header_laws.proofs.Lists.{each_unbroken, fore, not_broken, rear}
 
 differ_none : (a b : Bool) → differ a b ≡ false → b ≡ a
 differ_none true true e = refl
-differ_none true false e = absurd (true_not_false e)
+differ_none true false e = absurd (true≢false e)
 differ_none false b e = e
 
 standing_told : (T : Table) (k : ClassId) (m x : MethodId) (ns : List MethodId) → declared_for T k m ns ≡ Some x → stands_for T k x m ≡ true

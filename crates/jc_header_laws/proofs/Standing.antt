@@ -1,8 +1,9 @@
 -- Methods that stand for one method.
 use Rattle.std.proofs.Common.{◌≡◌, ◌⊎◌, ℕ, ◌+◌, ◌==◌, Bool, true, false, ◌&&◌, ◌||◌, inl, inr, List, [], ◌∷◌, map, length, Option, Some, None, refl, sym, ap, subst, ◌∙◌, arith}
 use Rattle.std.proofs.lemmas.Bool.Decides.{nat_tests}
-use Rattle.std.proofs.lemmas.Slice.Eq.{bytes_eq-Decides}
 use Rattle.std.specs.Str.{bytes_eq}
+use Rattle.std.proofs.lemmas.Bool.{and_parts, and_from, or_left, or_right, or_cases}
+use Rattle.jc_rules.proofs.Truths.{same_bytes, own_bytes}
 use Rattle.jc_types.specs.declared.form.Arg.{Arg, roll-Arg}
 use Rattle.jc_types.specs.declared.form.Ty.{Ty, Ty-F, fold-Ty, out-Ty, roll-Ty, roll-out-Ty}
 use Rattle.jc_types.specs.declared.form.Ty.TheVariants.{rolls-Array}
@@ -19,39 +20,17 @@ use Rattle.jc_overriding.specs.Signatures.{adapted, erased_in, first_bound, is_e
 use Rattle.jc_overriding.specs.Viewing.{Seeing, With, Raised, bounds_with, class_view, is_static, own_type, plain, seeing_of, view_of_owner, viewed_by, viewed_in}
 use Rattle.jc_header_laws.proofs.Settled.{all_twice, plain_of_settled, plain_over, plain_settled}
 
--- ---- tests
-
-halves : (a b : Bool) → (a && b) ≡ true → (a ≡ true) × (b ≡ true)
-halves true b e = (refl, e)
-halves false b e = cc
-
 -- ---- lists of types
 
 all_same : (xs ys : List Ty) → same_all xs ys ≡ true → xs ≡ ys
 all_same [] [] e = refl
 all_same [] (y ∷ ys) e = cc
 all_same (x ∷ xs) [] e = cc
-all_same (x ∷ xs) (y ∷ ys) e = let both = halves (same x y) (same_all xs ys) e in ap (λ z. z ∷ xs) (same_told x y both.0) ∙ ap (λ zs. y ∷ zs) (all_same xs ys both.1)
-
-whole : (a b : Bool) → a ≡ true → b ≡ true → (a && b) ≡ true
-whole true b e f = f
-whole false b e f = cc
-
-first_of_two : (a b : Bool) → a ≡ true → (a || b) ≡ true
-first_of_two true b e = refl
-first_of_two false b e = cc
-
-second_of_two : (a b : Bool) → b ≡ true → (a || b) ≡ true
-second_of_two true b e = refl
-second_of_two false b e = e
-
-either : (a b : Bool) → (a || b) ≡ true → (a ≡ true) ⊎ (b ≡ true)
-either true b e = inl refl
-either false b e = inr e
+all_same (x ∷ xs) (y ∷ ys) e = let both = and_parts (same x y) (same_all xs ys) e in ap (λ z. z ∷ xs) (same_told x y both.0) ∙ ap (λ zs. y ∷ zs) (all_same xs ys both.1)
 
 self_same : (xs : List Ty) → same_all xs xs ≡ true
 self_same [] = refl
-self_same (x ∷ xs) = whole (same x x) (same_all xs xs) (same_self x) (self_same xs)
+self_same (x ∷ xs) = and_from (same x x) (same_all xs xs) (same_self x) (self_same xs)
 
 all_along : (f g : Ty → Ty) → ((t : Ty) → f t ≡ g t) → (ts : List Ty) → map f ts ≡ map g ts
 all_along f g h [] = refl
@@ -104,8 +83,8 @@ module _ (T : Table) (v : MethodView) (none : v.vars ≡ []) where
 
 read_same : (a x : MethodView) → x.vars ≡ [] → same_signature a x ≡ true → (a.vars ≡ []) × (a.params ≡ map (put [] []) x.params)
 read_same a x none e =
-    let parts = halves ((length a.vars == length x.vars) && same_lists a.bounds (map (map (adapted a x)) x.bounds)) (same_all a.params (map (adapted a x) x.params)) e in
-    let counts = halves (length a.vars == length x.vars) (same_lists a.bounds (map (map (adapted a x)) x.bounds)) parts.0 in (
+    let parts = and_parts ((length a.vars == length x.vars) && same_lists a.bounds (map (map (adapted a x)) x.bounds)) (same_all a.params (map (adapted a x) x.params)) e in
+    let counts = and_parts (length a.vars == length x.vars) (same_lists a.bounds (map (map (adapted a x)) x.bounds)) parts.0 in (
       no_length a.vars (ap (λ (vs : List VarId). length a.vars == length vs) (sym none) ∙ counts.0),
       all_same a.params (map (adapted a x) x.params) parts.1 ∙ all_along (adapted a x) (put [] []) (adapted_none a x none) x.params,
     )
@@ -116,16 +95,16 @@ make_same a b e f g h is =
     let bounds : same_lists a.bounds (map (map (adapted a b)) b.bounds) ≡ true =
     ap (λ bs. same_lists bs (map (map (adapted a b)) b.bounds)) f ∙ ap (λ (bs : List (List Ty)). same_lists [] (map (map (adapted a b)) bs)) h in
     let params : same_all a.params (map (adapted a b) b.params) ≡ true = ap (same_all a.params) (all_along (adapted a b) (put [] []) (adapted_none a b g) b.params ∙ sym is) ∙ self_same a.params in
-    whole _ (same_all a.params (map (adapted a b) b.params)) (whole (length a.vars == length b.vars) (same_lists a.bounds (map (map (adapted a b)) b.bounds)) counts bounds) params
+    and_from _ (same_all a.params (map (adapted a b) b.params)) (and_from (length a.vars == length b.vars) (same_lists a.bounds (map (map (adapted a b)) b.bounds)) counts bounds) params
 
 read_erasure : (T : Table) (a x : MethodView) → x.vars ≡ [] → is_erasure T a x ≡ true → (a.vars ≡ []) × (a.params ≡ map (plain T) x.params)
 read_erasure T a x none e =
-    let parts = halves (length a.vars == 0) (same_all a.params (map (erased_in T x) x.params)) e in
+    let parts = and_parts (length a.vars == 0) (same_all a.params (map (erased_in T x) x.params)) e in
     (no_length a.vars parts.0, all_same a.params (map (erased_in T x) x.params) parts.1 ∙ all_along (erased_in T x) (plain T) (erased_none T x none) x.params)
 
 make_erasure : (T : Table) (a b : MethodView) → a.vars ≡ [] → b.vars ≡ [] → a.params ≡ map (plain T) b.params → is_erasure T a b ≡ true
 make_erasure T a b e f is =
-    whole (length a.vars == 0) (same_all a.params (map (erased_in T b) b.params)) (ap (λ (vs : List VarId). length vs == 0) e)
+    and_from (length a.vars == 0) (same_all a.params (map (erased_in T b) b.params)) (ap (λ (vs : List VarId). length vs == 0) e)
     (ap (same_all a.params) (all_along (erased_in T b) (plain T) (erased_none T b f) b.params ∙ sym is) ∙ self_same a.params)
 
 plain_twice : (T : Table) (ts : List Ty) → map (put [] []) (map (plain T) ts) ≡ map (plain T) ts
@@ -138,40 +117,34 @@ plain_behind T (t ∷ ts) = ap (λ u. u ∷ map (plain T) (map (put [] []) ts)) 
 
 -- ---- two subsignatures of one signature
 
-name_same : (a b : List ℕ) → bytes_eq a b ≡ true → a ≡ b
-name_same a b e = (bytes_eq-Decides a b).0 e
-
-name_self : (a : List ℕ) → bytes_eq a a ≡ true
-name_self a = (bytes_eq-Decides a a).1 refl
-
 module _ (T : Table) (a b x : MethodView) (none : x.vars ≡ []) (bare : a.vars ≡ [] → a.bounds ≡ []) (empty : b.vars ≡ [] → b.bounds ≡ []) where
   abbrev signs : MethodView → MethodView → Bool
   signs u v = same_signature u v || is_erasure T u v
 
   like : (signs a x ≡ true) → (signs b x ≡ true) → (signs a b ≡ true) ⊎ (signs b a ≡ true)
-  like e f = by (either (same_signature a x) (is_erasure T a x) e) (either (same_signature b x) (is_erasure T b x) f)
+  like e f = by (or_cases (same_signature a x) (is_erasure T a x) e) (or_cases (same_signature b x) (is_erasure T b x) f)
     where
       by : (same_signature a x ≡ true) ⊎ (is_erasure T a x ≡ true) → (same_signature b x ≡ true) ⊎ (is_erasure T b x ≡ true) → (signs a b ≡ true) ⊎ (signs b a ≡ true)
       by (inl g) (inl h) =
           let one = read_same a x none g in
           let two = read_same b x none h in
           let params : a.params ≡ map (put [] []) b.params = one.1 ∙ (sym (all_twice x.params) ∙ ap (map (put [] [])) (sym two.1)) in
-          inl (first_of_two (same_signature a b) (is_erasure T a b) (make_same a b one.0 (bare one.0) two.0 (empty two.0) params))
+          inl (or_left (same_signature a b) (is_erasure T a b) (make_same a b one.0 (bare one.0) two.0 (empty two.0) params))
       by (inr g) (inr h) =
           let one = read_erasure T a x none g in
           let two = read_erasure T b x none h in
           let params : a.params ≡ map (put [] []) b.params = one.1 ∙ (sym (plain_twice T x.params) ∙ ap (map (put [] [])) (sym two.1)) in
-          inl (first_of_two (same_signature a b) (is_erasure T a b) (make_same a b one.0 (bare one.0) two.0 (empty two.0) params))
+          inl (or_left (same_signature a b) (is_erasure T a b) (make_same a b one.0 (bare one.0) two.0 (empty two.0) params))
       by (inl g) (inr h) =
           let one = read_same a x none g in
           let two = read_erasure T b x none h in
           let params : b.params ≡ map (plain T) a.params = two.1 ∙ (sym (plain_behind T x.params) ∙ ap (map (plain T)) (sym one.1)) in
-          inr (second_of_two (same_signature b a) (is_erasure T b a) (make_erasure T b a two.0 one.0 params))
+          inr (or_right (same_signature b a) (is_erasure T b a) (make_erasure T b a two.0 one.0 params))
       by (inr g) (inl h) =
           let one = read_erasure T a x none g in
           let two = read_same b x none h in
           let params : a.params ≡ map (plain T) b.params = one.1 ∙ (sym (plain_behind T x.params) ∙ ap (map (plain T)) (sym two.1)) in
-          inl (second_of_two (same_signature a b) (is_erasure T a b) (make_erasure T a b one.0 two.0 params))
+          inl (or_right (same_signature a b) (is_erasure T a b) (make_erasure T a b one.0 two.0 params))
 
   abbrev named : MethodView → List ℕ
   named v = method_name_of T v.id
@@ -180,17 +153,17 @@ module _ (T : Table) (a b x : MethodView) (none : x.vars ≡ []) (bare : a.vars 
   equivalent e f = by (like one.1 two.1)
     where
       one : (bytes_eq (named a) (named x) ≡ true) × (signs a x ≡ true)
-      one = halves (bytes_eq (named a) (named x)) (signs a x) e
+      one = and_parts (bytes_eq (named a) (named x)) (signs a x) e
 
       two : (bytes_eq (named b) (named x) ≡ true) × (signs b x ≡ true)
-      two = halves (bytes_eq (named b) (named x)) (signs b x) f
+      two = and_parts (bytes_eq (named b) (named x)) (signs b x) f
 
       names : named a ≡ named b
-      names = name_same (named a) (named x) one.0 ∙ sym (name_same (named b) (named x) two.0)
+      names = same_bytes (named a) (named x) one.0 ∙ sym (same_bytes (named b) (named x) two.0)
 
       by : (signs a b ≡ true) ⊎ (signs b a ≡ true) → override_equivalent T a b ≡ true
-      by (inl h) = first_of_two (subsignature T a b) (subsignature T b a) (whole (bytes_eq (named a) (named b)) (signs a b) (ap (bytes_eq (named a)) (sym names) ∙ name_self (named a)) h)
-      by (inr h) = second_of_two (subsignature T a b) (subsignature T b a) (whole (bytes_eq (named b) (named a)) (signs b a) (ap (bytes_eq (named b)) names ∙ name_self (named b)) h)
+      by (inl h) = or_left (subsignature T a b) (subsignature T b a) (and_from (bytes_eq (named a) (named b)) (signs a b) (ap (bytes_eq (named a)) (sym names) ∙ own_bytes (named a)) h)
+      by (inr h) = or_right (subsignature T a b) (subsignature T b a) (and_from (bytes_eq (named b) (named a)) (signs b a) (ap (bytes_eq (named b)) names ∙ own_bytes (named b)) h)
 
 -- ---- views without type parameters
 

@@ -1,7 +1,8 @@
 -- Written supertypes have an exact argument for each parameter of their class, or are raw.
 use Rattle.std.proofs.Common.{◌≡◌, ◌≢◌, ℕ, suc, ◌==◌, Bool, true, false, ◌||◌, Some, List, [], ◌∷◌, length, map, arith, refl, sym, ap, ◌∙◌}
 use Rattle.std.specs.List.{list_any}
-use Rattle.std.proofs.lemmas.Bool.Decides.{nat_tests}
+use Rattle.std.proofs.lemmas.Bool.{or_parts}
+use Rattle.jc_rules.proofs.Truths.{equal_numbers}
 use Rattle.jc_types.specs.declared.declarations.ClassDecl.{ClassDecl}
 use Rattle.jc_types.specs.declared.declarations.TypePlaces.{TypePlaces}
 use Rattle.jc_types.specs.declared.form.Arg.{Arg, Arg-F, out-Arg, roll-Arg, roll-out-Arg}
@@ -20,7 +21,7 @@ use Rattle.jc_header_rules.specs.Checked.{IsSupertype, with_arguments, without}
 use Rattle.jc_header_rules.specs.Types.{has_wildcard_at, is_wildcard_at, types_breaks}
 use Rattle.jc_header_laws.specs.Facts.{IsNumber, IsPair}
 use Rattle.jc_header_laws.proofs.Forming.{exact, super_faultless}
-use Rattle.jc_header_laws.proofs.Lists.{fore, or_false}
+use Rattle.jc_header_laws.proofs.Lists.{fore}
 
 -- ---- arguments without wildcards
 
@@ -37,13 +38,10 @@ all_exact : (args : List Arg) → has_wildcard args ≡ false → (types : List 
 all_exact [] e = ([], refl)
 all_exact (a ∷ args) e =
     let first = exact_first a (out-Arg a) refl (has_wildcard args) e in
-    let rest = all_exact args (or_false (is_wildcard_at (out-Arg a)) (has_wildcard args) e).1 in
+    let rest = all_exact args (or_parts (is_wildcard_at (out-Arg a)) (has_wildcard args) e).1 in
     (first.0 ∷ rest.0, ap (λ (b : Arg). b ∷ args) first.1 ∙ ap (λ (bs : List Arg). Exact first.0 ∷ bs) rest.1)
 
 -- ---- as many as there are parameters
-
-same_count : (m n : ℕ) → (m == n) ≡ true → m ≡ n
-same_count m n e = grind (arith, nat_tests)
 
 counted : (T : Table) (vars : List VarId) (args : List Arg) (b : Bool) → counted_faults T [] vars args b ≡ [] → b ≡ true
 counted T vars args true e = refl
@@ -52,7 +50,7 @@ counted T vars args false e = absurd cc
 class_counted : (T : Table) (id : ClassId) (args : List Arg) → class_faults T [] (Class id args) ≡ [] → length args ≡ length (vars_of T id)
 unfolding class_faults
 class_counted T id args e =
-    same_count (length args) (length (vars_of T id))
+    equal_numbers (length args) (length (vars_of T id))
     (counted T (vars_of T id) args (length args == length (vars_of T id)) (ap (faults_at T []) (sym (outs-Class id args)) ∙ e))
 
 mapped_count : (types : List Ty) → length (map Exact types) ≡ length types

@@ -4,7 +4,7 @@ ghost use Rattle.jc_declares.specs.Sites.{membered, some_of, is_constructor_impl
 
 use crate::classes::is_interface_head;
 use crate::marks::says;
-use jc_tree::{Declaration, DeclarationHead, Member, ModifierWord};
+use jc_tree::{DeclarationHead, Member, ModifierWord};
 
 #[tactic(auto, using(crate::proofs::MembersByParts::members))]
 fn constructs(member: &Member) -> bool

@@ -11,6 +11,7 @@ use Rattle.std.specs.Option.{option_map}
 use Rattle.std.specs.Str.{bytes_eq}
 use Rattle.std.specs.declared.option.Option.{Option}
 use Rattle.std.specs.declared.option.Option.TheVariants.{Some, None}
+use Rattle.jc_rules.proofs.Truths.{and_assoc}
 use Rattle.jc_class_out.specs.declared.model.ClassModel.{ClassModel}
 use Rattle.jc_class_out.specs.declared.model.MethodModel.{MethodModel}
 use Rattle.jc_jvm.specs.Classes.{is_method, is_selectable, line_of, line_on, method_among, methods_of, or_else, selected, super_of}
@@ -25,10 +26,6 @@ use Rattle.jc_selecting.proofs.Lines.{found_none, found_zero, found_suc}
 use Rattle.jc_selecting.specs.Found as found
 
 -- ---- one text for both
-
-and_assoc : (a b c : Bool) → ((a && b) && c) ≡ (a && (b && c))
-and_assoc true b c = refl
-and_assoc false b c = refl
 
 same_joined : (a b d e : List ℕ) → bytes_eq (joined a d) (joined b e) ≡ (bytes_eq a b && bytes_eq d e)
 same_joined [] [] d e = refl

@@ -3,6 +3,8 @@ use Rattle.std.proofs.lemmas.Grind.{common_steps}
 use Rattle.std.proofs.lemmas.Bool.Decides.{nat_tests}
 use Rattle.std.proofs.Common.{take, drop, slice_index_or, ◌-◌, arith, ◌≡◌, ◌≢◌, ◌⊎◌, inl, inr, ℕ, zero, suc, ◌+◌, ◌<◌, ◌≤◌, ◌||◌, ◌==◌, Bool, true, false, Option, Some, None, List, [], ◌∷◌, ◌++◌, append_assoc, length, slice_get, slice_set, refl, sym, ap, subst, ◌∙◌}
 use Rattle.std.specs.List.{list_any}
+use Rattle.std.proofs.lemmas.Bool.{or_right, or_left, or_cases}
+use Rattle.jc_rules.proofs.Truths.{self_equal, as_true}
 use Rattle.jc_heap.specs.Above.{Added, AreAbove, Cleared, Filled, Grown, IsBlank, IsIn, IsMarked, Put, Searching, Walk, opens, put_by}
 use Rattle.jc_heap.specs.Supers.{below_by, supers_at}
 use Rattle.jc_heap.proofs.Below.{below_by-none, below_by-suc}
@@ -49,24 +51,9 @@ at_end (z ∷ xs) x (suc j) y e = by (at_end xs x j y e)
     by (inl e) = inl e
     by (inr p) = inr (ap suc p.0, p.1)
 
-same_test : (x : ℕ) → (x == x) ≡ true
-same_test x = grind (arith, nat_tests)
-
 by_test : (x y : ℕ) (b : Bool) → (x == y) ≡ b → b ≡ true → x ≡ y
 by_test x y true e t = grind (arith, nat_tests)
 by_test x y false e t = cc
-
-or_left : (a b : Bool) → a ≡ true → (a || b) ≡ true
-or_left true b e = refl
-or_left false b e = cc
-
-or_right : (a b : Bool) → b ≡ true → (a || b) ≡ true
-or_right true b e = refl
-or_right false b e = e
-
-or_either : (a b : Bool) → (a || b) ≡ true → (a ≡ true) ⊎ (b ≡ true)
-or_either true b e = inl refl
-or_either false b e = inr e
 
 any_in : (f : ℕ → Bool) (x : ℕ) (xs : List ℕ) → IsIn x xs → f x ≡ true → list_any f xs ≡ true
 any_in f x [] m e = absurd m
@@ -75,7 +62,7 @@ any_in f x (y ∷ xs) (inr m) e = or_right (f y) (list_any f xs) (any_in f x xs 
 
 any_one : (f : ℕ → Bool) (xs : List ℕ) → list_any f xs ≡ true → (x : ℕ) × IsIn x xs × (f x ≡ true)
 any_one f [] e = cc
-any_one f (y ∷ xs) e = by (λ t. any_one f xs t) (or_either (f y) (list_any f xs) e)
+any_one f (y ∷ xs) e = by (λ t. any_one f xs t) (or_cases (f y) (list_any f xs) e)
   where
     by : (list_any f xs ≡ true → (x : ℕ) × IsIn x xs × (f x ≡ true)) → (f y ≡ true) ⊎ (list_any f xs ≡ true) → (x : ℕ) × IsIn x (y ∷ xs) × (f x ≡ true)
     by more (inl t) = (y, inl refl, t)
@@ -87,7 +74,7 @@ any_one f (y ∷ xs) e = by (λ t. any_one f xs t) (or_either (f y) (list_any f 
 below_itself : (es : List (List ℕ)) (n a : ℕ) → below_by es (n + 1) a a ≡ true
 below_itself es n a =
     ap (λ (k : ℕ). below_by es k a a) (let e : n + 1 ≡ suc n = omega arith in e) ∙ below_by-suc es n a a
-    ∙ or_left (a == a) (list_any (below_by es n a) (supers_at es a)) (same_test a)
+    ∙ or_left (a == a) (list_any (below_by es n a) (supers_at es a)) (self_equal a)
 
 below_over : (es : List (List ℕ)) (n w a s : ℕ) → IsIn s (supers_at es a) → below_by es n w s ≡ true → below_by es (n + 1) w a ≡ true
 below_over es n w a s i e =
@@ -96,7 +83,7 @@ below_over es n w a s i e =
 
 -- over one step or more: itself, or over one that is directly above
 below_cases : (es : List (List ℕ)) (n w a : ℕ) → below_by es (suc n) w a ≡ true → (a ≡ w) ⊎ ((s : ℕ) × IsIn s (supers_at es a) × (below_by es n w s ≡ true))
-below_cases es n w a e = by (or_either (a == w) (list_any (below_by es n w) (supers_at es a)) (sym (below_by-suc es n w a) ∙ e))
+below_cases es n w a e = by (or_cases (a == w) (list_any (below_by es n w) (supers_at es a)) (sym (below_by-suc es n w a) ∙ e))
   where
     by : ((a == w) ≡ true) ⊎ (list_any (below_by es n w) (supers_at es a) ≡ true) → (a ≡ w) ⊎ ((s : ℕ) × IsIn s (supers_at es a) × (below_by es n w s ≡ true))
     by (inl t) = inl (by_test a w (a == w) refl t)
@@ -355,13 +342,8 @@ all_marked es a m r at h l (suc n) w k i e = by (λ s marked t. all_marked es a 
         let q = place_of k r (h.walk.lists k i) in
         more t.0 (h.done q.0 k t.0 (omega (arith, q.1, l)) q.2 t.1) t.2
 
-same_bool : (p q : Bool) → (p ≡ true → q ≡ true) → (q ≡ true → p ≡ true) → p ≡ q
-same_bool true q f g = sym (f refl)
-same_bool false true f g = g refl
-same_bool false false f g = refl
-
 pub found : (es : List (List ℕ)) (a : ℕ) (m : List Bool) (r : List ℕ) (at : ℕ) → Searching es a m r at → length r ≤ at → AreAbove es a r
-found es a m r at h l = λ w. same_bool (list_any (λ (y : ℕ). y == w) r) (below_by es (length es) w a) (near w) (far w)
+found es a m r at h l = λ w. as_true (list_any (λ (y : ℕ). y == w) r) (below_by es (length es) w a) (near w) (far w)
   where
     near : (w : ℕ) → list_any (λ (y : ℕ). y == w) r ≡ true → below_by es (length es) w a ≡ true
     near w e =
@@ -372,16 +354,13 @@ found es a m r at h l = λ w. same_bool (list_any (λ (y : ℕ). y == w) r) (bel
         below_up es (q.0 + 1) (length es) w a (omega (arith, q.1, c)) (subst (λ (v : ℕ). below_by es (q.0 + 1) v a ≡ true) same (h.walk.near q.0 one.0 q.2))
 
     far : (w : ℕ) → below_by es (length es) w a ≡ true → list_any (λ (y : ℕ). y == w) r ≡ true
-    far w e = any_in (λ (y : ℕ). y == w) w r (h.walk.lists w (all_marked es a m r at h l (length es) w a h.self e)) (same_test w)
+    far w e = any_in (λ (y : ℕ). y == w) w r (h.walk.lists w (all_marked es a m r at h l (length es) w a h.self e)) (self_equal w)
 
 -- what is found is within the marks
 pub found_within : (es : List (List ℕ)) (a : ℕ) (m : List Bool) (r : List ℕ) (at : ℕ) → Searching es a m r at → (x : ℕ) → IsIn x r → x < length m
 found_within es a m r at h x i = marked_within m x (h.walk.marked x i)
 
 -- ---- marks are taken back
-
-pub cleared_none : (xs : List ℕ) (m : List Bool) → ((x : ℕ) → IsMarked m x → IsIn x xs) → Cleared xs xs m m
-cleared_none xs m l = record { size = refl; left = l; within = λ x i. i }
 
 cleared_more : (xs rest : List ℕ) (m n : List Bool) (x : ℕ) → Cleared xs (x ∷ rest) m n → Cleared xs rest m (slice_set n x false)
 cleared_more xs rest m n x c = record {
@@ -401,7 +380,3 @@ cleared_step xs (x ∷ rest) m n k l e c = subst (λ q. Cleared xs q m k) (sym (
 pub clear_place : (xs rest : List ℕ) (m n : List Bool) → 1 ≤ length rest → ((x : ℕ) → IsIn x xs → x < length m) → Cleared xs rest m n → slice_index_or rest 0 0 < length n
 clear_place xs [] m n l b c = absurd (omega arith)
 clear_place xs (x ∷ rest) m n l b c = let h = b x (c.within x (inl refl)) in let z = c.size in omega arith
-
-pub cleared_end : (xs rest : List ℕ) (m n : List Bool) → length rest < 1 → Cleared xs rest m n → IsBlank n (length m)
-cleared_end xs [] m n l c = record { size = c.size; none = λ x i. c.left x i }
-cleared_end xs (x ∷ rest) m n l c = absurd (omega arith)

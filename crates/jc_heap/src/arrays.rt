@@ -1,5 +1,5 @@
 //! Lengths of arrays, and new arrays.
-ghost use Rattle.std.specs.Prelude.{◌≡◌, IfOk, OnErr, replicate, slice_get};
+ghost use Rattle.std.specs.Prelude.{◌≡◌, IfOk, OnErr, slice_get};
 ghost use Rattle.jc_jvm.specs.Objects.{length_pushed, array_length as length_of, array_made};
 ghost use Rattle.jc_jvm.specs.Types.{zero_of};
 ghost use Rattle.jc_jvm.specs.Worlds.{zeros as zeros_of, with_array, next_address};

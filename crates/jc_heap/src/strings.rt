@@ -1,6 +1,6 @@
 //! Strings, and those of literals.
 ghost use Rattle.std.specs.Prelude.{◌≡◌, IfOk, None};
-ghost use Rattle.jc_jvm.specs.Objects.{literal_made, literal_by, literal_pushed};
+ghost use Rattle.jc_jvm.specs.Objects.{literal_made, literal_pushed};
 ghost use Rattle.jc_jvm.specs.Worlds.{with_cell, with_string, string_cell, string_address, chars_cell, next_address, interned_in};
 ghost use Rattle.jc_plain.specs.Acted.{acted};
 ghost use Rattle.jc_heap.specs.Strings.{StringMade};

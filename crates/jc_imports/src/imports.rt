@@ -7,7 +7,7 @@ ghost use Rattle.jc_imports.specs.Founds.{found_of};
 ghost use Rattle.jc_imports.specs.Imported.{with_firsts, demand_of, imports_by, imports_seen, IsImports};
 
 use crate::canonical::{Found, imported};
-use jc_declares::{ImportHead, Path, UnitHead};
+use jc_declares::{ImportHead, Path};
 use jc_name_index::Indexed;
 use jc_rules::{Items, Text, WantOfMemory};
 use jc_types::Names;

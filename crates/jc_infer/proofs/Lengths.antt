@@ -15,6 +15,3 @@ parameters_length T env is (v ∷ vs) bss = ap suc (parameters_length T env is v
 pub mapped_length : {A B : Type 0} (f : A → B) (xs : List A) → length xs ≡ length (map f xs)
 mapped_length f [] = refl
 mapped_length f (x ∷ xs) = ap suc (mapped_length f xs)
-
-pub answers_length : {A : Type 0} (T : Table) (env : List Bounds) (is : List Implied) (vs : List VarId) (bss : List (List Ty)) (f : Parameter → A) → length vs ≡ length (map f (parameters T env is vs bss))
-answers_length T env is vs bss f = parameters_length T env is vs bss ∙ mapped_length f (parameters T env is vs bss)

@@ -1,6 +1,5 @@
 //! The questions on the answers.
-ghost use Rattle.std.specs.Prelude.{◌≡◌, ◌+◌, ◌≤◌, ◌^◌, IfOk, length, map};
-ghost use Rattle.jc_types.specs.Substitution.{subst};
+ghost use Rattle.std.specs.Prelude.{◌≡◌, ◌+◌, ◌≤◌, ◌^◌, IfOk, length};
 ghost use Rattle.jc_infer.specs.Steps.{answer, meets};
 ghost use Rattle.jc_judge.specs.Forming.{first_fault, type_faults};
 ghost use Rattle.jc_infer.specs.Asked.{all_asked, one_asked, refused, within};
@@ -10,7 +9,7 @@ use crate::outcome::{Inference, Parameter, Why};
 use jc_constraints::Implied;
 use jc_rules::{Items, Stop, WantOfMemory};
 use jc_sub::below;
-use jc_types::{Env, Table, Ty, VarId, copy_types, is_row, substitute_all};
+use jc_types::{Env, Table, Ty, VarId, is_row, substitute_all};
 use jc_wellformed::{Answer, TypeFault, check_type};
 use std::alloc::Global;
 

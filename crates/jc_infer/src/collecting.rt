@@ -1,5 +1,5 @@
 //! The constraints of a call's arguments, and what they imply of one type parameter.
-ghost use Rattle.std.specs.Prelude.{◌≡◌, IfOk, length};
+ghost use Rattle.std.specs.Prelude.{◌≡◌, IfOk};
 ghost use Rattle.jc_infer.specs.Steps.{by_argument, by_arguments, by_call, is_of, standing_so};
 
 use crate::stretching::formals;

@@ -1,5 +1,5 @@
 //! The constraints of the target and of the bounds, for the parameters that the arguments leave open (JLS 15.12.2.8).
-ghost use Rattle.std.specs.Prelude.{◌≡◌, IfOk, length, map};
+ghost use Rattle.std.specs.Prelude.{◌≡◌, IfOk, length};
 ghost use Rattle.std.specs.Option.{option_copied};
 ghost use Rattle.jc_types.specs.Substitution.{subst};
 ghost use Rattle.jc_infer.specs.Naming.{names};

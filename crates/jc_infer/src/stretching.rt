@@ -1,5 +1,5 @@
 //! The types of a method's parameters as a call has them (JLS 15.12.2.4).
-ghost use Rattle.std.specs.Prelude.{◌≡◌, IfOk, length, replicate};
+ghost use Rattle.std.specs.Prelude.{◌≡◌, IfOk, replicate};
 ghost use Rattle.jc_types.specs.Arrays.{element};
 ghost use Rattle.jc_infer.specs.Formals.{formals, or_same, stretched};
 

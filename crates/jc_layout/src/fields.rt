@@ -1,6 +1,6 @@
 //! The fields of objects, and what new ones hold (JLS 4.12.5).
 ghost use Rattle.std.specs.Prelude.{◌≡◌, ◌+◌, ◌++◌, IfOk, OnOk, map};
-ghost use Rattle.jc_heaps.specs.Layout.{default_base, default_erased, default_of, default_value, field_class, fields_above, fields_within, instance_only, is_static, new_fields, object_fields, place_in, slot_of, zero_of};
+ghost use Rattle.jc_heaps.specs.Layout.{default_erased, default_of, default_value, field_class, fields_above, fields_within, instance_only, is_static, new_fields, object_fields, place_in, slot_of, zero_of};
 
 use crate::testing::superclass_of;
 use jc_rules::{Items, WantOfMemory};

@@ -1,6 +1,6 @@
 //! Which classes are below which, as a running program tests them.
 ghost use Rattle.std.specs.Prelude.{◌≡◌, ◌+◌, ◌<◌, ◌^◌};
-ghost use Rattle.jc_heaps.specs.Classes.{any_of, class_of, element_of, first_class, in_class, is_array, is_base_of, is_object_base, is_of, is_subclass, is_within, methods_class, same_base, same_erased, same_primitive, superclass_of};
+ghost use Rattle.jc_heaps.specs.Classes.{any_of, class_of, element_of, in_class, is_array, is_base_of, is_object_base, is_of, is_subclass, is_within, methods_class, same_base, same_erased, same_primitive, superclass_of};
 
 use jc_types::{Base, ClassId, Erased, Primitive, Table, Ty, class_supers};
 

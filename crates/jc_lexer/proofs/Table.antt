@@ -3,6 +3,7 @@ use Rattle.std.proofs.Common.{◌≡◌, ℕ, ◌<◌, ◌≤◌, Bool, true, fa
 use Rattle.std.specs.Prelude.{◌&&◌, nat_lt, nat_le, Option, IfSome}
 use Rattle.std.specs.List.{list_all}
 use Rattle.std.proofs.lemmas.Bool.Decides.{nat_tests}
+use Rattle.std.proofs.lemmas.Bool.{and_parts as both}
 use Rattle.jc_lexer.specs.declared.signs.Spelling.{Spelling}
 use Rattle.jc_lexer.specs.declared.signs.TheConstants.{SIGNS}
 use Rattle.jc_lexer.specs.declared.symbol.Symbol.{Symbol}
@@ -37,10 +38,6 @@ sign_some text (Some s) e =
 abbrev descends : List Spelling → Bool
 descends [] = true
 descends (s ∷ signs) = list_all (λ (d : Spelling). nat_le d.len s.len) signs && descends signs
-
-both : (a b : Bool) → (a && b) ≡ true → (a ≡ true) × (b ≡ true)
-both true b h = (refl, h)
-both false b h = cc
 
 shorter : (n : ℕ) (signs : List Spelling) (text : List Symbol) → list_all (λ (d : Spelling). nat_le d.len n) signs ≡ true → EachBegins signs text (λ d. d.len ≤ n)
 shorter n [] text h = tt

@@ -5,6 +5,7 @@ use Rattle.std.proofs.lemmas.Bool.Decides.{nat_tests}
 use Rattle.std.specs.Str.{bytes_eq, encode_utf8_all}
 use Rattle.std.specs.List.{list_all}
 use Rattle.std.proofs.lemmas.Slice.Eq.{bytes_eq-Decides}
+use Rattle.std.proofs.lemmas.Bool.{and_parts}
 use Rattle.jc_lexer.specs.declared.fault.LexFault.{LexFault}
 use Rattle.jc_lexer.specs.declared.fault.LexFault.TheVariants.{BadCharacter, Dollar}
 use Rattle.jc_lexer.specs.declared.lexeme.Step.{Step}
@@ -129,14 +130,10 @@ sign_is text None h =
     (either text (is_high (code_at text 0) && is_break (code_at text 1)) _ _ (fault text (torn text)) (fault text (BadCharacter (from_at text 0))))
 sign_is text (Some s) h = record { is = (h, tt) }
 
-both : (a b : Bool) → (a && b) ≡ true → (a ≡ true) × (b ≡ true)
-both true b h = (refl, h)
-both false b h = cc
-
 lengths_of : (signs : List Spelling) → list_all (λ (s : Spelling). nat_lt 0 s.len) signs ≡ true → HaveLengths signs
 lengths_of [] h = tt
 lengths_of (s ∷ signs) h =
-    let p = both (nat_lt 0 s.len) (list_all (λ (s : Spelling). nat_lt 0 s.len) signs) h in
+    let p = and_parts (nat_lt 0 s.len) (list_all (λ (s : Spelling). nat_lt 0 s.len) signs) h in
     let e : nat_lt 0 s.len ≡ true = p.0 in
     let l : 0 < s.len = grind (arith, nat_tests) in
     (l, lengths_of signs p.1)
@@ -156,7 +153,7 @@ no_slash : (c d : ℕ) → (c == d) ≡ true → (d == 47) ≡ false → (c == 4
 no_slash c d e f = let same : c ≡ d = grind (arith, nat_tests) in ap (λ (k : ℕ). k == 47) same ∙ f
 
 digit_is_no_slash : (c : ℕ) → is_decimal c ≡ true → (c == 47) ≡ false
-digit_is_no_slash c e = let p = both (nat_le 48 c) (nat_le c 57) e in let l : nat_le 48 c ≡ true = p.0 in grind (arith, nat_tests)
+digit_is_no_slash c e = let p = and_parts (nat_le 48 c) (nat_le c 57) e in let l : nat_le 48 c ≡ true = p.0 in grind (arith, nat_tests)
 
 module _ (s : Symbol) (text : List Symbol) (end : (s.code == END) ≡ false) (whole : is_break s.code ≡ false) (black : is_space s.code ≡ false) where
   begins_at : (s.code == 47) ≡ false → is_word_start s.code ≡ false → Begins s.code

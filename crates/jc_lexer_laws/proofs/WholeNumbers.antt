@@ -4,6 +4,7 @@ use Rattle.std.specs.Prelude.{◌||◌, ◌&&◌, ◌==◌, nat_lt, not}
 use Rattle.std.proofs.lemmas.Bool.Decides.{nat_tests}
 use Rattle.std.proofs.lemmas.List.{drop-take, length-take-le}
 use Rattle.std.proofs.lemmas.List.Sums.{prefix_len-le-length}
+use Rattle.std.proofs.lemmas.Bool.{or_parts}
 use Rattle.jc_lexer.specs.declared.number.Numeral.{Numeral}
 use Rattle.jc_lexer.specs.declared.number.Numeral.TheVariants.{Whole, Malformed, Real, Cut}
 use Rattle.jc_lexer.specs.declared.number.Tail.{Tail}
@@ -74,10 +75,6 @@ passed true bad x value d len e = absurd (let f : Cut ≡ Whole value d len = e 
 passed false true x value d len e = absurd (let f : Malformed ≡ Whole value d len = e in cc)
 passed false false x value d len e = record { whole = refl; good = refl; is = e }
 
-first_of : (a b : Bool) → (a || b) ≡ false → (a ≡ false) × (b ≡ false)
-first_of true b e = absurd (let f : true ≡ false = e in cc)
-first_of false b e = (refl, e)
-
 is_some : (n : ℕ) → (n == 0) ≡ false → 0 < n
 is_some zero e = absurd (let f : true ≡ false = e in cc)
 is_some (suc n) e = omega arith
@@ -106,7 +103,7 @@ hexes_alike a u k r ends = run_alike HexDigits k a u r ends.same (calm (passes H
 -- the last of so many symbols, and whether there are any
 last_alike : (a u : List Symbol) (k : ℕ) → Ends a u k → ((k == 0) || (code_at a (k - 1) == 95)) ≡ false → ((k == 0) || (code_at u (k - 1) == 95)) ≡ false
 last_alike a u k ends good =
-    let p = first_of (k == 0) (code_at a (k - 1) == 95) good in
+    let p = or_parts (k == 0) (code_at a (k - 1) == 95) good in
     let some : 0 < k = is_some k p.0 in
     let same : code_at u (k - 1) ≡ code_at a (k - 1) = code_alike k (k - 1) a u ends.same (omega (arith, some)) in
     both_of (k == 0) (code_at u (k - 1) == 95) p.0 (ap (λ (c : ℕ). c == 95) same ∙ p.1)
@@ -221,7 +218,7 @@ binary_is : (o : Option ℕ) (k : ℕ) (a u : List Symbol) (value : ℕ) (d : Bo
 unfolding binary_after
 binary_is None k a u value d len ends p = absurd (let f : ◌≡◌ {A = Option ℕ} None (Some value) = p.2 in cc)
 binary_is (Some v) k a u value d len ends p =
-    let some : 0 < k = is_some k (first_of (k == 0) (code_at a (k - 1) == 95) p.1).0 in
+    let some : 0 < k = is_some k (or_parts (k == 0) (code_at a (k - 1) == 95) p.1).0 in
     let front : code_at u 0 ≡ code_at a 0 = code_alike k 0 a u ends.same some in
     no (code_at u 0 == 95) _ _ (ap (λ (c : ℕ). c == 95) front ∙ p.0) ∙
     (no (is_break (code_at u k)) _ _ (calm is_break (code_at u k) ends.calm refl refl refl) ∙
@@ -281,7 +278,7 @@ hex_two a value d len e = let p = is_hex_number (drop 2 a) value d len e in omeg
 
 binary_again : (a u : List Symbol) (value : ℕ) (d : Bool) (len k : ℕ) → run_length Digits (drop 2 a) ≡ k → IsBinary (whole_value 2 (take k (drop 2 a))) (drop 2 a) value d len k → Ends a u len → WholeAgain (binary_number (drop 2 u)) a value d len
 binary_again a u value d len k r p ends =
-    let some : 0 < k = is_some k (first_of (k == 0) (code_at (drop 2 a) (k - 1) == 95) p.1).0 in
+    let some : 0 < k = is_some k (or_parts (k == 0) (code_at (drop 2 a) (k - 1) == 95) p.1).0 in
     let within : run_length Digits (drop 2 a) ≤ length (drop 2 a) = prefix_len-le-length _ (drop 2 a) in
     (binary_whole (drop 2 a) (drop 2 u) value d len k r p (ends_behind k len a u p.4 ends), (let l = length_behind k a some (omega (arith, within, r)) in omega (arith, l, p.4)))
 

@@ -2,12 +2,13 @@
 use Rattle.std.proofs.Common.{◌≡◌, ℕ, Bool, true, false, List, [], ◌∷◌, ◌++◌, Option, Some, None, refl, sym, ap, ◌∙◌}
 use Rattle.std.specs.Prelude.{◌&&◌, ◌||◌, cond, if◌then◌else◌}
 use Rattle.std.specs.Str.{bytes_eq}
+use Rattle.jc_rules.proofs.Truths.{same_bytes}
 use Rattle.jc_types.specs.Names.{named}
 use Rattle.jc_declares.specs.Heads.{Named}
 use Rattle.jc_declares.specs.Knowing.{is_some}
 use Rattle.jc_declares.specs.Looking.{AClass, classes, all_named}
 use Rattle.jc_name_index.specs.Spaces.{with_first}
-use Rattle.jc_name_index.proofs.SpacesNoted.{or_next, named_joined, first_named, bytes_same}
+use Rattle.jc_name_index.proofs.SpacesNoted.{or_next, named_joined, first_named}
 use Rattle.jc_looking.specs.declared.scene.Sight.TheVariants as sight
 use Rattle.jc_looking.specs.Sights.{sight_of, class_sight}
 use Rattle.jc_looking.specs.Members.{is_repeated, AreNoted, with_repeated}
@@ -105,11 +106,11 @@ one_more false false o p d e h = refl
 repeated_with : (o : Option ℕ) (n m : List ℕ) (c : ℕ) (es repeated : Named) → named m es ≡ o → is_some (named n repeated) ≡ is_repeated n es
     → is_some (named n (with_repeated o m c repeated)) ≡ (is_repeated n es || (bytes_eq n m && is_some (named n es)))
 repeated_with None n m c es repeated e h =
-    h ∙ no_more (bytes_eq n m) (is_repeated n es) (named n es) (named m es) e (λ q. ap (λ k. named k es) (bytes_same n m q))
+    h ∙ no_more (bytes_eq n m) (is_repeated n es) (named n es) (named m es) e (λ q. ap (λ k. named k es) (same_bytes n m q))
 repeated_with (Some d) n m c es repeated e h =
     ap is_some (first_named (named m repeated) n m c repeated refl) ∙ some_or (named n repeated) _
     ∙ ap (λ x. x || is_some (named n ((m, c) ∷ []))) h ∙ ap (λ x. is_repeated n es || x) (some_if (bytes_eq n m) c)
-    ∙ one_more (bytes_eq n m) (is_repeated n es) (named n es) (named m es) d e (λ q. ap (λ k. named k es) (bytes_same n m q))
+    ∙ one_more (bytes_eq n m) (is_repeated n es) (named n es) (named m es) d e (λ q. ap (λ k. named k es) (same_bytes n m q))
 
 pub noted_with : (m : List ℕ) (c : ℕ) (es firsts repeated : Named) → AreNoted es firsts repeated
     → AreNoted (es ++ (m, c) ∷ []) (with_first m c firsts) (with_repeated (named m firsts) m c repeated)

@@ -1,6 +1,6 @@
 //! Access (JLS 6.6).
 ghost use Rattle.std.specs.Prelude.{◌≡◌};
-ghost use Rattle.jc_declares.specs.Heads.{access_of, unit_of, unit_package, package_of, round_of, last_or, top_of_class};
+ghost use Rattle.jc_declares.specs.Heads.{access_of, unit_of, unit_package, package_of, round_of, top_of_class};
 ghost use Rattle.jc_declares.specs.Looking.{is_number, is_open, is_accessible};
 ghost use Rattle.jc_looking.specs.Standings.{asking};
 

@@ -1,7 +1,7 @@
 //! Names in the bodies and heads of types (JLS 6.3, 8.5).
 ghost use Rattle.std.specs.Prelude.{◌≡◌, [], Some};
 ghost use Rattle.std.specs.Option.{option_copied};
-ghost use Rattle.jc_declares.specs.Heads.{declared_of, class_variables, round_of, unit_of};
+ghost use Rattle.jc_declares.specs.Heads.{round_of, unit_of};
 ghost use Rattle.jc_declares.specs.Looking.{inherits, in_class, in_classes, in_body, in_head, member};
 ghost use Rattle.jc_looking.specs.Members.{known_in};
 ghost use Rattle.jc_looking.specs.Scenes.{IsScene};

@@ -1,5 +1,5 @@
 //! Names of several parts (JLS 6.5.2, 6.5.5.2).
-ghost use Rattle.std.specs.Prelude.{◌≡◌, ◌++◌, IfOk, OnOk, drop, codes};
+ghost use Rattle.std.specs.Prelude.{◌≡◌, ◌++◌, IfOk, OnOk, drop};
 ghost use Rattle.jc_declares.specs.Looking.{look_up, all_accessible};
 ghost use Rattle.jc_declares.specs.Knowing.{passed_all};
 ghost use Rattle.jc_looking.specs.Members.{known_in};

@@ -1,6 +1,5 @@
 -- Fields along superinterfaces and superclasses.
-use Rattle.std.proofs.Common.{◌≡◌, ◌<◌, ◌+◌, ◌-◌, ℕ, zero, suc, List, [], ◌∷◌, ◌++◌, position, slice_get, option_and_then, get_or, drop, length, refl, sym, ap, ◌∙◌, arith}
-use Rattle.std.proofs.Math.Seq.{drop-cons}
+use Rattle.std.proofs.Common.{◌≡◌, ◌<◌, ◌+◌, ◌-◌, ℕ, zero, suc, List, [], ◌∷◌, ◌++◌, position, slice_get, option_and_then, refl, sym, ap, ◌∙◌, arith}
 use Rattle.std.specs.List.{filter_map, cons_option}
 use Rattle.std.specs.Option.{option_map}
 use Rattle.std.specs.declared.option.Option.{Option}
@@ -62,11 +61,6 @@ field_more classes name descriptor zero k h = absurd (omega arith)
 field_more classes name descriptor (suc n) k h = let e : suc n - 1 ≡ n = omega arith in rw e (field_on-suc classes name descriptor n k)
 
 pub ruleset field_rules = (field_none, field_more)
-
--- one name more
-pub name_more : {A : Type 0} (f : ℕ → Option A) (named : List ℕ → Option ℕ) (xs : List (List ℕ)) (i : ℕ) (d : List ℕ) → i < length xs →
-    among_names f named (drop i xs) ≡ or_else (option_and_then f (named (get_or xs i d))) (among_names f named (drop (suc i) xs))
-name_more f named xs i d h = ap (λ ys. among_names f named ys) (drop-cons xs i d h)
 
 -- the class itself declares it
 pub own_field : (classes : List ClassModel) (name descriptor : List ℕ) (n k i : ℕ) → 0 < n → position (is_field name descriptor) (fields_of classes k) ≡ Some i → Some (k, i) ≡ field_on classes name descriptor n k

@@ -1,16 +1,15 @@
 -- Turns of a search for a field.
-use Rattle.std.proofs.Common.{◌≡◌, ◌⊎◌, inl, inr, ◌<◌, ◌≤◌, ◌+◌, ◌-◌, ◌∙◌, ◌++◌, ◌∷◌, [], ℕ, zero, suc, List, length, drop, get_or, set, position, option_and_then, replicate, reverse, refl, sym, ap, subst, arith}
-use Rattle.std.proofs.lemmas.List.{drop_all, reverse-append}
+use Rattle.std.proofs.Common.{◌≡◌, ◌⊎◌, ◌<◌, ◌≤◌, ◌+◌, ◌-◌, ◌∙◌, ◌++◌, ◌∷◌, [], ℕ, zero, suc, List, get_or, position, replicate, reverse, refl, sym, ap, subst, arith}
+use Rattle.std.proofs.lemmas.List.{reverse-append}
 use Rattle.std.specs.Option.{option_map}
 use Rattle.std.specs.declared.option.Option.{Option}
 use Rattle.std.specs.declared.option.Option.TheVariants.{Some, None}
 use Rattle.jc_class_out.specs.declared.model.ClassModel.{ClassModel}
-use Rattle.jc_jvm.specs.Classes.{class_named, field_on, fields_of, first_some, interfaces_of, is_field, listed, or_else, super_of}
-use Rattle.jc_lookups.proofs.FieldLines.{field_none, name_more, no_own_field, or_else-assoc, or_else-none, own_field}
-use Rattle.jc_lookups.specs.Interfaces.{among_names, interface_names}
-use Rattle.jc_lookups.specs.Searched.{AllSay, AreWithout, Says, Stands, Turn, found_above, visited_next, task_finds, tasks_find}
+use Rattle.jc_jvm.specs.Classes.{field_on, fields_of, first_some, interfaces_of, is_field, listed, or_else, super_of}
+use Rattle.jc_lookups.proofs.FieldLines.{field_none, no_own_field, or_else-assoc, or_else-none, own_field}
+use Rattle.jc_lookups.specs.Searched.{AllSay, Says, Stands, Turn, found_above, task_finds, tasks_find}
 use Rattle.jc_lookups.specs.declared.seeking.Task.{Task}
-use Rattle.jc_lookups.specs.declared.seeking.Task.TheVariants.{Visit, Climb, Leave}
+use Rattle.jc_lookups.specs.declared.seeking.Task.TheVariants.{Visit, Climb}
 
 -- ---- fewer steps find no more
 
@@ -102,89 +101,6 @@ visit_above classes name descriptor known steps class ts left some none same = �
     subst (λ (l : List Task). Stands classes name descriptor known l answer) (sym same)
     (replaced classes name descriptor known (Visit steps class) (Climb steps class 0) ts answer above (λ _. above) stands)
 
--- from a superinterface on
-pub climb_named : (classes : List ClassModel) (name descriptor known : List ℕ) (steps class at : ℕ) (d : List ℕ) (number : Option ℕ) (ts left : List Task) → at < length (interface_names classes class) →
-    class_named classes (get_or (interface_names classes class) at d) ≡ number → left ≡ visited_next (steps - 1) number (Climb steps class (at + 1) ∷ ts) →
-    Turn classes name descriptor known (Climb steps class at ∷ ts) known left None
-climb_named classes name descriptor known steps class at d number ts left inside named same = λ answer stands.
-    subst (λ (l : List Task). Stands classes name descriptor known l answer) (sym same) (by number named answer stands)
-  where
-    f : ℕ → Option (ℕ × ℕ)
-    f = field_on classes name descriptor (steps - 1)
-
-    more : Option (ℕ × ℕ)
-    more = among_names f (class_named classes) (drop (at + 1) (interface_names classes class))
-
-    over : Option (ℕ × ℕ)
-    over = option_and_then f (super_of classes class)
-
-    one : (o : Option ℕ) → class_named classes (get_or (interface_names classes class) at d) ≡ o → found_above classes name descriptor steps class at ≡ or_else (option_and_then f o) (found_above classes name descriptor steps class (at + 1))
-    one o is =
-        ap (λ (x : Option (ℕ × ℕ)). or_else x over)
-        (name_more f (class_named classes) (interface_names classes class) at d inside
-        ∙ ap (λ (x : Option ℕ). or_else (option_and_then f x) (among_names f (class_named classes) (drop (suc at) (interface_names classes class)))) is
-        ∙ ap (λ (n : ℕ). or_else (option_and_then f o) (among_names f (class_named classes) (drop n (interface_names classes class)))) (let e : suc at ≡ at + 1 = omega arith in e))
-        ∙ or_else-assoc (option_and_then f o) more over
-
-    by : (o : Option ℕ) → class_named classes (get_or (interface_names classes class) at d) ≡ o → (answer : Option (ℕ × ℕ)) → Stands classes name descriptor known (Climb steps class at ∷ ts) answer →
-        Stands classes name descriptor known (visited_next (steps - 1) o (Climb steps class (at + 1) ∷ ts)) answer
-    by (Some j) is answer stands =
-        split classes name descriptor known (Climb steps class at) (Visit (steps - 1) j) (Climb steps class (at + 1)) ts answer (one (Some j) is) tt
-        (λ none. stands.say.0 refl ∙ one (Some j) is ∙ ap (λ (o : Option (ℕ × ℕ)). or_else o (found_above classes name descriptor steps class (at + 1))) none) stands
-    by None is answer stands =
-        replaced classes name descriptor known (Climb steps class at) (Climb steps class (at + 1)) ts answer (one None is) (λ _. stands.say.0 refl ∙ one None is) stands
-
--- behind the last one
-pub climb_over : (classes : List ClassModel) (name descriptor known : List ℕ) (steps class at : ℕ) (number : Option ℕ) (ts left : List Task) → length (interface_names classes class) ≤ at →
-    super_of classes class ≡ number → left ≡ visited_next (steps - 1) number (Leave steps class ∷ ts) → Turn classes name descriptor known (Climb steps class at ∷ ts) known left None
-climb_over classes name descriptor known steps class at number ts left past is same = λ answer stands.
-    subst (λ (l : List Task). Stands classes name descriptor known l answer) (sym same) (by number is answer stands)
-  where
-    f : ℕ → Option (ℕ × ℕ)
-    f = field_on classes name descriptor (steps - 1)
-
-    over : (o : Option ℕ) → super_of classes class ≡ o → found_above classes name descriptor steps class at ≡ option_and_then f o
-    over o e =
-        ap (λ (names : List (List ℕ)). or_else (among_names f (class_named classes) names) (option_and_then f (super_of classes class))) (drop_all at (interface_names classes class) past)
-        ∙ ap (λ (x : Option ℕ). option_and_then f x) e
-
-    by : (o : Option ℕ) → super_of classes class ≡ o → (answer : Option (ℕ × ℕ)) → Stands classes name descriptor known (Climb steps class at ∷ ts) answer →
-        Stands classes name descriptor known (visited_next (steps - 1) o (Leave steps class ∷ ts)) answer
-    by (Some j) e answer stands =
-        split classes name descriptor known (Climb steps class at) (Visit (steps - 1) j) (Leave steps class) ts answer (over (Some j) e ∙ sym (or_else-none (f j))) tt
-        (λ none. stands.say.0 refl ∙ over (Some j) e ∙ none) stands
-    by None e answer stands =
-        replaced classes name descriptor known (Climb steps class at) (Leave steps class) ts answer (over None e) (λ _. stands.say.0 refl ∙ over None e) stands
-
--- all above a class was looked at
-pub leave_noted : (classes : List ClassModel) (name descriptor known after : List ℕ) (steps class : ℕ) (ts left : List Task) → after ≡ set known class steps → left ≡ ts →
-    Turn classes name descriptor known (Leave steps class ∷ ts) after left None
-leave_noted classes name descriptor known after steps class ts left noted same = λ answer stands.
-    let none : field_on classes name descriptor steps class ≡ None = stands.say.0 refl in
-    subst (λ (l : List Task). Stands classes name descriptor after l answer) (sym same) (record {
-      without = λ k. ap (λ (ks : List ℕ). field_on classes name descriptor (get_or ks k 0) k) noted ∙ set_none known class steps none stands.without k;
-      say = stands.say.1;
-      find = stands.find;
-    })
-  where
-    noted_at : (xs : List ℕ) (i v k : ℕ) → (get_or (set xs i v) k 0 ≡ get_or xs k 0) ⊎ ((k ≡ i) × (get_or (set xs i v) k 0 ≡ v))
-    noted_at [] i v k = inl refl
-    noted_at (x ∷ xs) zero v zero = inr (refl, refl)
-    noted_at (x ∷ xs) zero v (suc k) = inl refl
-    noted_at (x ∷ xs) (suc i) v zero = inl refl
-    noted_at (x ∷ xs) (suc i) v (suc k) = next (noted_at xs i v k)
-      where
-        next : (get_or (set xs i v) k 0 ≡ get_or xs k 0) ⊎ ((k ≡ i) × (get_or (set xs i v) k 0 ≡ v)) → (get_or (set xs i v) k 0 ≡ get_or xs k 0) ⊎ ((suc k ≡ suc i) × (get_or (set xs i v) k 0 ≡ v))
-        next (inl e) = inl e
-        next (inr e) = inr (ap (λ (n : ℕ). suc n) e.0, e.1)
-
-    set_none : (known : List ℕ) (class steps : ℕ) → field_on classes name descriptor steps class ≡ None → AreWithout classes name descriptor known → AreWithout classes name descriptor (set known class steps)
-    set_none known class steps none without k = by (noted_at known class steps k)
-      where
-        by : (get_or (set known class steps) k 0 ≡ get_or known k 0) ⊎ ((k ≡ class) × (get_or (set known class steps) k 0 ≡ steps)) → field_on classes name descriptor (get_or (set known class steps) k 0) k ≡ None
-        by (inl e) = ap (λ (n : ℕ). field_on classes name descriptor n k) e ∙ without k
-        by (inr e) = ap (λ (n : ℕ). field_on classes name descriptor n k) e.1 ∙ ap (λ (c : ℕ). field_on classes name descriptor steps c) e.0 ∙ none
-
 -- ---- the whole search
 
 zeros_at : (n k : ℕ) → get_or (replicate n zero) k zero ≡ zero
@@ -205,10 +121,6 @@ search_begins classes name descriptor known count steps class tasks zeros is =
       say = (tt, tt);
       find = or_else-none (field_on classes name descriptor steps class);
     })
-
--- behind its last one
-pub search_ends : (classes : List ClassModel) (name descriptor known : List ℕ) (tasks : List Task) (answer : Option (ℕ × ℕ)) → tasks ≡ [] → Stands classes name descriptor known (reverse tasks) answer → None ≡ answer
-search_ends classes name descriptor known tasks answer none stands = ap (λ (l : List Task). tasks_find classes name descriptor (reverse l)) (sym none) ∙ stands.find
 
 -- one turn more
 pub search_turns : (classes : List ClassModel) (name descriptor known : List ℕ) (tasks rest : List Task) (t : Task) (after : List ℕ) (left : List Task) (answer found : Option (ℕ × ℕ)) →

@@ -1,7 +1,7 @@
 //! Names of types, as Class.getName gives them.
 ghost use Rattle.std.specs.Prelude.{◌≡◌, ◌++◌, ◌==◌, IfOk, OnOk, replicate, if◌then◌else◌};
 ghost use Rattle.jc_jvm.specs.Classes.{name_of as name_by_number};
-ghost use Rattle.jc_jvm.specs.Types.{letter_of, dotted, binary_name, descriptor_of_base, name_of_base, name_of_shape};
+ghost use Rattle.jc_jvm.specs.Types.{letter_of, dotted, descriptor_of_base, name_of_base, name_of_shape};
 
 use jc_class_out::ClassModel;
 use jc_jvm::{Base, Shape};

@@ -1,5 +1,5 @@
 //! The native methods of the library, by name.
-ghost use Rattle.std.specs.Prelude.{◌≡◌, codes};
+ghost use Rattle.std.specs.Prelude.{◌≡◌};
 ghost use Rattle.jc_jvm.specs.Calls.{is_native_of, native_by, native_at};
 
 use crate::names::name_of_class;

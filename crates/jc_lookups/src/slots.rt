@@ -1,7 +1,7 @@
 //! Where a field stands in objects.
-ghost use Rattle.std.specs.Prelude.{◌≡◌, ◌==◌, ◌++◌, ◌&&◌, reverse, position, IfOk, OnOk};
+ghost use Rattle.std.specs.Prelude.{◌≡◌, ◌==◌, ◌++◌, ◌&&◌, reverse, IfOk, OnOk};
 ghost use Rattle.std.specs.List.{flat_map};
-ghost use Rattle.jc_jvm.specs.Classes.{fields_of, is_field, line_of, slot_of};
+ghost use Rattle.jc_jvm.specs.Classes.{fields_of, line_of, slot_of};
 ghost use Rattle.jc_jvm.specs.Table.{instance_slot};
 ghost use Rattle.jc_lookups.specs.FieldMarks.{own_marks};
 

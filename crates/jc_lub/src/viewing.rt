@@ -1,5 +1,5 @@
 //! The view of a type as a class, without capture.
-ghost use Rattle.std.specs.Prelude.{◌≡◌, ◌∷◌, [], map, length, IfOk};
+ghost use Rattle.std.specs.Prelude.{◌≡◌, ◌∷◌, [], map, IfOk};
 ghost use Rattle.jc_judge.specs.Views.{first_of};
 ghost use Rattle.jc_sub.specs.Reaching.{own_arg};
 ghost use Rattle.jc_lub.specs.Uncaptured.{object, class_view, up_view_within, up_view, view_steps};

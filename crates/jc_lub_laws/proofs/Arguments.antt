@@ -1,6 +1,6 @@
 -- Each argument of one place is contained in what the place gets.
 use Rattle.std.proofs.Common.{◌≡◌, inl, inr, ◌+◌, ◌==◌, ◌||◌, ◌&&◌, not, ℕ, zero, suc, Bool, true, false, Option, Some, None, List, [], ◌∷◌, length, drop, slice_get, refl, sym, ap, subst, ◌∙◌, if◌then◌else◌, arith}
-use Rattle.std.proofs.lemmas.Bool.Decides.{nat_tests}
+use Rattle.jc_rules.proofs.Truths.{and_first, and_second, equal_numbers}
 use Rattle.jc_types.specs.declared.form.Arg.{Arg, Arg-F, out-Arg}
 use Rattle.jc_types.specs.declared.form.Arg.TheVariants.{Any, outs-Any}
 use Rattle.jc_types.specs.declared.form.Ty.{Ty}
@@ -10,14 +10,6 @@ use Rattle.jc_lub.specs.Columns.{one_raw, or_any, column, all_same, upper_at, up
 use Rattle.jc_lub.specs.Uncaptured.{same_args, same_arg_at, args_of}
 use Rattle.jc_header_rules.specs.Checked.{IsAmong}
 use Rattle.jc_lub_laws.specs.Under.{IsIn, as_it_is, any, AllIn}
-
-pub both_first : (a b : Bool) → (a && b) ≡ true → a ≡ true
-both_first true b e = refl
-both_first false b e = cc
-
-pub both_second : (a b : Bool) → (a && b) ≡ true → b ≡ true
-both_second true b e = e
-both_second false b e = cc
 
 alike_layer : (l : Arg-F Arg Ty) → same_arg_at l l ≡ true
 alike_layer (Arg-F.Exact t) = same_self t
@@ -31,8 +23,8 @@ alike_self a = alike_layer (out-Arg a)
 
 all_alike : (c a : Arg) (cs : List Arg) → all_same c cs ≡ true → IsAmong a cs → same_args a c ≡ true
 all_alike c a [] e o = absurd o
-all_alike c a (b ∷ cs) e (inl s) = subst (λ x. same_args x c ≡ true) (sym s) (both_first (same_args b c) (all_same c cs) e)
-all_alike c a (b ∷ cs) e (inr o) = all_alike c a cs (both_second (same_args b c) (all_same c cs) e) o
+all_alike c a (b ∷ cs) e (inl s) = subst (λ x. same_args x c ≡ true) (sym s) (and_first (same_args b c) (all_same c cs) e)
+all_alike c a (b ∷ cs) e (inr o) = all_alike c a cs (and_second (same_args b c) (all_same c cs) e) o
 
 -- ---- upper bounds of a place
 
@@ -152,9 +144,6 @@ module _ (P : Ty → Type 0) (R : Ty → Ty → Type 0) (f : List Ty → Arg)
   pub all_in : (v : Ty) (vs : List Ty) (ps : List VarId) → ((w : Ty) → IsAmong w vs → AreBounded P (args_of w)) → IsAmong v vs → length (args_of v) ≡ length ps → AllIn R (args_of v) (joined_from f vs 0 ps)
   all_in v vs ps h o e = all_from v vs h o 0 ps (args_of v) refl e
 
-equal_of : (m n : ℕ) → (m == n) ≡ true → m ≡ n
-equal_of m n e = grind (arith, nat_tests)
-
 not_raw_by : (b c : Bool) → (not b || c) ≡ false → (b ≡ true) × (c ≡ false)
 not_raw_by true c e = (refl, e)
 not_raw_by false c e = cc
@@ -162,5 +151,5 @@ not_raw_by false c e = cc
 -- where no view is raw, each has as many arguments as its class has parameters
 pub as_many : (n : ℕ) (v : Ty) (vs : List Ty) → one_raw n vs ≡ false → IsAmong v vs → length (args_of v) ≡ n
 as_many n v [] e o = absurd o
-as_many n v (w ∷ vs) e (inl s) = ap (λ (x : Ty). length (args_of x)) s ∙ equal_of (length (args_of w)) n (not_raw_by (length (args_of w) == n) (one_raw n vs) e).0
+as_many n v (w ∷ vs) e (inl s) = ap (λ (x : Ty). length (args_of x)) s ∙ equal_numbers (length (args_of w)) n (not_raw_by (length (args_of w) == n) (one_raw n vs) e).0
 as_many n v (w ∷ vs) e (inr o) = as_many n v vs (not_raw_by (length (args_of w) == n) (one_raw n vs) e).1 o

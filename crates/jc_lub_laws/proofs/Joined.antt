@@ -2,6 +2,7 @@
 use Rattle.std.proofs.Common.{◌≡◌, inl, inr, ◌≤◌, not, ℕ, suc, Bool, true, false, Option, Some, None, List, [], ◌∷◌, ◌++◌, map, length, min, refl, sym, ap, subst, ◌∙◌, if◌then◌else◌, arith}
 use Rattle.std.specs.Prelude.{is_some}
 use Rattle.std.specs.List.{filter}
+use Rattle.jc_rules.proofs.Truths.{and_first, and_second}
 use Rattle.jc_types.specs.declared.environment.Bounds.{Bounds}
 use Rattle.jc_types.specs.declared.form.Arg.{Arg}
 use Rattle.jc_types.specs.declared.form.Ty.{Ty}
@@ -19,7 +20,7 @@ use Rattle.jc_lub.specs.Uncaptured.{args_of, up_view}
 use Rattle.jc_header_rules.specs.Checked.{IsAmong}
 use Rattle.jc_lub_laws.specs.Under.{IsIn, any, extending, IsUnderWithin, OperandsAreUnder}
 use Rattle.jc_lub_laws.proofs.Lists.{among_map, of_map, among_parts, passed, kept}
-use Rattle.jc_lub_laws.proofs.Arguments.{both_first, both_second, AreBounded, all_in, as_many}
+use Rattle.jc_lub_laws.proofs.Arguments.{AreBounded, all_in, as_many}
 use Rattle.jc_lub_laws.proofs.Beneath.{Beneath, by_itself, by_null, by_top, by_raw, by_class, by_parts, by_elements, forget}
 
 some_of : (o : Option Ty) → is_some o ≡ true → (v : Ty) × (o ≡ Some v)
@@ -55,8 +56,8 @@ shared_each (u ∷ ts) t (inr o) = within_each (depth u) ts t o
 
 alike_each : (u t : Ty) (us : List Ty) → all_same_types u us ≡ true → IsAmong t us → same t u ≡ true
 alike_each u t [] e o = absurd o
-alike_each u t (v ∷ us) e (inl s) = subst (λ (x : Ty). same x u ≡ true) (sym s) (both_first (same v u) (all_same_types u us) e)
-alike_each u t (v ∷ us) e (inr o) = alike_each u t us (both_second (same v u) (all_same_types u us) e) o
+alike_each u t (v ∷ us) e (inl s) = subst (λ (x : Ty). same x u ≡ true) (sym s) (and_first (same v u) (all_same_types u us) e)
+alike_each u t (v ∷ us) e (inr o) = alike_each u t us (and_second (same v u) (all_same_types u us) e) o
 
 -- ---- the least upper bound, where f joins arguments
 
@@ -99,8 +100,8 @@ module _ (T : Table) (env : List Bounds) (N P : Ty → Type 0) (R : Ty → Ty �
   above_each : (k : ClassId) (ts : List Ty) (t : Ty) → is_above_all T env ts k ≡ true → IsAmong t ts → is_some (up_view T env k t) ≡ true
   above_each k [] t e o = absurd o
   above_each k (u ∷ ts) t e (inl s) =
-      subst (λ (x : Ty). is_some (up_view T env k x) ≡ true) (sym s) (both_first (is_some (up_view T env k u)) (is_above_all T env ts k) e)
-  above_each k (u ∷ ts) t e (inr o) = above_each k ts t (both_second (is_some (up_view T env k u)) (is_above_all T env ts k) e) o
+      subst (λ (x : Ty). is_some (up_view T env k x) ≡ true) (sym s) (and_first (is_some (up_view T env k u)) (is_above_all T env ts k) e)
+  above_each k (u ∷ ts) t e (inr o) = above_each k ts t (and_second (is_some (up_view T env k u)) (is_above_all T env ts k) e) o
 
   under_joined : (t : Ty) (ts : List Ty) (k : ClassId) → Viewed T env P ts → is_above_all T env ts k ≡ true → IsAmong t ts → Beneath T env N R t (joined_at T env f ts k)
   unfolding joined_at joined_views

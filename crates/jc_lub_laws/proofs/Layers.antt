@@ -4,7 +4,7 @@ use Rattle.jc_types.specs.declared.form.Arg.{Arg, Arg-F, out-Arg, roll-Arg, roll
 use Rattle.jc_types.specs.declared.form.Arg.TheVariants.{Exact, Any, Extends, Super, outs-Exact, outs-Extends, outs-Super, rolls-Exact, rolls-Any, rolls-Extends, rolls-Super}
 use Rattle.jc_types.specs.declared.form.Primitive as kind
 use Rattle.jc_types.specs.declared.form.Ty.{Ty, Ty-F, out-Ty, roll-Ty, roll-out-Ty}
-use Rattle.jc_types.specs.declared.form.Ty.TheVariants.{Prim, Class, Raw, Array, Variable, Captured, Meet, NullTy, outs-Class, outs-Array, outs-Meet, rolls-Prim, rolls-Class, rolls-Raw, rolls-Array, rolls-Variable, rolls-Captured, rolls-Meet, rolls-NullTy}
+use Rattle.jc_types.specs.declared.form.Ty.TheVariants.{Prim, Class, Raw, Array, Variable, Captured, Meet, NullTy, outs-Class, outs-Array, outs-Meet, rolls-Prim, rolls-Class, rolls-Raw, rolls-Array, rolls-Variable, rolls-Meet, rolls-NullTy}
 use Rattle.jc_types.specs.declared.ids.ClassId.{ClassId}
 use Rattle.jc_types.specs.declared.ids.VarId.{VarId}
 use Rattle.jc_types.specs.declared.ids.CaptureId.{CaptureId}
@@ -28,9 +28,6 @@ as_array t u n e = rolled t (Ty-F.Array u n) e ∙ rolls-Array u n
 
 pub as_variable : (t : Ty) (v : VarId) → out-Ty t ≡ Ty-F.Variable v → t ≡ Variable v
 as_variable t v e = rolled t (Ty-F.Variable v) e ∙ rolls-Variable v
-
-pub as_captured : (t : Ty) (c : CaptureId) → out-Ty t ≡ Ty-F.Captured c → t ≡ Captured c
-as_captured t c e = rolled t (Ty-F.Captured c) e ∙ rolls-Captured c
 
 pub as_meet : (t : Ty) (ts : List Ty) → out-Ty t ≡ Ty-F.Meet ts → t ≡ Meet ts
 as_meet t ts e = rolled t (Ty-F.Meet ts) e ∙ rolls-Meet ts

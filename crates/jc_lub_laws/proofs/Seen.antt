@@ -2,6 +2,7 @@
 use Rattle.std.proofs.Common.{◌≡◌, ◌≢◌, ◌⊎◌, inl, inr, ℕ, zero, suc, ◌==◌, not, Bool, true, false, Option, Some, None, List, [], ◌∷◌, length, map, get_or, if◌then◌else◌, refl, sym, ap, subst as along, ◌∙◌, arith}
 use Rattle.std.proofs.lemmas.List.{length-map}
 use Rattle.std.proofs.lemmas.Bool.Decides.{nat_tests}
+use Rattle.jc_rules.proofs.Truths.{equal_numbers}
 use Rattle.jc_types.specs.declared.environment.Bounds.{Bounds}
 use Rattle.jc_types.specs.declared.form.Arg.{Arg, Arg-F, out-Arg}
 use Rattle.jc_types.specs.declared.form.Arg.TheVariants.{Exact, outs-Exact}
@@ -46,9 +47,6 @@ no_class_of_array k a i e c = by_layer (out-Ty k) e c
 
 some_same : (t u : Ty) → Some t ≡ Some u → t ≡ u
 some_same t u e = cc
-
-same_number : (m n : ℕ) → (m == n) ≡ true → m ≡ n
-same_number m n e = grind (arith, nat_tests)
 
 path_joined : (T : Table) (xs : List ℕ) (a b c : ℕ) → Path (IsSuper T) xs a b → IsAbove T b c → IsAbove T a c
 path_joined T [] a b c p q = along (λ x. IsAbove T x c) (sym p) q
@@ -382,7 +380,7 @@ module _ (T : Table) (H : HasHeaders T) where
     class_seen c k args v t o f e fits = by_count (length args == length (vars_of T c)) refl e
       where
         by_count : (b : Bool) → (length args == length (vars_of T c)) ≡ b → (if b then put_view (vars_of T c) args (view T k (own_type T c)) else view T k (Raw c)) ≡ Some v → Seen v k
-        by_count true q e = own_seen_by c k args v t (same_number _ _ q) o (view T k (own_type T c)) refl e fits
+        by_count true q e = own_seen_by c k args v t (equal_numbers _ _ q) o (view T k (own_type T c)) refl e fits
         by_count false q e = raw_seen_by c k v t f e fits
 
     -- ---- of all types, by their bounds

@@ -36,14 +36,6 @@ gets_both : (before now after : Option (List ℕ)) (a b : List ℕ) → Gets bef
 gets_both None now after a b first second = tt
 gets_both (Some old) now after a b first second = subst (λ (n : Option (List ℕ)). Gets n b after) first second ∙ ap (λ (l : List ℕ). Some l) (append_assoc old a b)
 
--- what waited is put
-pub put_more : (before now after : Option (List ℕ)) (put waits : List ℕ) (whole rest : Seen) (f f' f'' : ℕ) → Far before now put waits whole rest f f' → Gets now waits after → f' ≤ f'' → Far before after (put ++ waits) [] whole rest f f''
-put_more before now after put waits whole rest f f' f'' far gets later = record {
-  told = gets_both before now after put waits far.told gets;
-  run = far.run ∙ ap (λ (out : List ℕ). first out rest) (sym (append-nil (put ++ waits)));
-  later = omega (arith, far.later, later);
-}
-
 whole_out : (put waits : List ℕ) (whole rest : Seen) → whole ≡ first (put ++ waits) rest → whole.output ≡ put ++ (waits ++ rest.output)
 whole_out put waits whole rest e = ap (λ (w : Seen). w.output) e ∙ append_assoc put waits rest.output
 

@@ -1,7 +1,6 @@
 //! What the rows of the instruction table do.
-ghost use Rattle.std.specs.Prelude.{◌≡◌, ◌%◌, IfOk, MatchBool, Some, None, if◌then◌else◌};
+ghost use Rattle.std.specs.Prelude.{◌≡◌, ◌%◌, MatchBool, Some, None, if◌then◌else◌};
 ghost use Rattle.std.specs.Int.{w32, cast_unsigned};
-ghost use Rattle.jc_machine.specs.Stacked.{pushed};
 ghost use Rattle.jc_machine.specs.Table.{loaded, added, constructed, written, returned, act, move_of};
 
 use crate::rows::Row;

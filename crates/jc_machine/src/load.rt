@@ -1,8 +1,8 @@
 //! Where a run begins.
-ghost use Rattle.std.specs.Prelude.{◌≡◌, ◌-◌, ◌∷◌, [], ◌==◌, ◌↔◌, IsTrue, IfOk, IfErr, map, length, replicate, codes, None, Some, position, if◌then◌else◌};
+ghost use Rattle.std.specs.Prelude.{◌≡◌, ◌-◌, ◌∷◌, [], ◌==◌, ◌↔◌, IfOk, IfErr, map, None, Some, position, if◌then◌else◌};
 ghost use Rattle.std.specs.List.{flat_map};
 ghost use Rattle.std.specs.Char.Escape.{encode_utf16};
-ghost use Rattle.std.specs.Str.{bytes_eq, chars, IsUtf8};
+ghost use Rattle.std.specs.Str.{chars, IsUtf8};
 ghost use Rattle.jc_machine.specs.Names.{slash, spelling, class_spelled, is_main};
 ghost use Rattle.jc_machine.specs.Start.{main_frame, frame_in, first_frame, start_of};
 ghost use Rattle.jc_machine.specs.Table.{state_of, classes_of};

@@ -1,5 +1,5 @@
 //! The machine, and how it is over.
-ghost use Rattle.std.specs.Prelude.{◌≡◌, true, false, IfOk, IsOk, None};
+ghost use Rattle.std.specs.Prelude.{◌≡◌, false, IfOk, IsOk, None};
 ghost use Rattle.jc_machine.specs.Names.{placed_at};
 ghost use Rattle.jc_machine.specs.Table.{step_of, state_of, classes_of, told, is_threw, move_of, act_if};
 

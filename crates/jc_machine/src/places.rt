@@ -1,6 +1,6 @@
 //! Where the instructions of a method stand, by byte offset.
 ghost use Rattle.std.specs.Prelude.{◌≡◌, ◌+◌, ◌-◌, ◌*◌, ◌%◌, ◌≤◌, ◌++◌, IfOk, OnOk, min, replicate, None};
-ghost use Rattle.jc_machine.specs.Code.{operand_size, size_of, end_of, place_of};
+ghost use Rattle.jc_machine.specs.Code.{operand_size, end_of, place_of};
 ghost use Rattle.jc_machine.specs.Places.{places_from};
 
 use crate::rows::{Placed, read_row};

@@ -1,7 +1,7 @@
 //! The rows of the instruction table.
-ghost use Rattle.std.specs.Prelude.{◌≡◌, ◌&&◌, ◌||◌, ◌==◌, codes, length};
+ghost use Rattle.std.specs.Prelude.{◌≡◌, ◌&&◌, ◌||◌, ◌==◌};
 ghost use Rattle.std.specs.Str.{bytes_eq};
-ghost use Rattle.jc_machine.specs.Rows.{plain_row, is_push, is_load_constant, constant_row, is_member, is_out, is_write, is_object_constructor, member_row, operand_row, row_of};
+ghost use Rattle.jc_machine.specs.Rows.{plain_row, constant_row, is_out, is_write, is_object_constructor, member_row, operand_row, row_of};
 
 use jc_class_out::{Ins, Loaded, Operand};
 

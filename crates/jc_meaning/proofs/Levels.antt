@@ -43,14 +43,6 @@ primitive_trans Int Long Long e f = refl
 primitive_trans Long Long Long e f = refl
 primitive_trans _ _ _ e f = cc
 
-primitive_self : (p : Primitive) → primitive_below p p ≡ true
-primitive_self Boolean = refl
-primitive_self Byte = refl
-primitive_self Short = refl
-primitive_self Char = refl
-primitive_self Int = refl
-primitive_self Long = refl
-
 layers_trans : (l m r : Layer) → ((is_primitive_at l || is_primitive_at m) ≡ true → primitives_at l m ≡ true) → ((is_primitive_at m || is_primitive_at r) ≡ true → primitives_at m r ≡ true) → (is_primitive_at l || is_primitive_at r) ≡ true → primitives_at l r ≡ true
 layers_trans (Ty-F.Prim p) (Ty-F.Prim q) (Ty-F.Prim r) f g h = primitive_trans p q r (f refl) (g refl)
 layers_trans (Ty-F.Prim p) (Ty-F.Prim q) r f g h = g refl
@@ -59,17 +51,9 @@ layers_trans l (Ty-F.Prim q) r f g h = let e : false ≡ true = f refl in cc
 layers_trans l m (Ty-F.Prim r) f g h = g refl
 layers_trans l m r f g h = h
 
-layers_self : (l : Layer) → (is_primitive_at l || is_primitive_at l) ≡ true → primitives_at l l ≡ true
-layers_self (Ty-F.Prim p) h = primitive_self p
-layers_self l h = h
-
 kinds_trans : (s t u : Ty) → PrimitivesBelow s t → PrimitivesBelow t u → PrimitivesBelow s u
 unfolding is_primitive primitives_below
 kinds_trans s t u f g = layers_trans (out-Ty s) (out-Ty t) (out-Ty u) f g
-
-kinds_self : (s : Ty) → PrimitivesBelow s s
-unfolding is_primitive primitives_below
-kinds_self s = layers_self (out-Ty s)
 
 module _ (A B : Relation) (f : (s t : Ty) → A s t → B s t) where
   held_along : (a : Arg-F Arg Ty) (k : Ty) → Holds_at A a k → Holds_at B a k
@@ -113,11 +97,6 @@ pub below_trans : (T : Table) (n : ℕ) (s t u : Ty) → BelowAt T n s t → Bel
 unfolding BelowAt
 below_trans T zero s t u f g = kinds_trans s t u f g
 below_trans T (suc n) s t u f g = (below_trans T n s t u f.0 g.0, λ k sound fits. g.1 k sound (f.1 k sound fits))
-
-pub below_self : (T : Table) (n : ℕ) (s : Ty) → BelowAt T n s s
-unfolding BelowAt
-below_self T zero s = kinds_self s
-below_self T (suc n) s = (below_self T n s, λ k sound fits. fits)
 
 pub below_smaller : (T : Table) (n : ℕ) (s t : Ty) → BelowAt T (suc n) s t → BelowAt T n s t
 unfolding BelowAt

@@ -1,10 +1,10 @@
 -- Array dimensions.
 use Rattle.std.proofs.Common.{◌≡◌, ℕ, zero, suc, ◌+◌, ◌-◌, ◌<◌, arith, refl, sym, ap, ◌∙◌}
 use Rattle.jc_types.specs.declared.form.Ty.{Ty, Ty-F, out-Ty}
-use Rattle.jc_types.specs.declared.form.Ty.TheVariants.{Array, Variable, outs-Array, outs-Variable}
+use Rattle.jc_types.specs.declared.form.Ty.TheVariants.{Array, Variable, outs-Array}
 use Rattle.jc_types.specs.declared.ids.VarId.{VarId}
 use Rattle.jc_overriding.specs.declared.view.MethodView.{MethodView}
-use Rattle.jc_overriding.specs.Signatures.{first_bound, leftmost, leftmost_at}
+use Rattle.jc_overriding.specs.Signatures.{leftmost, leftmost_at}
 use Rattle.jc_types.specs.declared.form.Arg.{Arg}
 use Rattle.jc_types.specs.Arrays.{array_over, array_over_at}
 use Rattle.jc_overriding.specs.Viewing.{with_dims}
@@ -41,11 +41,6 @@ pub left_goes : (b : MethodView) (n : ℕ) (t : Ty) → 0 < n → leftmost b n t
 unfolding leftmost
 left_goes b zero t lt = absurd (omega arith)
 left_goes b (suc n) t lt = let e : n ≡ suc n - 1 = omega arith in ap (λ k. leftmost_at (leftmost b k) b t (out-Ty t)) e
-
-pub left_variable : (b : MethodView) (n d : ℕ) (t u : Ty) (v : VarId) → 0 < n → t ≡ Variable v → u ≡ first_bound t v b.vars b.bounds → with_dims d (leftmost b (n - 1) u) ≡ with_dims d (leftmost b n t)
-left_variable b n d t u v lt is up =
-    ap (λ u. with_dims d (leftmost b (n - 1) u)) up
-    ∙ ap (λ l. with_dims d (leftmost_at (leftmost b (n - 1)) b t l)) (sym (outs-Variable v) ∙ ap out-Ty (sym is)) ∙ ap (with_dims d) (sym (left_goes b n t lt))
 
 pub left_array : (b : MethodView) (n d e k : ℕ) (t u : Ty) → 0 < n → t ≡ Array u k → e ≡ d + (k + 1) → with_dims e (leftmost b (n - 1) u) ≡ with_dims d (leftmost b n t)
 left_array b n d e k t u lt is sum =

@@ -1,24 +1,11 @@
 -- Names in numbered groups.
 use Rattle.std.proofs.Common.{◌≡◌, ◌≢◌, ◌⊎◌, inl, inr, ℕ, zero, suc, ◌+◌, ◌<◌, Bool, true, false, cond, Option, Some, None, List, [], ◌∷◌, ◌++◌, length, slice_get, slice_set, if◌then◌else◌, arith, refl, sym, ap, subst, ◌∙◌, append_assoc, length-append}
 use Rattle.std.specs.Str.{bytes_eq}
-use Rattle.std.proofs.lemmas.Slice.Eq.{bytes_eq-Decides}
+use Rattle.jc_rules.proofs.Truths.{same_bytes, own_bytes, other_bytes}
 use Rattle.jc_types.specs.declared.ids.MethodId.{MethodId}
 use Rattle.jc_types.specs.declared.table.Table.{Table}
 use Rattle.jc_types.specs.Names.{named}
 use Rattle.jc_members.specs.Named.{IsNumbered, group_at, group_in, ids_in, if_named, named_from, pushed_at, pushed_in}
-
-same_bytes : (a b : List ℕ) → bytes_eq a b ≡ true → a ≡ b
-same_bytes a b e = (bytes_eq-Decides a b).0 e
-
-own_bytes : (a : List ℕ) → bytes_eq a a ≡ true
-own_bytes a = (bytes_eq-Decides a a).1 refl
-
-other_bytes : (a b : List ℕ) → bytes_eq a b ≡ false → bytes_eq b a ≡ false
-other_bytes a b e = by (bytes_eq b a) refl
-  where
-    by : (c : Bool) → bytes_eq b a ≡ c → c ≡ false
-    by true f = let g : bytes_eq a b ≡ true = subst (λ x. bytes_eq a x ≡ true) (sym (same_bytes b a f)) (own_bytes a) in cc
-    by false f = refl
 
 -- ---- groups
 
@@ -171,15 +158,6 @@ module _ (names : List (List ℕ × ℕ)) (groups : List (List MethodId)) (name 
 pub ruleset numbering = (found_numbered, found_ids, new_ids, new_numbered)
 
 -- ---- all methods
-
-pub none_numbered : IsNumbered [] 0
-none_numbered = record { below = λ q g e. no q g e; apart = λ q r g e f. no_two q g e }
-  where
-    no : (q : List ℕ) (g : ℕ) → named q [] ≡ Some g → g < 0
-    no q g e = cc
-
-    no_two : {b : Bool} (q : List ℕ) (g : ℕ) → named q [] ≡ Some g → b ≡ true
-    no_two q g e = cc
 
 named_snoc : (T : Table) (q : List ℕ) (i n : ℕ) → named_from T q i n ++ if_named T q (i + n) ≡ named_from T q i (suc n)
 named_snoc T q i zero = let e : i + 0 ≡ i = omega arith in ap (if_named T q) e ∙ nothing_more (if_named T q i)

@@ -1,6 +1,7 @@
 -- Members, told by ids.
 use Rattle.std.proofs.Common.{◌≡◌, ℕ, suc, Bool, true, false, ◌&&◌, ◌||◌, cond, Option, Some, None, List, [], ◌∷◌, ◌++◌, length, arith, refl, sym, ap, subst, ◌∙◌, append_assoc}
 use Rattle.std.specs.Option.{option_to_list}
+use Rattle.jc_rules.proofs.Truths.{and_none, or_assoc}
 use Rattle.jc_types.specs.declared.declarations.MethodDecl.{MethodDecl}
 use Rattle.jc_types.specs.declared.form.Ty.{Ty}
 use Rattle.jc_types.specs.declared.ids.MethodId.{MethodId}
@@ -33,10 +34,6 @@ id_of_view T t m v e = by (view_of_owner T t (method_owner_of T m)) e
 
 -- ---- candidates
 
-or_none : (b : Bool) → (b && false) ≡ false
-or_none true = refl
-or_none false = refl
-
 ids_append : (T : Table) (t : Ty) (xs ys : List MethodId) → candidate_ids T t (xs ++ ys) ≡ candidate_ids T t xs ++ candidate_ids T t ys
 ids_append T t [] ys = refl
 ids_append T t (x ∷ xs) ys = ap (λ zs. if_candidate T t x ++ zs) (ids_append T t xs ys) ∙ sym (append_assoc (if_candidate T t x) (candidate_ids T t xs) (candidate_ids T t ys))
@@ -66,7 +63,7 @@ one_candidate T wanted t m = by (wanted m) (view_of_owner T t (method_owner_of T
     by : (b : Bool) (o : Option Ty) → view_of_owner T t (method_owner_of T m) ≡ o
         → with_view T (λ _. b) t m (viewed_in T m o) ≡ views_of T t (candidate_ids T t (cond b (m ∷ []) []))
     by true None e =
-        ap (λ c. views_of T t (cond c (m ∷ []) [] ++ [])) (sym (or_none (is_candidate T t m)) ∙ ap (λ o. is_candidate T t m && is_viewed o) (sym e))
+        ap (λ c. views_of T t (cond c (m ∷ []) [] ++ [])) (sym (and_none (is_candidate T t m)) ∙ ap (λ o. is_candidate T t m && is_viewed o) (sym e))
     by false None e = refl
     by true (Some u) e = kept (is_candidate T t m) u e ∙ ap (λ o. views_of T t (cond (is_candidate T t m && is_viewed o) (m ∷ []) [] ++ [])) (sym e)
     by false (Some u) e = refl
@@ -133,10 +130,6 @@ abbrev marked_or : Table → List MethodId → List MethodId → List Bool → L
 marked_or T ws [] fs = []
 marked_or T ws (m ∷ ms) [] = []
 marked_or T ws (m ∷ ms) (f ∷ fs) = (f || replaced_by T m ws) ∷ marked_or T ws ms fs
-
-or_assoc : (a b c : Bool) → ((a || b) || c) ≡ (a || (b || c))
-or_assoc true b c = refl
-or_assoc false b c = refl
 
 or_false : (a : Bool) → a ≡ (a || false)
 or_false true = refl

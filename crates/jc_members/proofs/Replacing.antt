@@ -38,9 +38,6 @@ either a b s t c = (a && not s && (b && not t) && c) || (a && b && s && t && c)
 told : (T : Table) (m n : MethodId) → replaces T m n ≡ either (is_method T m) (is_method T n) (is_static T m) (is_static T n) (own_below T m n)
 told T m n = ap (λ b. b || hides T m n) (overrides_told T m n) ∙ ap (λ b. (is_instance T m && is_instance T n && own_below T m n) || b) (hides_told T m n)
 
-not_first : (b s t c : Bool) → either false b s t c ≡ false
-not_first b s t c = refl
-
 not_second : (a s t c : Bool) → either a false s t c ≡ false
 not_second true true t c = refl
 not_second true false t c = refl

@@ -1,6 +1,7 @@
 -- What stands for a method has its name.
-use Rattle.std.proofs.Common.{◌≡◌, ℕ, zero, suc, ◌-◌, ◌<◌, arith, Bool, true, false, ◌&&◌, ◌||◌, ◌==◌, Option, Some, None, refl, sym, ap, ◌∙◌}
+use Rattle.std.proofs.Common.{◌≡◌, ℕ, zero, suc, ◌-◌, ◌<◌, arith, false, ◌&&◌, ◌||◌, ◌==◌, Option, Some, None, refl, sym, ap, ◌∙◌}
 use Rattle.std.specs.Str.{bytes_eq}
+use Rattle.jc_rules.proofs.Truths.{and_none}
 use Rattle.jc_types.specs.declared.ids.ClassId.{ClassId}
 use Rattle.jc_types.specs.declared.ids.MethodId.{MethodId}
 use Rattle.jc_types.specs.declared.table.Table.{Table}
@@ -10,10 +11,6 @@ use Rattle.jc_overriding.specs.Overriding.{standing_in, in_superclass, or_furthe
 use Rattle.jc_overriding.specs.Signatures.{is_erasure, same_signature}
 use Rattle.jc_overriding.specs.Viewing.{class_view, own_type}
 use Rattle.jc_members.proofs.Remaining.{id_of_view}
-
-and_false : (b : Bool) → (b && false) ≡ false
-and_false true = refl
-and_false false = refl
 
 pub unnamed : (T : Table) (k : ClassId) (n m : MethodId) → bytes_eq (method_name_of T n) (method_name_of T m) ≡ false → subsignature_of T (class_view T k n) (class_view T k m) ≡ false
 unnamed T k n m e = by (class_view T k n) (class_view T k m) refl refl
@@ -29,7 +26,7 @@ pub not_standing : (T : Table) (k : ClassId) (n m : MethodId) → (n.0 == m.0) �
 not_standing T k n m e f =
     ap (λ b. b || (is_instance T n && is_instance T m && is_member_of T k n && is_inheritable T (owner T n) m && subsignature_of T (class_view T k n) (class_view T k m))) e
     ∙ ap (λ b. is_instance T n && is_instance T m && is_member_of T k n && is_inheritable T (owner T n) m && b) (unnamed T k n m f)
-    ∙ and_false (is_instance T n && is_instance T m && is_member_of T k n && is_inheritable T (owner T n) m)
+    ∙ and_none (is_instance T n && is_instance T m && is_member_of T k n && is_inheritable T (owner T n) m)
 
 -- one class further up
 pub stands_up : (T : Table) (k : ClassId) (m : MethodId) (n : ℕ) (c up : ClassId) → 0 < n → standing_in T k m (methods_of T c) ≡ None → superclass T c ≡ Some up → standing_within T (n - 1) k m up ≡ standing_within T n k m c

@@ -3,6 +3,7 @@ use Rattle.std.proofs.Common.{◌≡◌, ℕ, zero, suc, ◌+◌, ◌==◌, Bool
 use Rattle.std.specs.Option.{option_map}
 use Rattle.std.specs.Prelude.{is_some}
 use Rattle.std.specs.Str.{bytes_eq}
+use Rattle.std.proofs.lemmas.Bool.{and_parts}
 use Rattle.jc_types.specs.declared.erased.Base.{Base}
 use Rattle.jc_types.specs.declared.erased.Base.TheVariants as base
 use Rattle.jc_types.specs.declared.erased.Erased.{Erased}
@@ -28,10 +29,6 @@ use Rattle.jc_overriding.specs.Overriding.{is_above, is_viewed, or_object, owner
 use Rattle.jc_overriding.specs.Signatures.{adapted, erased_in, has_no_variables, is_erasure, leftmost, leftmost_at, same_all, same_lists, same_name, same_signature, subsignature, variables}
 use Rattle.jc_overriding.specs.Viewing.{Seeing, With, Raised, base_type, bounds_with, class_view, erased_type, is_static, own_type, plain, plain_class, seeing_of, view_of_owner, viewed_by, viewed_in, with_dims}
 use Rattle.jc_members.specs.Fixed.{are_declared_alike, are_own_erasures, has_none, is_declared_so, is_fixed, is_own_erasure}
-
-and_both : (a b : Bool) → (a && b) ≡ true → (a ≡ true) × (b ≡ true)
-and_both true b e = (refl, e)
-and_both false b e = cc
 
 -- ---- what neither substitution nor erasure changes
 
@@ -146,19 +143,19 @@ module _ (T : Table) where
   put_all : (vars : List VarId) (by : List Ty) (ts : List Ty) → are_own_erasures T ts ≡ true → map (put vars by) ts ≡ ts
   put_all vars by [] e = refl
   put_all vars by (t ∷ ts) e =
-      let both = and_both (is_own_erasure T t) (are_own_erasures T ts) e in
+      let both = and_parts (is_own_erasure T t) (are_own_erasures T ts) e in
       ap (λ u. u ∷ map (put vars by) ts) ((own_fixed T t both.0).put vars by) ∙ ap (λ us. t ∷ us) (put_all vars by ts both.1)
 
   plain_all : (ts : List Ty) → are_own_erasures T ts ≡ true → map (plain T) ts ≡ ts
   plain_all [] e = refl
   plain_all (t ∷ ts) e =
-      let both = and_both (is_own_erasure T t) (are_own_erasures T ts) e in
+      let both = and_parts (is_own_erasure T t) (are_own_erasures T ts) e in
       ap (λ u. u ∷ map (plain T) ts) (own_told T t both.0) ∙ ap (λ us. t ∷ us) (plain_all ts both.1)
 
   erased_all : (b : MethodView) (ts : List Ty) → are_own_erasures T ts ≡ true → map (erased_in T b) ts ≡ ts
   erased_all b [] e = refl
   erased_all b (t ∷ ts) e =
-      let both = and_both (is_own_erasure T t) (are_own_erasures T ts) e in
+      let both = and_parts (is_own_erasure T t) (are_own_erasures T ts) e in
       ap (λ u. u ∷ map (erased_in T b) ts) (own_erased T b t both.0) ∙ ap (λ us. t ∷ us) (erased_all b ts both.1)
 
 -- ---- a fixed method as a class has it
@@ -171,8 +168,8 @@ pub record IsFixed (T : Table) (m : MethodId) : Type 0 where
 fixed_told : (T : Table) (m : MethodId) → is_fixed T m ≡ true → IsFixed T m
 unfolding is_fixed
 fixed_told T m e =
-    let both = and_both (is_some (method_owner_of T m) && has_none (method_vars_of T m)) (are_own_erasures T (params_of T m)) e in
-    let two = and_both (is_some (method_owner_of T m)) (has_none (method_vars_of T m)) both.0 in
+    let both = and_parts (is_some (method_owner_of T m) && has_none (method_vars_of T m)) (are_own_erasures T (params_of T m)) e in
+    let two = and_parts (is_some (method_owner_of T m)) (has_none (method_vars_of T m)) both.0 in
     record { owned = two.0; vars = no_vars (method_vars_of T m) two.1; params = both.1 }
 
 -- each of its parameters' types is its own erasure
@@ -255,7 +252,7 @@ module _ (T : Table) (n : MethodId) (a b : MethodView) (p : IsFixed T n) (q : Fi
       ∙ simpler (bytes_eq (method_name_of T a.id) (method_name_of T n)) (length a.vars == 0) (same_lists a.bounds []) (same_all a.params (params_of T n))
 
 viewed_above : (T : Table) (k l : ClassId) → is_above T k l ≡ true → is_viewed (view T l (own_type T k)) ≡ true
-viewed_above T k l e = (and_both (not (same_class k l)) (is_viewed (view T l (own_type T k))) e).1
+viewed_above T k l e = (and_parts (not (same_class k l)) (is_viewed (view T l (own_type T k))) e).1
 
 -- a signature beside a fixed method above
 pub fixed_signature : (T : Table) (k : ClassId) (a : MethodView) (n : MethodId) → is_above T k (owner T n) ≡ true → is_fixed T n ≡ true → subsignature_of T (Some a) (class_view T k n) ≡ is_declared_so T a n

@@ -2,6 +2,7 @@
 use Rattle.std.proofs.Common.{◌≡◌, ◌≢◌, ℕ, suc, ◌+◌, ◌<◌, Bool, true, false, cond, Option, Some, None, List, [], ◌∷◌, ◌++◌, length, slice_get, arith, refl, sym, ap, subst, ◌∙◌}
 use Rattle.std.specs.Prelude.{nat_eq}
 use Rattle.std.proofs.lemmas.Bool.Decides.{nat_tests}
+use Rattle.jc_rules.proofs.Truths.{same_number}
 use Rattle.jc_types.specs.declared.form.Ty.{Ty}
 use Rattle.jc_types.specs.declared.ids.ClassId.{ClassId}
 use Rattle.jc_types.specs.declared.table.Table.{Table}
@@ -13,9 +14,6 @@ use Rattle.jc_sub.specs.Reaching.{IsUp, and_then}
 use Rattle.jc_members.specs.declared.walking.Turn.{Turn}
 use Rattle.jc_members.specs.Walking.{IsWay}
 use Rattle.jc_members.proofs.Reached.{Walking, arrives, begins, ends, follow, goes_back, goes_past, goes_up, led, led_view}
-
-same_number : (a b : ℕ) → nat_eq a b ≡ true → a ≡ b
-same_number a b e = grind (arith, nat_tests)
 
 other_number : (a b : ℕ) → nat_eq a b ≡ false → a ≢ b
 other_number a b e = grind (arith, nat_tests)

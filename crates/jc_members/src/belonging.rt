@@ -1,6 +1,6 @@
 //! The members of a type by their names (JLS 8.2, 8.4.8, 9.2, 9.4).
 ghost use Rattle.std.specs.Prelude.{◌≡◌, ◌++◌, ◌||◌, IfOk, OnOk};
-ghost use Rattle.jc_judge.specs.Views.{is_class, view};
+ghost use Rattle.jc_judge.specs.Views.{view};
 ghost use Rattle.jc_judge.specs.Kinds.{class_of};
 ghost use Rattle.jc_overriding.specs.Overriding.{inherits_in, is_candidate, is_own, members, owner};
 ghost use Rattle.std.specs.Option.{option_copied};

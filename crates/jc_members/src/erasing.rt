@@ -5,7 +5,7 @@ ghost use Rattle.jc_types.specs.Erasing.{erasure};
 ghost use Rattle.jc_overriding.specs.Viewing.{base_type, erased_type, plain, plain_class, with_dims};
 
 use jc_rules::{Items, WantOfMemory};
-use jc_types::{Base, ClassId, Env, Erased, Table, Ty, VarId, array_over, class_vars, erasure};
+use jc_types::{Base, ClassId, Env, Table, Ty, VarId, array_over, class_vars, erasure};
 use std::alloc::Global;
 
 // A class as a type: raw, where it has parameters.

@@ -1,6 +1,6 @@
 //! What the table says of a method: whether it is one, who may inherit it, and which class declares it.
-ghost use Rattle.std.specs.Prelude.{◌≡◌, nat_lt};
-ghost use Rattle.jc_overriding.specs.Overriding.{access_of, is_abstract, is_instance, is_inheritable, is_method, is_open_to, kind_in, owner, same_class};
+ghost use Rattle.std.specs.Prelude.{◌≡◌};
+ghost use Rattle.jc_overriding.specs.Overriding.{access_of, is_abstract, is_instance, is_inheritable, is_method, is_open_to, owner, same_class};
 ghost use Rattle.jc_overriding.specs.Viewing.{is_static};
 
 use jc_types::{

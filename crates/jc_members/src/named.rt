@@ -2,7 +2,7 @@
 ghost use Rattle.std.specs.Prelude.{◌≡◌, ◌++◌, ◌∷◌, [], ◌<◌, ℕ, List, cond, IfOk, OnOk, length};
 ghost use Rattle.std.specs.Str.{bytes_eq};
 ghost use Rattle.jc_types.specs.declared.ids.MethodId.{MethodId};
-ghost use Rattle.jc_members.specs.Named.{IsMethodIndex, IsNumbered, group_at, ids_in, pushed_at};
+ghost use Rattle.jc_members.specs.Named.{IsMethodIndex, IsNumbered, ids_in, pushed_at};
 
 use jc_rules::{Items, WantOfMemory};
 use jc_types::{MethodId, Names, Table, method_name};

@@ -2,7 +2,7 @@
 ghost use Rattle.std.specs.Prelude.{◌≡◌, IfOk};
 ghost use Rattle.jc_judge.specs.Views.{view};
 ghost use Rattle.jc_overriding.specs.Overriding.{is_above, is_viewed};
-ghost use Rattle.jc_overriding.specs.Viewing.{class_view, own_type, view_of_method};
+ghost use Rattle.jc_overriding.specs.Viewing.{own_type, view_of_method};
 ghost use Rattle.jc_members.specs.Supertypes.{IsSupertypes};
 
 use crate::kinds::same_class;

@@ -6,6 +6,8 @@ use Rattle.std.proofs.Common.{◌≡◌, ◌≢◌, ◌⊎◌, inl, inr, ℕ, ze
 use Rattle.std.specs.HashMap.{get}
 use Rattle.std.specs.List.{list_any}
 use Rattle.std.specs.Set.{is_member}
+use Rattle.std.proofs.lemmas.Bool.{or_right, and_parts, or_cases}
+use Rattle.jc_rules.proofs.Truths.{same_number, is_less, less_is}
 use Rattle.jc_types.specs.declared.form.Ty.{Ty}
 use Rattle.jc_types.specs.declared.ids.ClassId.{ClassId}
 use Rattle.jc_types.specs.declared.table.Table.{Table}
@@ -18,35 +20,14 @@ use Rattle.jc_members.specs.Supertypes.{IsSupertypes}
 use Rattle.jc_method_rules.specs.declared.owned.OwnerIndex.{OwnerIndex}
 use Rattle.jc_method_rules.specs.Owned.{IsOwnerIndex, all_below, are_all, ascends, ascends_from, gathered, is_owned, is_standing, numbers_at, numbers_in, owned, picked, pushed_at, pushed_in, standing_numbers}
 
-same_number : (a b : ℕ) → nat_eq a b ≡ true → a ≡ b
-same_number a b e = grind (arith, nat_tests)
-
 own_number : (a : ℕ) → nat_eq a a ≡ true
 own_number a = grind (arith, nat_tests)
 
 other_number : (a b : ℕ) → nat_eq a b ≡ false → a ≢ b
 other_number a b e = grind (arith, nat_tests)
 
-is_less : (a b : ℕ) → nat_lt a b ≡ true → a < b
-is_less a b e = grind (arith, nat_tests)
-
-less_is : (a b : ℕ) → a < b → nat_lt a b ≡ true
-less_is a b lt = grind (arith, nat_tests)
-
 further : (a b : ℕ) → b ≤ a → a ≢ b → suc b ≤ a
 further a b le ne = grind arith
-
-or_case : (a b : Bool) → (a || b) ≡ true → (a ≡ true) ⊎ (b ≡ true)
-or_case true b e = inl refl
-or_case false b e = inr e
-
-or_right : (a b : Bool) → b ≡ true → (a || b) ≡ true
-or_right true b e = refl
-or_right false b e = e
-
-and_both : (a b : Bool) → (a && b) ≡ true → (a ≡ true) × (b ≡ true)
-and_both true b e = (refl, e)
-and_both false b e = cc
 
 -- ---- numbers in a list
 
@@ -60,26 +41,26 @@ has_right : (n : ℕ) (xs ys : List ℕ) → has n ys ≡ true → has n (xs ++ 
 has_right n xs ys m = list_any-append (nat_eq n) xs ys ∙ or_right (has n xs) (has n ys) m
 
 has_either : (n : ℕ) (xs ys : List ℕ) → has n (xs ++ ys) ≡ true → (has n xs ≡ true) ⊎ (has n ys ≡ true)
-has_either n xs ys m = or_case (has n xs) (has n ys) (sym (list_any-append (nat_eq n) xs ys) ∙ m)
+has_either n xs ys m = or_cases (has n xs) (has n ys) (sym (list_any-append (nat_eq n) xs ys) ∙ m)
 
 -- ---- two ascending lists that have the same numbers
 
 beyond : (x : ℕ) (xs : List ℕ) (n : ℕ) → ascends_from x xs ≡ true → has n xs ≡ true → x < n
 beyond x [] n a h = cc
-beyond x (y ∷ ys) n a h = by (or_case (nat_eq n y) (has n ys) h) (λ b m. beyond y ys n b m)
+beyond x (y ∷ ys) n a h = by (or_cases (nat_eq n y) (has n ys) h) (λ b m. beyond y ys n b m)
   where
     first : x < y
-    first = is_less x y (and_both (nat_lt x y) (ascends_from y ys) a).0
+    first = is_less x y (and_parts (nat_lt x y) (ascends_from y ys) a).0
 
     rest : ascends_from y ys ≡ true
-    rest = (and_both (nat_lt x y) (ascends_from y ys) a).1
+    rest = (and_parts (nat_lt x y) (ascends_from y ys) a).1
 
     by : (nat_eq n y ≡ true) ⊎ (has n ys ≡ true) → (ascends_from y ys ≡ true → has n ys ≡ true → y < n) → x < n
     by (inl e) h = let is = same_number n y e in let lt = first in omega (arith, is, lt)
     by (inr m) h = let more = h rest m in let lt = first in omega (arith, more, lt)
 
 head_same : (y : ℕ) (ys : List ℕ) (z : ℕ) (zs : List ℕ) → ascends_from y ys ≡ true → ascends_from z zs ≡ true → has y (z ∷ zs) ≡ true → has z (y ∷ ys) ≡ true → y ≡ z
-head_same y ys z zs a b f g = by (or_case (nat_eq y z) (has y zs) f) (or_case (nat_eq z y) (has z ys) g)
+head_same y ys z zs a b f g = by (or_cases (nat_eq y z) (has y zs) f) (or_cases (nat_eq z y) (has z ys) g)
   where
     by : (nat_eq y z ≡ true) ⊎ (has y zs ≡ true) → (nat_eq z y ≡ true) ⊎ (has z ys ≡ true) → y ≡ z
     by (inl e) o = same_number y z e
@@ -87,7 +68,7 @@ head_same y ys z zs a b f g = by (or_case (nat_eq y z) (has y zs) f) (or_case (n
     by (inr m) (inr n) = let p = beyond z zs y b m in let q = beyond y ys z a n in absurd (omega (arith, p, q))
 
 tail_has : (y : ℕ) (ys zs : List ℕ) → ascends_from y ys ≡ true → ((n : ℕ) → has n (y ∷ ys) ≡ true → has n (y ∷ zs) ≡ true) → (n : ℕ) → has n ys ≡ true → has n zs ≡ true
-tail_has y ys zs a f n m = by (or_case (nat_eq n y) (has n zs) (f n (or_right (nat_eq n y) (has n ys) m)))
+tail_has y ys zs a f n m = by (or_cases (nat_eq n y) (has n zs) (f n (or_right (nat_eq n y) (has n ys) m)))
   where
     by : (nat_eq n y ≡ true) ⊎ (has n zs ≡ true) → has n zs ≡ true
     by (inl e) = let p = beyond y ys n a m in let q = same_number n y e in absurd (omega (arith, p, q))
@@ -101,8 +82,8 @@ same_from x [] [] a b f g = refl
 same_from x [] (y ∷ ys) a b f g = let h : has y [] ≡ true = g y (own_has y ys) in cc
 same_from x (y ∷ ys) [] a b f g = let h : has y [] ≡ true = f y (own_has y ys) in cc
 same_from x (y ∷ ys) (z ∷ zs) a b f g =
-    let c = (and_both (nat_lt x y) (ascends_from y ys) a).1 in
-    let d = (and_both (nat_lt x z) (ascends_from z zs) b).1 in
+    let c = (and_parts (nat_lt x y) (ascends_from y ys) a).1 in
+    let d = (and_parts (nat_lt x z) (ascends_from z zs) b).1 in
     let e : y ≡ z = head_same y ys z zs c d (f y (own_has y ys)) (g z (own_has z zs)) in
     let d : ascends_from y zs ≡ true = subst (λ w. ascends_from w zs ≡ true) (sym e) d in
     let to : (n : ℕ) → has n (y ∷ ys) ≡ true → has n (y ∷ zs) ≡ true = λ n m. subst (λ w. has n (w ∷ zs) ≡ true) (sym e) (f n m) in
@@ -142,7 +123,7 @@ module _ (test : ℕ → Bool) where
       next h = let low = h.0 in let high = h.1 in (omega (arith, low), omega (arith, high), h.2)
 
       here : test i ≡ true → has n (i ∷ []) ≡ true → (i ≤ n) × (n < i + suc c) × (test n ≡ true)
-      here e m = at (or_case (nat_eq n i) false m)
+      here e m = at (or_cases (nat_eq n i) false m)
         where
           at : (nat_eq n i ≡ true) ⊎ (false ≡ true) → (i ≤ n) × (n < i + suc c) × (test n ≡ true)
           at (inl f) = let is = same_number n i f in (omega (arith, is), omega (arith, is), subst (λ j. test j ≡ true) (sym is) e)
@@ -283,10 +264,10 @@ module _ (T : Table) (index : OwnerIndex) (known : IsOwnerIndex T index) where
 
   gathered_has : (ks : List ℕ) (n : ℕ) → all_below (length gs) ks ≡ true → n < count → has (owner T (record { 0 = n })).0 ks ≡ true → has n (gathered gs ks) ≡ true
   gathered_has [] n b lt h = cc
-  gathered_has (k ∷ ks) n b lt h = by (or_case (nat_eq (owner T (record { 0 = n })).0 k) (has (owner T (record { 0 = n })).0 ks) h) (λ h. gathered_has ks n both.1 lt h)
+  gathered_has (k ∷ ks) n b lt h = by (or_cases (nat_eq (owner T (record { 0 = n })).0 k) (has (owner T (record { 0 = n })).0 ks) h) (λ h. gathered_has ks n both.1 lt h)
     where
       both : (nat_lt k (length gs) ≡ true) × (all_below (length gs) ks ≡ true)
-      both = and_both (nat_lt k (length gs)) (all_below (length gs) ks) b
+      both = and_parts (nat_lt k (length gs)) (all_below (length gs) ks) b
 
       group : numbers_at gs k ≡ owned T k
       group = known.ids k (is_less k (length gs) both.0)
@@ -300,7 +281,7 @@ module _ (T : Table) (index : OwnerIndex) (known : IsOwnerIndex T index) where
   gathered_of (k ∷ ks) n b h = by (has_either n (numbers_at gs k) (gathered gs ks) h) (λ h. gathered_of ks n both.1 h)
     where
       both : (nat_lt k (length gs) ≡ true) × (all_below (length gs) ks ≡ true)
-      both = and_both (nat_lt k (length gs)) (all_below (length gs) ks) b
+      both = and_parts (nat_lt k (length gs)) (all_below (length gs) ks) b
 
       group : numbers_at gs k ≡ owned T k
       group = known.ids k (is_less k (length gs) both.0)
@@ -333,7 +314,7 @@ module _ (T : Table) (index : OwnerIndex) (known : IsOwnerIndex T index) where
         let p = picked_of (is_standing T k) 0 count n m in
         let high = p.1 in
         sym (list_any-IsPermutation (nat_eq n) (gathered gs ks) ns moved)
-        ∙ gathered_has ks n below (omega (arith, high)) (at (or_case (same_class (owner T (record { 0 = n })) k) (is_viewed (view T (owner T (record { 0 = n })) (own_type T k))) p.2))
+        ∙ gathered_has ks n below (omega (arith, high)) (at (or_cases (same_class (owner T (record { 0 = n })) k) (is_viewed (view T (owner T (record { 0 = n })) (own_type T k))) p.2))
       where
         at : (same_class (owner T (record { 0 = n })) k ≡ true) ⊎ (is_viewed (view T (owner T (record { 0 = n })) (own_type T k)) ≡ true) → has (owner T (record { 0 = n })).0 ks ≡ true
         at (inl e) = subst (λ l. has l ks ≡ true) (sym (same_number (owner T (record { 0 = n })).0 k.0 e)) (sym (keys k.0) ∙ there)
@@ -346,8 +327,8 @@ pub gathered_told : (T : Table) (index : OwnerIndex) (above : Supertypes) (k : C
     → ((l : ℕ) → is_some (get nat_eq above.views l) ≡ is_member nat_eq ks l) → IsPermutation (gathered index.groups ks) ns
     → are_all index above k ks ≡ true → ascends ns ≡ true → ns ≡ standing_numbers T k
 gathered_told T index above k ks ns known super own keys moved holds up =
-    let first = and_both (above.is_whole && is_some (get nat_eq above.views k.0)) (all_below (length index.groups) ks) holds in
-    let second = and_both above.is_whole (is_some (get nat_eq above.views k.0)) first.0 in
+    let first = and_parts (above.is_whole && is_some (get nat_eq above.views k.0)) (all_below (length index.groups) ks) holds in
+    let second = and_parts above.is_whole (is_some (get nat_eq above.views k.0)) first.0 in
     gathered_all T index known above k super own ks ns keys moved second.0 second.1 first.1 up
 
 pub moved_from : (xs ys zs : List ℕ) → ys ≡ xs → IsPermutation ys zs → IsPermutation xs zs

@@ -1,6 +1,7 @@
 -- Results that are the same in each class, and methods that throw nothing.
 use Rattle.std.proofs.Common.{◌≡◌, Bool, true, false, not, ◌&&◌, ◌||◌, Option, Some, None, [], if◌then◌else◌, refl, ap, ◌∙◌}
 use Rattle.std.specs.List.{list_all, list_any}
+use Rattle.std.proofs.lemmas.Bool.{and_parts}
 use Rattle.jc_types.specs.declared.form.Ty.{Ty}
 use Rattle.jc_types.specs.declared.ids.ClassId.{ClassId}
 use Rattle.jc_types.specs.declared.ids.MethodId.{MethodId}
@@ -19,15 +20,11 @@ use Rattle.jc_members.specs.Fixed.{is_own_erasure}
 use Rattle.jc_members.proofs.Unchanged.{keeps_at, own_erased, result_kept}
 use Rattle.jc_method_rules.specs.Pairs.{keeps_result}
 
-and_both : (a b : Bool) → (a && b) ≡ true → (a ≡ true) × (b ≡ true)
-and_both true b e = (refl, e)
-and_both false b e = cc
-
 own_result : (T : Table) (s t : Option Ty) → keeps_result T s t ≡ true → keeps_at T t ≡ true
 own_result T None None e = refl
 own_result T None (Some t) e = cc
 own_result T (Some s) None e = cc
-own_result T (Some s) (Some t) e = (and_both (same s t) (is_own_erasure T t) e).1
+own_result T (Some s) (Some t) e = (and_parts (same s t) (is_own_erasure T t) e).1
 
 module _ (T : Table) (a b : MethodView) where
   type_kept : (s t : Ty) → same s t ≡ true → is_own_erasure T t ≡ true → type_answer T a b s t ≡ Yes
@@ -41,7 +38,7 @@ module _ (T : Table) (a b : MethodView) where
   answer_kept None None e = refl
   answer_kept None (Some t) e = cc
   answer_kept (Some s) None e = cc
-  answer_kept (Some s) (Some t) e = let both = and_both (same s t) (is_own_erasure T t) e in type_kept s t both.0 both.1
+  answer_kept (Some s) (Some t) e = let both = and_parts (same s t) (is_own_erasure T t) e in type_kept s t both.0 both.1
 
 pub answer_told : (T : Table) (k : ClassId) (a : MethodView) (n : MethodId) → keeps_result T a.result (result_of T n) ≡ true → answer_of_views T (Some a) (class_view T k n) ≡ Yes
 answer_told T k a n e = by (class_view T k n) refl

@@ -1,7 +1,8 @@
 -- Methods of other names, and of classes that aren't above one another, break nothing beside one another.
-use Rattle.std.proofs.Common.{◌≡◌, ◌≢◌, ◌⊎◌, inl, inr, nat_lt, not, ℕ, suc, ◌+◌, Bool, true, false, ◌&&◌, ◌||◌, cond, Some, List, [], ◌∷◌, ◌++◌, length, slice_get, Option, add-one, refl, sym, ap, subst, ◌∙◌}
+use Rattle.std.proofs.Common.{◌≡◌, ◌≢◌, ◌⊎◌, inl, inr, nat_lt, not, ℕ, suc, ◌+◌, Bool, true, false, ◌&&◌, ◌||◌, cond, Some, List, [], ◌∷◌, ◌++◌, length, slice_get, Option, add-one, refl, sym, ap, ◌∙◌}
 use Rattle.std.specs.Str.{bytes_eq}
-use Rattle.std.proofs.lemmas.Slice.Eq.{bytes_eq-Decides}
+use Rattle.std.proofs.lemmas.Bool.{or_parts}
+use Rattle.jc_rules.proofs.Truths.{and_none, other_bytes}
 use Rattle.jc_rules.specs.declared.rule.Place.{Place}
 use Rattle.jc_rules.specs.declared.rule.Refusal.{Refusal}
 use Rattle.jc_types.specs.declared.declarations.MethodDecl.{MethodDecl}
@@ -20,10 +21,6 @@ use Rattle.jc_members.proofs.Replacing.{own_below, overrides_told, hides_told}
 use Rattle.jc_members.proofs.Standing.{unnamed}
 use Rattle.jc_method_rules.specs.Owned.{ids_of, is_standing, picked, standing, stands_in}
 use Rattle.jc_method_rules.specs.Pairs.{AreEnough, overrides_one, pair_breaks, pairs_breaks}
-
-and_false : (b : Bool) → (b && false) ≡ false
-and_false true = refl
-and_false false = refl
 
 -- ---- statics
 
@@ -55,10 +52,10 @@ module _ (T : Table) (m n : MethodId) where
   meet_no_method e = meet_told T m n ∙ ap (λ a. a && is_method T n && differ (is_static T m) (is_static T n) && own_below T m n) e
 
   pub meet_none : is_method T n ≡ false → statics_meet T m n ≡ false
-  meet_none e = meet_told T m n ∙ ap (λ b. is_method T m && b && differ (is_static T m) (is_static T n) && own_below T m n) e ∙ ap (λ b. b && differ (is_static T m) (is_static T n) && own_below T m n) (and_false (is_method T m))
+  meet_none e = meet_told T m n ∙ ap (λ b. is_method T m && b && differ (is_static T m) (is_static T n) && own_below T m n) e ∙ ap (λ b. b && differ (is_static T m) (is_static T n) && own_below T m n) (and_none (is_method T m))
 
   pub meet_alike : is_static T m ≡ is_static T n → statics_meet T m n ≡ false
-  meet_alike e = meet_told T m n ∙ ap (λ b. is_method T m && is_method T n && b && own_below T m n) (same_differ (is_static T m) (is_static T n) e) ∙ ap (λ b. b && own_below T m n) (and_false (is_method T m && is_method T n))
+  meet_alike e = meet_told T m n ∙ ap (λ b. is_method T m && is_method T n && b && own_below T m n) (same_differ (is_static T m) (is_static T n) e) ∙ ap (λ b. b && own_below T m n) (and_none (is_method T m && is_method T n))
 
   pub meet_unlike : is_method T m ≡ true → is_method T n ≡ true → is_static T m ≢ is_static T n → statics_meet T m n ≡ own_below T m n
   meet_unlike e f ne =
@@ -69,19 +66,6 @@ pub ruleset statics_told = (meet_no_method, meet_none, meet_alike, meet_unlike)
 
 -- ---- other names
 
-same_bytes : (a b : List ℕ) → bytes_eq a b ≡ true → a ≡ b
-same_bytes a b e = (bytes_eq-Decides a b).0 e
-
-own_bytes : (a : List ℕ) → bytes_eq a a ≡ true
-own_bytes a = (bytes_eq-Decides a a).1 refl
-
-other_bytes : (a b : List ℕ) → bytes_eq a b ≡ false → bytes_eq b a ≡ false
-other_bytes a b e = by (bytes_eq b a) refl
-  where
-    by : (c : Bool) → bytes_eq b a ≡ c → c ≡ false
-    by true f = let g : bytes_eq a b ≡ true = subst (λ x. bytes_eq a x ≡ true) (sym (same_bytes b a f)) (own_bytes a) in cc
-    by false f = refl
-
 module _ (T : Table) (m n : MethodId) (other : bytes_eq (method_name_of T n) (method_name_of T m) ≡ false) where
   turned : bytes_eq (method_name_of T m) (method_name_of T n) ≡ false
   turned = other_bytes (method_name_of T n) (method_name_of T m) other
@@ -89,19 +73,19 @@ module _ (T : Table) (m n : MethodId) (other : bytes_eq (method_name_of T n) (me
   not_below : own_below T m n ≡ false
   not_below =
       ap (λ b. is_above T (owner T m) (owner T n) && is_inheritable T (owner T m) n && b) (unnamed T (owner T m) m n turned)
-      ∙ and_false (is_above T (owner T m) (owner T n) && is_inheritable T (owner T m) n)
+      ∙ and_none (is_above T (owner T m) (owner T n) && is_inheritable T (owner T m) n)
 
   not_overridden : overrides T m n ≡ false
-  not_overridden = overrides_told T m n ∙ ap (λ b. is_instance T m && is_instance T n && b) not_below ∙ and_false (is_instance T m && is_instance T n)
+  not_overridden = overrides_told T m n ∙ ap (λ b. is_instance T m && is_instance T n && b) not_below ∙ and_none (is_instance T m && is_instance T n)
 
   not_hidden : hides T m n ≡ false
-  not_hidden = hides_told T m n ∙ ap (λ b. is_method T m && is_method T n && is_static T m && is_static T n && b) not_below ∙ and_false (is_method T m && is_method T n && is_static T m && is_static T n)
+  not_hidden = hides_told T m n ∙ ap (λ b. is_method T m && is_method T n && is_static T m && is_static T n && b) not_below ∙ and_none (is_method T m && is_method T n && is_static T m && is_static T n)
 
   not_replaced : replaces T m n ≡ false
   not_replaced = ap (λ b. b || hides T m n) not_overridden ∙ not_hidden
 
   not_meeting : statics_meet T m n ≡ false
-  not_meeting = meet_told T m n ∙ ap (λ b. is_method T m && is_method T n && differ (is_static T m) (is_static T n) && b) not_below ∙ and_false (is_method T m && is_method T n && differ (is_static T m) (is_static T n))
+  not_meeting = meet_told T m n ∙ ap (λ b. is_method T m && is_method T n && differ (is_static T m) (is_static T n) && b) not_below ∙ and_none (is_method T m && is_method T n && differ (is_static T m) (is_static T n))
 
   not_equivalent : override_equivalent T (declared_view T m) (declared_view T n) ≡ false
   not_equivalent =
@@ -109,7 +93,7 @@ module _ (T : Table) (m n : MethodId) (other : bytes_eq (method_name_of T n) (me
       ∙ ap (λ b. b && (same_signature (declared_view T n) (declared_view T m) || is_erasure T (declared_view T n) (declared_view T m))) other
 
   not_repeated : repeats T m n ≡ false
-  not_repeated = ap (λ b. is_before T n m && is_same_sort T n m && b) not_equivalent ∙ and_false (is_before T n m && is_same_sort T n m)
+  not_repeated = ap (λ b. is_before T n m && is_same_sort T n m && b) not_equivalent ∙ and_none (is_before T n m && is_same_sort T n m)
 
   nothing_broken : (place : Place) → pair_breaks T m place n ≡ []
   nothing_broken place =
@@ -158,35 +142,31 @@ named_enough T m d ids at e =
 
 -- ---- all of a class and of those above it
 
-none_of : (a b : Bool) → (a || b) ≡ false → (a ≡ false) × (b ≡ false)
-none_of true b e = cc
-none_of false b e = (refl, e)
-
 module _ (T : Table) (m n : MethodId) (out : stands_in T (owner T m) n ≡ false) where
   abbrev other_class : (same_class (owner T n) (owner T m) ≡ false) × (is_viewed (view T (owner T n) (own_type T (owner T m))) ≡ false)
-  other_class = none_of (same_class (owner T n) (owner T m)) (is_viewed (view T (owner T n) (own_type T (owner T m)))) out
+  other_class = or_parts (same_class (owner T n) (owner T m)) (is_viewed (view T (owner T n) (own_type T (owner T m)))) out
 
   far_below : own_below T m n ≡ false
   far_below =
       ap (λ b. not (same_class (owner T m) (owner T n)) && b && is_inheritable T (owner T m) n && subsignature_of T (class_view T (owner T m) m) (class_view T (owner T m) n)) other_class.1
-      ∙ ap (λ b. b && is_inheritable T (owner T m) n && subsignature_of T (class_view T (owner T m) m) (class_view T (owner T m) n)) (and_false (not (same_class (owner T m) (owner T n))))
+      ∙ ap (λ b. b && is_inheritable T (owner T m) n && subsignature_of T (class_view T (owner T m) m) (class_view T (owner T m) n)) (and_none (not (same_class (owner T m) (owner T n))))
 
   far_overridden : overrides T m n ≡ false
-  far_overridden = overrides_told T m n ∙ ap (λ b. is_instance T m && is_instance T n && b) far_below ∙ and_false (is_instance T m && is_instance T n)
+  far_overridden = overrides_told T m n ∙ ap (λ b. is_instance T m && is_instance T n && b) far_below ∙ and_none (is_instance T m && is_instance T n)
 
   far_hidden : hides T m n ≡ false
-  far_hidden = hides_told T m n ∙ ap (λ b. is_method T m && is_method T n && is_static T m && is_static T n && b) far_below ∙ and_false (is_method T m && is_method T n && is_static T m && is_static T n)
+  far_hidden = hides_told T m n ∙ ap (λ b. is_method T m && is_method T n && is_static T m && is_static T n && b) far_below ∙ and_none (is_method T m && is_method T n && is_static T m && is_static T n)
 
   far_replaced : replaces T m n ≡ false
   far_replaced = ap (λ b. b || hides T m n) far_overridden ∙ far_hidden
 
   far_meeting : statics_meet T m n ≡ false
-  far_meeting = meet_told T m n ∙ ap (λ b. is_method T m && is_method T n && differ (is_static T m) (is_static T n) && b) far_below ∙ and_false (is_method T m && is_method T n && differ (is_static T m) (is_static T n))
+  far_meeting = meet_told T m n ∙ ap (λ b. is_method T m && is_method T n && differ (is_static T m) (is_static T n) && b) far_below ∙ and_none (is_method T m && is_method T n && differ (is_static T m) (is_static T n))
 
   far_repeated : repeats T m n ≡ false
   far_repeated =
       ap (λ b. nat_lt n.0 m.0 && b && is_same_sort T n m && override_equivalent T (declared_view T m) (declared_view T n)) other_class.0
-      ∙ ap (λ b. b && is_same_sort T n m && override_equivalent T (declared_view T m) (declared_view T n)) (and_false (nat_lt n.0 m.0))
+      ∙ ap (λ b. b && is_same_sort T n m && override_equivalent T (declared_view T m) (declared_view T n)) (and_none (nat_lt n.0 m.0))
 
   far_broken : (place : Place) → pair_breaks T m place n ≡ []
   far_broken place =

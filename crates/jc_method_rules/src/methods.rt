@@ -1,7 +1,6 @@
 //! The stage of headers at methods.
-ghost use Rattle.std.specs.Prelude.{◌≡◌, ◌⊎◌, Some, None, IfOk, slice_get};
+ghost use Rattle.std.specs.Prelude.{◌≡◌, ◌⊎◌, Some, IfOk, slice_get};
 ghost use Rattle.std.specs.Option.{option_copied};
-ghost use Rattle.jc_types.specs.Accessors.{method_name_of};
 ghost use Rattle.jc_types.specs.Breaks.{least};
 ghost use Rattle.jc_overriding.specs.Overriding.{is_method_kind, overrides, owner};
 ghost use Rattle.jc_overriding.specs.Viewing.{class_view, declared_view, own_type};

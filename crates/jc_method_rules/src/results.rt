@@ -3,7 +3,7 @@ ghost use Rattle.std.specs.Prelude.{◌≡◌, [], IfOk};
 ghost use Rattle.jc_judge.specs.Deciding.{answer_of};
 ghost use Rattle.std.specs.Option.{option_copied};
 ghost use Rattle.jc_types.specs.declared.form.Ty.{out-Ty};
-ghost use Rattle.jc_header_rules.specs.Results.{answer_by, class_converts, converts_unchecked, elements_convert, has_parameters, is_raw_at, is_raw_view, reference_answer, result_answer, type_answer, yes_if};
+ghost use Rattle.jc_header_rules.specs.Results.{class_converts, converts_unchecked, elements_convert, has_parameters, is_raw_at, is_raw_view, reference_answer, result_answer, type_answer, yes_if};
 
 use jc_judge::Answer;
 use jc_lub::up_view;

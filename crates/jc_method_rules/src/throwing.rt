@@ -1,6 +1,6 @@
 //! The types that methods throw (JLS 8.4.6, 8.4.8.3, 11.1.1).
 ghost use Rattle.std.specs.Prelude.{◌≡◌, ◌||◌, IfOk};
-ghost use Rattle.std.specs.List.{list_all, list_any};
+ghost use Rattle.std.specs.List.{list_any};
 ghost use Rattle.jc_header_rules.specs.Results.{class_of_base, is_throwable, is_unchecked, is_within, thrown_class, thrown_fits};
 
 use jc_members::{MethodView, erased_in, own_type};

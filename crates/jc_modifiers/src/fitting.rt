@@ -1,6 +1,6 @@
 //! Whether a declaration can have its modifiers.
 ghost use Rattle.std.specs.Prelude.{◌≡◌, ◌++◌};
-ghost use Rattle.jc_declares.specs.Modifiers.{place_words, kind_words, class_modifiers_fit, field_words, field_modifiers_fit, method_words, abstract_alone, safe_varargs_fits, is_constructor, words_of_method, override_fits, method_modifiers_fit, local_modifiers_fit};
+ghost use Rattle.jc_declares.specs.Modifiers.{place_words, kind_words, class_modifiers_fit, field_words, field_modifiers_fit, method_words, abstract_alone, safe_varargs_fits, words_of_method, override_fits, method_modifiers_fit, local_modifiers_fit};
 
 use crate::words::{
     both, is_consistent, is_variable_arity, no_override, no_safe_varargs, only_words,

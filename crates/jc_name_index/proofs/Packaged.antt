@@ -4,6 +4,7 @@ use Rattle.std.specs.Prelude.{cond, ◌==◌, ◌&&◌, if◌then◌else◌}
 use Rattle.std.specs.Str.{bytes_eq}
 use Rattle.std.proofs.lemmas.Grind.{common_steps}
 use Rattle.std.proofs.lemmas.Slice.Eq.{bytes_eq-Decides}
+use Rattle.jc_rules.proofs.Truths.{same_bytes, equal_numbers}
 use Rattle.jc_types.specs.Names.{named}
 use Rattle.jc_declares.specs.declared.heads.ClassHead.{ClassHead}
 use Rattle.jc_declares.specs.declared.heads.Heads.{Heads}
@@ -12,9 +13,6 @@ use Rattle.jc_declares.specs.Heads.{Named, named_classes, is_top, is_of_package,
 use Rattle.jc_name_index.specs.Spaces.{space_named, noted_all, picked, picked_as}
 use Rattle.jc_name_index.specs.Index.{as_package, package_number, in_numbered, in_unit_package, outside_in_package, as_packaged, numbered_named}
 use Rattle.jc_name_index.proofs.Picked.{noted_from_empty}
-
-same_bytes : (xs ys : List ℕ) → bytes_eq xs ys ≡ true → xs ≡ ys
-same_bytes xs ys e = (bytes_eq-Decides xs ys).0 e
 
 bytes_same : (xs ys : List ℕ) → xs ≡ ys → bytes_eq xs ys ≡ true
 bytes_same xs ys e = (bytes_eq-Decides xs ys).1 e
@@ -93,9 +91,6 @@ has_number (v ∷ us) zero i u e f =
 has_number (v ∷ us) (suc j) i u e f = later_number_at (bytes_eq u.«package» v.«package») u.«package» i us (has_number us j (suc i) u e) f
 
 -- ---- the types of a package
-
-equal_numbers : (a b : ℕ) → (a == b) ≡ true → a ≡ b
-equal_numbers a b e = grind (arith, common_steps)
 
 same_number : (a b : ℕ) → a ≡ b → (a == b) ≡ true
 same_number a b e = grind (arith, common_steps)

@@ -5,7 +5,7 @@ use Rattle.std.specs.Str.{bytes_eq}
 use Rattle.std.proofs.lemmas.Grind.{common_steps}
 use Rattle.std.proofs.lemmas.List.{get_or-set_same}
 use Rattle.std.proofs.lemmas.Option.{slice_get-get_or}
-use Rattle.std.proofs.lemmas.Slice.Eq.{bytes_eq-Decides}
+use Rattle.jc_rules.proofs.Truths.{equal_numbers, same_bytes, other_numbers}
 use Rattle.jc_types.specs.Names.{named}
 use Rattle.jc_name_index.specs.Spaces.{Named, Noting, named_in, space_named, unless_named, with_first, padded, noted_in, noted_as, noted_all, picked_as, picked}
 
@@ -29,9 +29,6 @@ pub or_none : (a : Option ℕ) → or_next a None ≡ a
 or_none (Some q) = refl
 or_none None = refl
 
-pub bytes_same : (xs ys : List ℕ) → bytes_eq xs ys ≡ true → xs ≡ ys
-bytes_same xs ys e = (bytes_eq-Decides xs ys).0 e
-
 -- ---- one note
 
 named_here : (b : Bool) (n m : List ℕ) (i q : ℕ) (names : Named) → bytes_eq n m ≡ b → named m names ≡ Some q → (b ≡ true → n ≡ m)
@@ -42,7 +39,7 @@ named_here true n m i q names e f same =
     g ∙ ap (λ o. or_next o (Some i)) (sym g)
 
 pub first_named : (o : Option ℕ) (n m : List ℕ) (i : ℕ) (names : Named) → named m names ≡ o → named n (unless_named o m i names) ≡ or_next (named n names) (named n ((m, i) ∷ []))
-first_named (Some q) n m i names f = named_here (bytes_eq n m) n m i q names refl f (λ e. bytes_same n m e)
+first_named (Some q) n m i names f = named_here (bytes_eq n m) n m i q names refl f (λ e. same_bytes n m e)
 first_named None n m i names f = named_joined n names ((m, i) ∷ [])
 
 get_same : (T : List Named) (q : ℕ) (y : Named) → q < length T → slice_get (slice_set T q y) q ≡ Some y
@@ -56,12 +53,6 @@ get_other (x ∷ T) zero zero y ne = absurd (ne refl)
 get_other (x ∷ T) zero (suc s) y ne = refl
 get_other (x ∷ T) (suc q) zero y ne = refl
 get_other (x ∷ T) (suc q) (suc s) y ne = get_other T q s y (λ e. ne (ap suc e))
-
-equal_numbers : (a b : ℕ) → (a == b) ≡ true → a ≡ b
-equal_numbers a b e = grind (arith, common_steps)
-
-other_numbers : (a b : ℕ) → (a == b) ≡ false → a ≢ b
-other_numbers a b e = grind (arith, common_steps)
 
 noted_some : (b : Bool) (names : Named) (T : List Named) (q s i : ℕ) (m n : List ℕ) → (s == q) ≡ b → slice_get T q ≡ Some names → q < length T
     → named_in n (slice_get (slice_set T q (with_first m i names)) s) ≡ or_next (named_in n (slice_get T s)) (named n (cond b ((m, i) ∷ []) []))

@@ -1,5 +1,5 @@
 //! The index of a program's heads.
-ghost use Rattle.std.specs.Prelude.{◌≡◌, ℕ, List, [], length, replicate, slice_get, IfOk, OnOk};
+ghost use Rattle.std.specs.Prelude.{◌≡◌, ℕ, List, [], slice_get, IfOk, OnOk};
 ghost use Rattle.jc_name_index.specs.Spaces.{space_named, noted_as, noted_all};
 ghost use Rattle.jc_name_index.specs.Index.{IsIndex, as_member, as_top, as_package, as_packaged, in_unit_package, package_number, as_class_variable, as_method_variable};
 

@@ -1,6 +1,5 @@
 //! Names in numbered spaces.
 ghost use Rattle.std.specs.Prelude.{◌≡◌, ◌∷◌, [], ℕ, IfOk, OnOk, replicate, slice_get};
-ghost use Rattle.jc_types.specs.Names.{named};
 ghost use Rattle.jc_name_index.specs.Spaces.{space_named, has_some, padded, noted, with_first};
 
 use jc_rules::{Text, WantOfMemory};

@@ -3,7 +3,7 @@ use Rattle.std.proofs.Common.{◌≡◌, ◌+◌, ℕ, zero, suc, Bool, true, fa
 use Rattle.std.specs.Prelude.{cond, not, ◌&&◌, ◌||◌, ◌==◌, if◌then◌else◌}
 use Rattle.std.specs.Str.{bytes_eq}
 use Rattle.std.proofs.lemmas.Bool.Decides.{nat_tests}
-use Rattle.std.proofs.lemmas.Slice.Eq.{bytes_eq-Decides}
+use Rattle.jc_rules.proofs.Truths.{own_bytes, self_equal}
 use Rattle.jc_types.specs.Names.{named}
 use Rattle.jc_types.specs.declared.declarations.Owner.{Owner}
 use Rattle.jc_types.specs.declared.declarations.Owner.TheVariants as owner
@@ -75,9 +75,6 @@ module _ {X : Type 0} (test : X → Bool) (name : X → List ℕ) (n : List ℕ)
       ap (λ o. is_number o (i + 0)) (here (test y) (bytes_eq n (name y)) n (name y) i (marked test name (suc i) ys) (ap test s ∙ t) refl (ap (λ z. bytes_eq n (name z)) s ∙ b)) ∙ number_self i
   first_of i (suc k) (y ∷ ys) x e t b = step i k y ys (test y && bytes_eq n (name y)) refl (first_of (suc i) k ys x e t b)
 
-bytes_self : (n : List ℕ) → bytes_eq n n ≡ true
-bytes_self n = (bytes_eq-Decides n n).1 refl
-
 double : (b c : Bool) → not b ≡ c → b ≡ not c
 double true c e = ap not e
 double false c e = ap not e
@@ -94,7 +91,7 @@ first_class : (H : Heads) (test : ClassHead → Bool) (P : ClassHead → Bool) (
 first_class H test P k s e t same =
     ap (λ (l : Named). not (is_number (named s.name l) k)) (classes_marked test 0 H.classes)
     ∙ ap (λ j. not (is_number (named s.name (marked test (λ (c : ClassHead). c.name) 0 H.classes)) j)) (sym (zero-add k))
-    ∙ sym (double (some_before P k H.classes) (is_number (named s.name (marked test (λ (c : ClassHead). c.name) 0 H.classes)) (0 + k)) (sym (first_of test (λ (c : ClassHead). c.name) s.name P same 0 k H.classes s e t (bytes_self s.name))))
+    ∙ sym (double (some_before P k H.classes) (is_number (named s.name (marked test (λ (c : ClassHead). c.name) 0 H.classes)) (0 + k)) (sym (first_of test (λ (c : ClassHead). c.name) s.name P same 0 k H.classes s e t (own_bytes s.name))))
 
 inside_same : (r ds : List ℕ) (o : ℕ) (x : Bool) → slice_get r 0 ≡ Some o → same_round r ds && (not (is_top r) || x) ≡ is_inside o ds
 inside_same [] ds o x e = absurd (cc)
@@ -128,7 +125,7 @@ top_same [] (d ∷ ds) a v u e f = refl
 
 top_self : (r : List ℕ) (a : Option UnitHead) (u : UnitHead) → slice_get r 0 ≡ None → a ≡ Some u → is_top r && is_of_package a u.«package» ≡ true
 top_self (c ∷ r) a u e f = absurd (cc)
-top_self [] a u e f = ap (λ x. is_of_package x u.«package») f ∙ bytes_self u.«package»
+top_self [] a u e f = ap (λ x. is_of_package x u.«package») f ∙ own_bytes u.«package»
 
 -- a type of a package
 pub repeated_top : (H : Heads) (k : ℕ) (s : ClassHead) (u : UnitHead) → slice_get H.classes k ≡ Some s → slice_get s.round 0 ≡ None → slice_get H.units s.unit ≡ Some u
@@ -160,15 +157,12 @@ unfolding marked
 picked_marked q i [] = refl
 picked_marked q i (f ∷ fs) = ap (λ (l : Named). cond (q == f.class) ((f.name, i) ∷ []) [] ++ l) (picked_marked q (suc i) fs)
 
-class_self : (i : ℕ) → (i == i) ≡ true
-class_self i = grind (arith, nat_tests)
-
 pub field_first : (H : Heads) (k : ℕ) (f : FieldHead) → slice_get H.fields k ≡ Some f
     → is_number (space_named (noted_all as_field 0 H.fields []) f.class f.name) k ≡ not (some_before (λ (g : FieldHead). (f.class == g.class) && bytes_eq f.name g.name) k H.fields)
 field_first H k f e =
     ap (λ o. is_number o k) (all_named as_field H.fields 0 [] f.class f.name ∙ ap (λ (l : Named). named f.name l) (picked_marked f.class 0 H.fields))
     ∙ ap (λ j. is_number (named f.name (marked (λ (g : FieldHead). f.class == g.class) (λ (g : FieldHead). g.name) 0 H.fields)) j) (sym (zero-add k))
-    ∙ first_of (λ (g : FieldHead). f.class == g.class) (λ (g : FieldHead). g.name) f.name (λ (g : FieldHead). (f.class == g.class) && bytes_eq f.name g.name) (λ g. refl) 0 k H.fields f e (class_self f.class) (bytes_self f.name)
+    ∙ first_of (λ (g : FieldHead). f.class == g.class) (λ (g : FieldHead). g.name) f.name (λ (g : FieldHead). (f.class == g.class) && bytes_eq f.name g.name) (λ g. refl) 0 k H.fields f e (self_equal f.class) (own_bytes f.name)
 
 -- ---- type parameters
 
@@ -178,8 +172,8 @@ variables_marked o i [] = refl
 variables_marked o i (v ∷ vs) = ap (λ (l : Named). cond (same_owner o v.owner) ((v.name, i) ∷ []) [] ++ l) (variables_marked o (suc i) vs)
 
 owner_self : (o : Owner) → same_owner o o ≡ true
-owner_self (owner.Class c) = class_self c.0
-owner_self (owner.Method m) = class_self m.0
+owner_self (owner.Class c) = self_equal c.0
+owner_self (owner.Method m) = self_equal m.0
 
 by_owner : (H : Heads) (o : Owner) (n : List ℕ) → owner_named H o n ≡ named n (named_variables o 0 H.variables)
 by_owner H (owner.Class c) n = refl
@@ -190,7 +184,7 @@ pub variable_first : (H : Heads) (k : ℕ) (v : VariableHead) → slice_get H.va
 variable_first H k v e =
     ap (λ o. is_number o k) (by_owner H v.owner v.name ∙ ap (λ (l : Named). named v.name l) (variables_marked v.owner 0 H.variables))
     ∙ ap (λ j. is_number (named v.name (marked (λ (w : VariableHead). same_owner v.owner w.owner) (λ (w : VariableHead). w.name) 0 H.variables)) j) (sym (zero-add k))
-    ∙ first_of (λ (w : VariableHead). same_owner v.owner w.owner) (λ (w : VariableHead). w.name) v.name (λ (w : VariableHead). same_owner v.owner w.owner && bytes_eq v.name w.name) (λ w. refl) 0 k H.variables v e (owner_self v.owner) (bytes_self v.name)
+    ∙ first_of (λ (w : VariableHead). same_owner v.owner w.owner) (λ (w : VariableHead). w.name) v.name (λ (w : VariableHead). same_owner v.owner w.owner && bytes_eq v.name w.name) (λ w. refl) 0 k H.variables v e (owner_self v.owner) (own_bytes v.name)
 
 -- ---- single imports of a unit
 

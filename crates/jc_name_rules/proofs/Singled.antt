@@ -4,7 +4,7 @@ use Rattle.std.specs.Prelude.{cond, not, ◌||◌, ◌&&◌, ◌==◌, if◌then
 use Rattle.std.specs.Str.{bytes_eq}
 use Rattle.std.proofs.lemmas.List.{take_more}
 use Rattle.std.proofs.lemmas.Bool.Decides.{nat_tests}
-use Rattle.std.proofs.lemmas.Slice.Eq.{bytes_eq-Decides}
+use Rattle.jc_rules.proofs.Truths.{same_bytes, own_bytes}
 use Rattle.jc_types.specs.Names.{named}
 use Rattle.jc_declares.specs.declared.heads.Heads.{Heads}
 use Rattle.jc_declares.specs.declared.heads.ImportHead.{ImportHead}
@@ -12,7 +12,7 @@ use Rattle.jc_declares.specs.Heads.{Named}
 use Rattle.jc_declares.specs.Knowing.{is_some}
 use Rattle.jc_declares.specs.HeadBreaks.{some_in, other_single, is_imported_twice}
 use Rattle.jc_declares.specs.Looking.{Found, single_of, singles, imported}
-use Rattle.jc_name_index.proofs.SpacesNoted.{or_next, named_joined, bytes_same}
+use Rattle.jc_name_index.proofs.SpacesNoted.{or_next, named_joined}
 use Rattle.jc_name_rules.specs.declared.singles.Singles.{Singles}
 use Rattle.jc_name_rules.specs.Singles.{AreSingles, other_in, other_by, with_single, with_first_or, with_entries, is_twice_among}
 
@@ -35,19 +35,16 @@ pub singles-append : (H : Heads) (is js : List ImportHead) → singles H (is ++ 
 singles-append H [] js = refl
 singles-append H (i ∷ is) js = ap (λ (es : Named). single_of i (imported H i) ++ es) (singles-append H is js) ∙ sym (append_assoc (single_of i (imported H i)) (singles H is) (singles H js))
 
-bytes_self : (n : List ℕ) → bytes_eq n n ≡ true
-bytes_self n = (bytes_eq-Decides n n).1 refl
-
 bytes_turned : (m n : List ℕ) (b : Bool) → bytes_eq m n ≡ b → bytes_eq n m ≡ b
-bytes_turned m n true e = subst (λ (k : List ℕ). bytes_eq n k ≡ true) (sym (bytes_same m n e)) (bytes_self n)
+bytes_turned m n true e = subst (λ (k : List ℕ). bytes_eq n k ≡ true) (sym (same_bytes m n e)) (own_bytes n)
 bytes_turned m n false e = turned (bytes_eq n m) refl
   where
     turned : (b : Bool) → bytes_eq n m ≡ b → bytes_eq n m ≡ false
     turned false f = f
-    turned true f = absurd (contra (subst (λ (k : List ℕ). bytes_eq k n ≡ false) (sym (bytes_same n m f)) e))
+    turned true f = absurd (contra (subst (λ (k : List ℕ). bytes_eq k n ≡ false) (sym (same_bytes n m f)) e))
       where
         contra : bytes_eq n n ≡ false → ⊥
-        contra g = (cc (bytes_self n))
+        contra g = (cc (own_bytes n))
 
 named_one : (b : Bool) (m n : List ℕ) (c : ℕ) → bytes_eq m n ≡ b → named m ((n, c) ∷ []) ≡ (if b then Some c else None)
 named_one b m n c e = ap (λ (x : Bool). if x then Some c else None) e
@@ -66,7 +63,7 @@ named_besides m n c xs e = named_more m n c xs false e ∙ or_nothing (named m x
 named_there : (m n : List ℕ) (c d : ℕ) (xs : Named) → named n xs ≡ Some d → (b : Bool) → bytes_eq m n ≡ b → named m (xs ++ (n, c) ∷ []) ≡ named m xs
 named_there m n c d xs f false e = named_besides m n c xs e
 named_there m n c d xs f true e =
-    let g : named m xs ≡ Some d = ap (λ k. named k xs) (bytes_same m n e) ∙ f in
+    let g : named m xs ≡ Some d = ap (λ k. named k xs) (same_bytes m n e) ∙ f in
     named_more m n c xs true e ∙ ap (λ o. or_next o (Some c)) g ∙ sym g
 
 module _ (es : Named) (s : Singles) (n : List ℕ) (c : ℕ) (h : AreSingles es s) where
@@ -115,7 +112,7 @@ module _ (es : Named) (s : Singles) (n : List ℕ) (c : ℕ) (h : AreSingles es 
       ∙ ap (λ b. b || not (c == k)) (ap (λ o. other_by o (is_some (named n s.several)) k) (sym f) ∙ h.several n k)
     where
       now_several : (o : Option ℕ) → is_some o ≡ false → is_some (named n (s.several ++ (n, c) ∷ [])) ≡ true
-      now_several o g = ap is_some (named_more n n c s.several true (bytes_self n)) ∙ some_next (named n s.several)
+      now_several o g = ap is_some (named_more n n c s.several true (own_bytes n)) ∙ some_next (named n s.several)
         where
           some_next : (o : Option ℕ) → is_some (or_next o (Some c)) ≡ true
           some_next None = refl
@@ -126,7 +123,7 @@ module _ (es : Named) (s : Singles) (n : List ℕ) (c : ℕ) (h : AreSingles es 
 
   there : (k : ℕ) (o : Option ℕ) → named n s.firsts ≡ o → other_by (named n (with_first_or o n c s).firsts) (is_some (named n (with_first_or o n c s).several)) k ≡ other_in n k es || not (c == k)
   there k None f =
-      ap (λ o. other_by o (is_some (named n s.several)) k) (named_more n n c s.firsts true (bytes_self n) ∙ ap (λ o. or_next o (Some c)) f)
+      ap (λ o. other_by o (is_some (named n s.several)) k) (named_more n n c s.firsts true (own_bytes n) ∙ ap (λ o. or_next o (Some c)) f)
       ∙ ap (λ b. b || not (c == k)) (ap (λ o. other_by o (is_some (named n s.several)) k) (sym f) ∙ h.several n k)
   there k (Some d) f = there_kept k d (is_some (named n s.several)) (d == c) f refl refl
 
@@ -140,9 +137,9 @@ module _ (es : Named) (s : Singles) (n : List ℕ) (c : ℕ) (h : AreSingles es 
       ∙ ap (λ b. other_in m k es || ((b && not (c == k)) || false)) (sym (bytes_turned m n false e))
       ∙ sym (some_in-append (λ (e : List ℕ × ℕ). bytes_eq e.0 m && not (e.1 == k)) es ((n, c) ∷ []))
   several_step m k true e =
-      ap (λ j. other_by (named j (with_single n c s).firsts) (is_some (named j (with_single n c s).several)) k) (bytes_same m n e)
+      ap (λ j. other_by (named j (with_single n c s).firsts) (is_some (named j (with_single n c s).several)) k) (same_bytes m n e)
       ∙ there k (named n s.firsts) refl
-      ∙ ap (λ j. other_in j k es || not (c == k)) (sym (bytes_same m n e))
+      ∙ ap (λ j. other_in j k es || not (c == k)) (sym (same_bytes m n e))
       ∙ ap (λ b. other_in m k es || b) (sym (or_false (not (c == k))))
       ∙ ap (λ b. other_in m k es || ((b && not (c == k)) || false)) (sym (bytes_turned m n true e))
       ∙ sym (some_in-append (λ (e : List ℕ × ℕ). bytes_eq e.0 m && not (e.1 == k)) es ((n, c) ∷ []))

@@ -1,7 +1,6 @@
 //! Fields and type parameters of one name (JLS 8.1.2, 8.3, 8.4.4).
 ghost use Rattle.std.specs.Prelude.{◌≡◌, [], slice_get, IfOk};
 ghost use Rattle.jc_types.specs.Breaks.{least};
-ghost use Rattle.jc_declares.specs.Heads.{class_variables, method_variables};
 ghost use Rattle.jc_declares.specs.HeadBreaks.{of_each, class_file, owner_file, twice_field, twice_variable};
 ghost use Rattle.jc_name_index.specs.Index.{IsIndex};
 ghost use Rattle.jc_name_index.specs.Spaces.{noted_all};

@@ -3,7 +3,7 @@ ghost use Rattle.std.specs.Prelude.{◌≡◌, ◌++◌, ◌==◌, IfOk, codes, 
 ghost use Rattle.jc_declares.specs.declared.heads.Heads.{Heads};
 ghost use Rattle.std.specs.List.{starts_with};
 ghost use Rattle.jc_types.specs.Breaks.{least};
-ghost use Rattle.jc_declares.specs.HeadBreaks.{is_within_package, is_package, first_package, package_fits, package_breaks};
+ghost use Rattle.jc_declares.specs.HeadBreaks.{is_package, first_package, package_fits, package_breaks};
 
 use jc_declares::{Heads, UnitHead};
 use jc_rules::{Place, Refusal, Rule, Text, WantOfMemory};

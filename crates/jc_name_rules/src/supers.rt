@@ -8,7 +8,7 @@ ghost use Rattle.jc_looking.specs.Members.{known_in};
 ghost use Rattle.jc_looking.specs.Scenes.{IsScene};
 ghost use Rattle.jc_name_rules.specs.Sighted.{superclass_seen, interface_seen, class_seen};
 
-use jc_declares::{ClassHead, Heads, Path};
+use jc_declares::{ClassHead, Heads};
 use jc_looking::{Scene, Sight, Standing, may_be_named, meaning};
 use jc_rules::{Items, Place, Refusal, Rule, WantOfMemory};
 use jc_types::Kind;

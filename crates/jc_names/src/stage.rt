@@ -19,7 +19,7 @@ use jc_imports::{Imports, imports_of};
 use jc_looking::Scene;
 use jc_name_index::{Indexed, index_of};
 use jc_name_rules::first_break;
-use jc_rules::{Refusal, Stop, WantOfMemory};
+use jc_rules::{Refusal, Stop};
 use jc_settling::settle;
 use jc_sites::{Sites, sites};
 use jc_table::table_with;

@@ -1,6 +1,6 @@
 //! Arrays of arrays.
 ghost use Rattle.std.specs.Prelude.{◌≡◌, ◌++◌, ◌+◌, ◌-◌, ◌∷◌, [], length, IfOk, OnOk};
-ghost use Rattle.jc_jvm.specs.Objects.{addresses, naturals, nest, nest_made, nest_by, arrays_made};
+ghost use Rattle.jc_jvm.specs.Objects.{addresses, naturals, nest, nest_made, arrays_made};
 ghost use Rattle.jc_jvm.specs.Types.{shallower};
 ghost use Rattle.jc_jvm.specs.Worlds.{zeros as zeros_of};
 ghost use Rattle.jc_plain.specs.Acted.{acted};

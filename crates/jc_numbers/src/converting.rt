@@ -1,7 +1,7 @@
 //! Conversions between primitive types (JLS 5.1.2, 5.1.3).
 ghost use Rattle.std.specs.Prelude.{◌≡◌, ◌≤◌, ◌<◌, ◌^◌, pos};
 ghost use Rattle.std.specs.Int.{w8, w16, w32, int_wrap, cast_unsigned};
-ghost use Rattle.jc_heaps.specs.Numbers.{number_as, converted, boolean_of, whole_of, truth, int_eq};
+ghost use Rattle.jc_heaps.specs.Numbers.{number_as, converted, boolean_of, whole_of};
 
 use jc_running::Value;
 use jc_types::Primitive;

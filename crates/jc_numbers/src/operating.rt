@@ -1,7 +1,7 @@
 //! Operators on two numbers (JLS 15.17 to 15.22).
 ghost use Rattle.std.specs.Prelude.{◌≡◌};
 ghost use Rattle.std.specs.Int.{w32, w64};
-ghost use Rattle.jc_heaps.specs.Numbers.{truth, int_eq, of_numbers, of_references, matched, operated, unless_zero, distance, is_shift, shifted_by};
+ghost use Rattle.jc_heaps.specs.Numbers.{truth, of_numbers, of_references, matched, operated, is_shift, shifted_by};
 ghost use Rattle.jc_running.specs.declared.value.Value.TheVariants.{Whole, Long};
 ghost use Rattle.jc_types.specs.declared.constant.Op.TheVariants.{Divide, Remainder};
 

@@ -1,7 +1,7 @@
 //! Operators on one number (JLS 15.15).
 ghost use Rattle.std.specs.Prelude.{◌≡◌};
 ghost use Rattle.std.specs.Int.{w32, w64};
-ghost use Rattle.jc_heaps.specs.Numbers.{of_number, prefixed, stepped, truth, int_eq};
+ghost use Rattle.jc_heaps.specs.Numbers.{of_number, prefixed, stepped, truth};
 ghost use Rattle.jc_running.specs.declared.value.Value.TheVariants.{Whole, Long};
 
 use crate::operating::truth;

@@ -70,13 +70,6 @@ pub again_first : (x : ℕ) (xs : List ℕ) (l r : List Told) → BeginsAt x l �
 again_first x xs [] r b g = absurd b
 again_first x xs (d ∷ l) r b g = again d x xs l r refl b g
 
-begins_before : (x : ℕ) (l r : List Told) → BeginsAt x l → BeginsAt x (l ++ r)
-begins_before x [] r b = absurd b
-begins_before x (d ∷ l) r b = b
-
-pub begins_framed : (f : Spelled) → Frames f → (x : ℕ) → BeginsAt x (f []) → (r : List Told) → BeginsAt x (f r)
-begins_framed f h x b r = subst (λ (l : List Told). BeginsAt x l) (sym (h.at [] r)) (begins_before x (f []) r b)
-
 -- ---- where types begin
 
 along : (a b : ℕ) (s t : List Told) → a ≡ b → s ≡ t → BeginsAt b t → BeginsAt a s

@@ -1,6 +1,6 @@
 //! Outside objects in memory that fail at planned calls.
 // Forms in memory that fail at calls given by number.
-ghost use Rattle.std.specs.Prelude.{◌≡◌, ◌≢◌, ◌≤◌, ◌⊎◌, ◌↔◌, [], ◌∷◌, ◌++◌, true, false, take, Some, None, IfOk, OnOk, OnErr, IsErr, IsErrOf, IsSome, IfSome};
+ghost use Rattle.std.specs.Prelude.{◌≡◌, ◌≢◌, ◌≤◌, ◌⊎◌, ◌↔◌, [], ◌∷◌, ◌++◌, true, take, Some, None, IfOk, OnOk, OnErr, IsErr, IsErrOf, IsSome, IfSome};
 ghost use Rattle.jc_outside.specs.Told.{Rose, IsMissing, Gives, Extends, Stays, Gets, GetsPart, Takes};
 ghost use Rattle.jc_outside.specs.Memory.{files_of, mem_files, mem_pairs, mem_left, mem_out, fails_next, after_call, next_fail, after_put};
 

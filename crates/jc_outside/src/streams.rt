@@ -1,6 +1,6 @@
 //! Input and output over the streams of the system.
 // Adapters over readers and writers, as standard input and output. They tell what std's contracts tell of these.
-ghost use Rattle.std.specs.Prelude.{◌≡◌, ◌≤◌, ◌≢◌, ◌⊎◌, ◌↔◌, ◌<◌, [], ◌∷◌, ◌++◌, length, take, Some, None, IfOk, OnOk, OnErr, IsErrOf, MatchOption, MatchResult, IfSome, IfErr, false, is_ok, if◌then◌else◌};
+ghost use Rattle.std.specs.Prelude.{◌≡◌, ◌≤◌, ◌≢◌, ◌⊎◌, ◌↔◌, ◌<◌, [], ◌∷◌, ◌++◌, length, take, Some, None, IfOk, OnOk, OnErr, IsErrOf, MatchOption, IfSome, IfErr, false, is_ok, if◌then◌else◌};
 ghost use Rattle.std.specs.Io.KnownBytes.{Consumes, IsAtEnd, Keeps};
 ghost use Rattle.jc_outside.specs.Told.{Rose, risen, Extends, Stays, Gets, GetsPart, Takes};
 

@@ -1,5 +1,5 @@
 -- Level after level of binary operators, the tightest first: a level whose operators cannot begin behind an operand adds nothing to it.
-use Rattle.std.proofs.Common.{◌≡◌, ℕ, ◌-◌, ◌<◌, ◌≤◌, ◌^◌, min, false, cond, ◌==◌, ◌||◌, map, List, [], ◌∷◌, length, Result, Ok, Err, refl, sym, ap, ◌∙◌, ⊎_elim, arith}
+use Rattle.std.proofs.Common.{◌≡◌, ℕ, ◌-◌, ◌<◌, ◌≤◌, ◌^◌, min, false, ◌==◌, ◌||◌, map, List, [], ◌∷◌, length, Result, Ok, Err, refl, ap, ◌∙◌, ⊎_elim, arith}
 use Rattle.std.specs.Prelude.{IfOk}
 use Rattle.std.proofs.lemmas.Bool.{cases_lt, or_parts}
 use Rattle.jc_lexer.specs.declared.token.Key.TheVariants as key_of
@@ -21,7 +21,7 @@ use Rattle.jc_parse_expr.specs.declared.measured.Measured.{Measured}
 use Rattle.jc_parse_expr.specs.declared.operators.Level.{Level}
 use Rattle.jc_parse_expr.specs.declared.operators.Level.TheVariants as level_of
 use Rattle.jc_parse_expr.specs.After.{Both}
-use Rattle.jc_parse_expr.specs.BinaryLevels.{level_run, levels_at, looseness, may_operate, operand_run, operands_run, operator_run, tighter_run}
+use Rattle.jc_parse_expr.specs.BinaryLevels.{level_run, levels_at, may_operate, operand_run, operands_run, operator_run, tighter_run}
 use Rattle.jc_parse_expr.specs.Measuring.{measured, measured_operands}
 use Rattle.jc_parse_expr.specs.Nodes.{chain_node}
 use Rattle.jc_parse_expr.proofs.BinarySteps.{binary_chain, binary_halts, binary_tall}
@@ -163,23 +163,3 @@ module _ (h : ℕ) (ts : List Token) (e : Halt) (stop : Halts e (becoming measur
   levels_halt level_of.Times = times_halts
 
 -- levels by how loose they are
-
-of_looseness : ℕ → Level
-of_looseness n =
-    cond (n == 0) level_of.Times (cond (n == 1) level_of.Plus (cond (n == 2) level_of.Shift (cond (n == 3) level_of.Compared (cond (n == 4) level_of.Equal (cond (n == 5) level_of.And (cond (n == 6) level_of.Xor (cond (n == 7) level_of.Or (cond (n == 8) level_of.AndAlso level_of.OrElse))))))))
-
-of_looseness-looseness : (level : Level) → of_looseness (looseness level) ≡ level
-unfolding of_looseness
-of_looseness-looseness level_of.OrElse = refl
-of_looseness-looseness level_of.AndAlso = refl
-of_looseness-looseness level_of.Or = refl
-of_looseness-looseness level_of.Xor = refl
-of_looseness-looseness level_of.And = refl
-of_looseness-looseness level_of.Equal = refl
-of_looseness-looseness level_of.Compared = refl
-of_looseness-looseness level_of.Shift = refl
-of_looseness-looseness level_of.Plus = refl
-of_looseness-looseness level_of.Times = refl
-
-same_level : (a b : Level) → looseness a ≡ looseness b → a ≡ b
-same_level a b e = sym (of_looseness-looseness a) ∙ ap of_looseness e ∙ of_looseness-looseness b

@@ -1,15 +1,13 @@
 -- The loop that reads comparisons, turn by turn.
-use Rattle.std.proofs.Common.{◌≡◌, ℕ, zero, suc, ◌+◌, ◌<◌, ◌≤◌, min, Bool, List, [], ◌∷◌, ◌++◌, length, length-append, append-nil, append_assoc, Some, refl, sym, ap, ◌∙◌, arith}
+use Rattle.std.proofs.Common.{◌≡◌, ℕ, zero, suc, ◌+◌, ◌<◌, ◌≤◌, min, Bool, List, [], ◌∷◌, ◌++◌, length, append-nil, append_assoc, Some, refl, sym, ap, ◌∙◌, arith}
 use Rattle.jc_lexer.specs.declared.token.Token.{Token}
 use Rattle.jc_reading.specs.Reading.{Read, Found, Stopped, Run, noting, becoming}
 use Rattle.jc_reading.specs.Growing.{one_then}
 use Rattle.std.specs.Prelude.{slice_get}
 use Rattle.jc_reading.proofs.Codes.{some_is, none_is}
-use Rattle.jc_reading.proofs.Steps.{Good}
-use Rattle.jc_reading.proofs.Forms.{Form, Stands}
 use Rattle.jc_reading.proofs.Turns.{noting_far}
 use Rattle.jc_reading.specs.Reach.{Within, onto}
-use Rattle.jc_expr_laws.specs.CompareReading.{is_touching, touched_before, links, linked, Comparison}
+use Rattle.jc_expr_laws.specs.CompareReading.{is_touching, touched_before, links, linked}
 use Rattle.jc_expr_laws.proofs.CompareMarks.{touched_here, touched_later}
 
 module _ {V P : Type 0} (make : V → P → V) (part : V → Bool → Run P) where
@@ -51,16 +49,6 @@ module _ {V P : Type 0} (make : V → P → V) (part : V → Bool → Run P) whe
   pub links_first : (v : V) (touched : Bool) (ts : List Token) → Within (length ts) (linked make part v touched ts) → LinksOn (linked make part v touched ts) [] (length ts) v touched ts
   links_first v touched ts w =
       (length ts, omega arith, becoming_same (linked make part v touched ts) ∙ noting_far (length ts) (becoming (λ more. [] ++ more) (linked make part v touched ts)) (within_same (length ts) (linked make part v touched ts) w))
-
--- a comparison takes a token at least
-shorter_part : (form : Form Comparison) (ts : List Token) (m : Read Comparison) → ((p : Comparison) (r : List Token) → Stands form ts p r → length r < length ts) → Good (Stands form ts) m → Good (λ p r. length r < length ts) m
-shorter_part form ts (Found p r l) f g = f p r g
-shorter_part form ts (Stopped l) f g = tt
-
--- the last token that was read
-pub touched_at : (front : List Token) (t : Token) (back : List Token) → touched_before (front ++ (t ∷ back)) (length back) ≡ is_touching t
-touched_at [] t back = touched_here t back (length back) refl
-touched_at (f ∷ front) t back = touched_later f (front ++ (t ∷ back)) (length back) (omega (arith, length-append front (t ∷ back))) ∙ touched_at front t back
 
 pub touched_get : (ts : List Token) (i : ℕ) (t : Token) (n : ℕ) → slice_get ts i ≡ Some t → suc (i + n) ≡ length ts → touched_before ts n ≡ is_touching t
 touched_get [] i t n e l = absurd (none_is t e)

@@ -1,6 +1,7 @@
 -- A name that is a whole operand, as each level down to primaries reads it (JLS 15.14.1).
 use Rattle.std.proofs.Common.{◌≡◌, ℕ, zero, suc, ◌-◌, ◌<◌, min, Bool, true, false, not, ◌==◌, ◌||◌, nat_le, map, List, [], ◌∷◌, length, None, refl, sym, ap, ◌∙◌, arith}
 use Rattle.std.proofs.lemmas.Bool.{and_parts, cond-false, false≢true, or_parts}
+use Rattle.jc_rules.proofs.Truths.{not_false}
 use Rattle.jc_lexer.specs.declared.token.Sign.{Sign}
 use Rattle.jc_lexer.specs.declared.token.Sign.TheVariants as sign_of
 use Rattle.jc_lexer.specs.declared.token.Token.{Token}
@@ -58,15 +59,11 @@ named_at t q (kind_of.Word text) e f g = record {
 }
 named_at t q _ e f g = absurd (false≢true f)
 
-not_true : (b : Bool) → not b ≡ true → b ≡ false
-not_true true e = absurd (false≢true e)
-not_true false e = refl
-
 named : (ts : List Token) → is_lone_name ts ≡ true → Named ts
 named [] e = absurd (false≢true e)
 named (t ∷ q) e =
     let p = and_parts (is_name t.kind) (not (takes_more q)) e in
-    named_at t q t.kind refl p.0 (not_true (takes_more q) p.1)
+    named_at t q t.kind refl p.0 (not_false (takes_more q) p.1)
 
 -- what does not stand behind the name
 

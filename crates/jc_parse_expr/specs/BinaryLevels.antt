@@ -188,10 +188,6 @@ measured_operand operand = of_height operand (operand_height operand)
 abbrev pub next_operand_run : ℕ → Run Expr → Bool → Bool → Run Operand
 next_operand_run h next opened touched = as_new compared_operand (next_comparison_run h next opened touched)
 
--- `instanceof` and a type
-abbrev pub instance_run : ℕ → Run Operand
-instance_run h = as_new compared_operand (as_new This (in_turn (of_kind (key_code key_of.Instanceof)) (type_run h)))
-
 -- behind a first prefix operator
 abbrev pub prefixed_run : PrefixOp → Run Expr → Run Expr
 prefixed_run first bare ts = noting (length ts) (becoming (λ (p : List PrefixOp × Expr). prefix_made (first, p)) (in_turn (any_number prefix_op_run) bare ts))

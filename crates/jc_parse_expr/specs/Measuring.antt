@@ -7,7 +7,7 @@ use Rattle.jc_tree.specs.declared.expression.Init.{Init}
 use Rattle.jc_tree.specs.declared.expression.Operand.{Operand}
 use Rattle.jc_tree.specs.declared.expression.Skip.{Skip}
 use Rattle.jc_tree.specs.declared.expression.SkipPart.{SkipPart}
-use Rattle.jc_tree.specs.Heights.{capped, most, array_height, creation_height, expr_height, init_height, operand_height, skip_height, skip_part_height}
+use Rattle.jc_tree.specs.Heights.{capped, most, array_height, expr_height, operand_height}
 use Rattle.jc_parse_expr.specs.declared.measured.Measured.{Measured}
 
 -- a tree of a height
@@ -20,22 +20,7 @@ measured e = of_height e (expr_height e)
 abbrev pub measured_array : ArrayInit → Measured ArrayInit
 measured_array array = of_height array (array_height array)
 
-abbrev pub measured_init : Init → Measured Init
-measured_init init = of_height init (init_height init)
-
-abbrev pub measured_creation : Creation → Measured Creation
-measured_creation creation = of_height creation (creation_height creation)
-
-abbrev pub measured_skip : Skip → Measured Skip
-measured_skip skip = of_height skip (skip_height skip)
-
-abbrev pub measured_part : SkipPart → Measured SkipPart
-measured_part part = of_height part (skip_part_height part)
-
 -- lists, by the greatest height of what stands in them
-
-abbrev pub measured_all : List Expr → Measured (List Expr)
-measured_all list = of_height list (most (map expr_height list))
 
 abbrev pub measured_operands : List Operand → Measured (List Operand)
 measured_operands list = of_height list (most (map operand_height list))

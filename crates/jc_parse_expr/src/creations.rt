@@ -5,7 +5,7 @@ ghost use Rattle.jc_tree.specs.declared.types.BaseTree.TheVariants as base_of;
 ghost use Rattle.jc_tree.specs.declared.expression.Expr.TheVariants as expr_of;
 ghost use Rattle.jc_tree.specs.Heights.{creation_height, expr_height};
 ghost use Rattle.jc_reading.specs.Kinds.{sign_code};
-ghost use Rattle.jc_reading.specs.Reading.{any_number, as_new, becoming, before_it, in_turn, of_kind};
+ghost use Rattle.jc_reading.specs.Reading.{any_number, as_new, before_it, in_turn, of_kind};
 ghost use Rattle.jc_parse_type.specs.TypeReading.{dims_run};
 ghost use Rattle.jc_expr_laws.specs.PrimeReading.{array_creation, array_tail_run, class_creation, class_tail_run, creation_run, object_run};
 ghost use Rattle.jc_parse_expr.specs.PrimeCode.{Measures, Reads, array_in, expr_in, exprs_height, initial_made, length_run, object_made, sized_made, sized_run};

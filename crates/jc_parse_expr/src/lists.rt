@@ -1,5 +1,5 @@
 //! Lists of expressions and of initialisers (JLS 10.6, 15.12).
-ghost use Rattle.std.specs.Prelude.{◌≡◌, ◌<◌, ◌^◌, ◌∷◌, [], length, map, IfOk};
+ghost use Rattle.std.specs.Prelude.{◌≡◌, ◌<◌, ◌^◌, ◌∷◌, [], length, IfOk};
 ghost use Rattle.jc_lexer.specs.declared.token.Sign.TheVariants as sign_of;
 ghost use Rattle.jc_tree.specs.Heights.{expr_height, init_height};
 ghost use Rattle.jc_reading.specs.Giving.{Gives};

@@ -1,5 +1,5 @@
 //! Members and selectors (JLS 15.9, 15.11 to 15.13).
-ghost use Rattle.std.specs.Prelude.{◌≡◌, ◌+◌, ◌<◌, ◌^◌, ◌∷◌, [], length, map, IfOk};
+ghost use Rattle.std.specs.Prelude.{◌≡◌, ◌+◌, ◌<◌, ◌^◌, ◌∷◌, [], length, IfOk};
 ghost use Rattle.jc_lexer.specs.declared.token.Sign.TheVariants as sign_of;
 ghost use Rattle.jc_tree.specs.Heights.{expr_height};
 ghost use Rattle.jc_reading.specs.Giving.{Gives};

@@ -4,7 +4,7 @@ ghost use Rattle.std.specs.Option.{is_some};
 ghost use Rattle.jc_reading.specs.Giving.{Gives};
 ghost use Rattle.jc_lexer.specs.declared.token.Key.TheVariants as key_of;
 ghost use Rattle.jc_reading.specs.Kinds.{key_code, one_of, sign_code};
-ghost use Rattle.jc_reading.specs.Reading.{Found as read_found, Stopped as read_stopped, Run, as_new, found, of_kind};
+ghost use Rattle.jc_reading.specs.Reading.{Stopped as read_stopped, as_new, found, of_kind};
 ghost use Rattle.jc_tree.specs.declared.expression.Expr.{Expr};
 ghost use Rattle.jc_expr_laws.specs.LevelReading.{Levels, assign_run, equal_run, less_run, plain_op_run, prefix_codes, prefix_of_kind, prefix_op_run, shift_run, plus_run, times_run, touched_assign_run, touching_run};
 ghost use Rattle.jc_expr_laws.specs.EffectReading.{crement_codes, crement_op_run};

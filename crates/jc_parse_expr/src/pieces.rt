@@ -17,7 +17,7 @@ use crate::measured::Measured;
 use jc_lexer::{Key, Sign, Token, TokenKind};
 use jc_reading::{Found, behind_key, behind_sign};
 use jc_rules::{Items, WantOfMemory};
-use jc_tree::{Expr, Literal, PostfixOp, copy_text};
+use jc_tree::{Expr, Literal, PostfixOp};
 use std::alloc::Global;
 
 /// Whether a word stands at the front.

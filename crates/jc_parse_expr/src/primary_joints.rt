@@ -1,5 +1,5 @@
 //! Parts of primaries that were read one behind the other, put together.
-ghost use Rattle.std.specs.Prelude.{◌≡◌, ℕ, ◌<◌, ◌∷◌, List, ◌^◌, length, map, min, IfOk};
+ghost use Rattle.std.specs.Prelude.{◌≡◌, ℕ, ◌<◌, ◌∷◌, List, ◌^◌, length, min, IfOk};
 ghost use Rattle.jc_lexer.specs.declared.token.Sign.TheVariants as sign_of;
 ghost use Rattle.jc_lexer.specs.declared.token.Token.{Token};
 ghost use Rattle.jc_tree.specs.declared.expression.Creation.{Creation};

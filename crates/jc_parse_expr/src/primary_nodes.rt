@@ -1,6 +1,6 @@
 //! Nodes of primaries and creations, with their heights (JLS 15.8 to 15.14, 10.6).
 ghost use Rattle.std.specs.Prelude.{◌≡◌, [], IfOk};
-ghost use Rattle.jc_tree.specs.Heights.{arg_height, array_height, base_height, capped, creation_height, expr_height, init_height};
+ghost use Rattle.jc_tree.specs.Heights.{array_height, base_height, creation_height, expr_height, init_height};
 ghost use Rattle.jc_tree.specs.declared.expression.Creation.TheVariants as creation_of;
 ghost use Rattle.jc_tree.specs.declared.expression.Expr.TheVariants as expr_of;
 ghost use Rattle.jc_tree.specs.declared.expression.Init.TheVariants as init_of;

@@ -1,12 +1,12 @@
 //! Expressions, initialisers and effects where there is room for so many heights.
-ghost use Rattle.std.specs.Prelude.{◌≡◌, ◌<◌, ◌≤◌, ◌^◌, Option, cond, length, min, IfOk};
+ghost use Rattle.std.specs.Prelude.{◌≡◌, ◌<◌, ◌≤◌, ◌^◌, cond, length, min, IfOk};
 ghost use Rattle.jc_lexer.specs.declared.token.Token.{Token};
 ghost use Rattle.jc_grammar.specs.Shapes.{is_effect};
 ghost use Rattle.jc_tree.specs.declared.expression.AssignOp.{AssignOp};
 ghost use Rattle.jc_tree.specs.declared.expression.Expr.{Expr};
 ghost use Rattle.jc_tree.specs.declared.expression.Expr.TheVariants as expr_of;
 ghost use Rattle.jc_reading.specs.Giving.{Gives};
-ghost use Rattle.jc_reading.specs.Reading.{Read, Found as read_found, Stopped as read_stopped, as_new, becoming, in_turn};
+ghost use Rattle.jc_reading.specs.Reading.{Found as read_found, Stopped as read_stopped, as_new, in_turn};
 ghost use Rattle.jc_expr_laws.specs.EffectReading.{strictly_closing};
 ghost use Rattle.jc_expr_laws.specs.ExprReading.{exprs, strict_effect};
 ghost use Rattle.jc_expr_laws.specs.LevelReading.{assign_made, assign_run};

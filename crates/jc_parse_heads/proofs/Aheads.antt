@@ -1,5 +1,6 @@
 -- What is read of statements takes a token, and its reach is not behind what is left.
 use Rattle.std.proofs.Common.{◌≡◌, ℕ, zero, suc, ◌≤◌, List, [], ◌∷◌, length, inl, inr, false, refl, sym, subst, ⊎_elim, arith}
+use Rattle.jc_parse_parts.proofs.PartInsides.{class_inside}
 use Rattle.jc_lexer.specs.declared.token.Key.TheVariants as key_of
 use Rattle.jc_lexer.specs.declared.token.Sign.TheVariants as sign_of
 use Rattle.jc_lexer.specs.declared.token.Token.{Token}
@@ -22,7 +23,6 @@ use Rattle.jc_parse_type.specs.TypeReading.{class_run}
 use Rattle.jc_tree.specs.declared.statement.Modifier.{Modifier}
 use Rattle.jc_part_laws.specs.PartReading.{modifier_run, modifiers_run}
 use Rattle.jc_part_laws.proofs.ModifierForms.{modifier_form, modifier_laws}
-use Rattle.jc_part_laws.proofs.PartForms.{class_coded_laws}
 use Rattle.jc_reading.specs.Reach.{Ahead, GoesAhead, Near}
 use Rattle.jc_reading.proofs.Nears.{ahead_as, ahead_near, ahead_picking, ahead_turn, near_each, near_as, near_either, near_picking, near_room, near_turn, near_any}
 use Rattle.jc_parse_heads.specs.UnitCode.{braced_items_run, braces_list, branch_of, branch_once_run}
@@ -69,9 +69,6 @@ modifier_ahead h = lawful_ahead Modifier (modifier_form exprs h) (modifier_laws 
 
 modifiers_inside : (h : ℕ) → Near (modifiers_run exprs h)
 modifiers_inside h = near_any (modifier_run exprs h) (ahead_near (modifier_run exprs h) (modifier_ahead h))
-
-class_inside : (h : ℕ) → Near (class_run h)
-class_inside h ts = (class_coded_laws h).within ts
 
 pub catch_ahead : (h : ℕ) → GoesAhead (catch_run exprs h (levels exprs h))
 unfolding catch_run

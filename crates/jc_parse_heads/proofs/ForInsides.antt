@@ -1,5 +1,6 @@
 -- What is read of a `for` up to its body has its reach not behind what is left.
 use Rattle.std.proofs.Common.{ℕ, zero, suc, Bool, true, false, cond, ◌≤◌, List, [], ◌∷◌, length, arith}
+use Rattle.jc_parse_parts.proofs.PartInsides.{type_inside, dims_inside, var_inside}
 use Rattle.jc_lexer.specs.declared.token.Key.TheVariants as key_of
 use Rattle.jc_lexer.specs.declared.token.Sign.TheVariants as sign_of
 use Rattle.jc_lexer.specs.declared.token.Token.{Token}
@@ -7,8 +8,7 @@ use Rattle.jc_reading.specs.Kinds.{sign_code, key_code, word_code, one_of}
 use Rattle.jc_reading.specs.Reading.{Read, Found, Stopped, Run, noting, becoming, in_turn, perhaps, of_kind, at_kind, an_ident_at, each_behind, commas_run, Either, This, That, either}
 use Rattle.jc_reading.specs.Further.{tried, with_room}
 use Rattle.jc_parse_type.specs.TypeReading.{dims_run, type_run}
-use Rattle.jc_parse_type.proofs.TypeForms.{dims_laws}
-use Rattle.jc_part_laws.specs.PartReading.{modifier_run, modifiers_run, var_made, var_run}
+use Rattle.jc_part_laws.specs.PartReading.{modifier_run, modifiers_run, var_run}
 use Rattle.jc_expr_laws.specs.ExprReading.{exprs}
 use Rattle.jc_expr_laws.proofs.ExprWhole.{expr_laws}
 use Rattle.jc_unit_laws.specs.UnitReading.{effect_in_run, expr_in_run, for_head_made, for_head_run, for_named_run, for_rest_run, semicolon_run}
@@ -19,10 +19,7 @@ use Rattle.jc_parse_heads.specs.Beginnings.{modifier_codes}
 use Rattle.jc_parse_heads.specs.HeadCode.{effecting_run, given_run, kinds_run, moded_run, resting_run, colon_codes, each_kind_run, tried_run}
 use Rattle.jc_parse_heads.proofs.Aheads.{modifier_ahead}
 use Rattle.jc_parse_heads.proofs.ForUpdates.{effect_inside}
-use Rattle.jc_parse_heads.proofs.HeadInsides.{modifiers_inside, type_inside, value_inside}
-
-dims_inside : Near dims_run
-dims_inside ts = dims_laws.within ts
+use Rattle.jc_parse_heads.proofs.HeadInsides.{modifiers_inside, value_inside}
 
 semicolon : Near semicolon_run
 semicolon = near_picking _
@@ -34,10 +31,6 @@ given_inside : (h : ℕ) → Near (given_run h)
 unfolding with_room
 given_inside zero = near_perhaps (with_room zero (in_turn (of_kind (sign_code sign_of.Assign)) (exprs.init zero))) (λ ts. omega arith)
 given_inside (suc k) = near_perhaps (with_room (suc k) (in_turn (of_kind (sign_code sign_of.Assign)) (exprs.init (suc k)))) (λ ts. near_turn (of_kind (sign_code sign_of.Assign)) (exprs.init (suc k)) (near_picking _) (init_inside k) ts)
-
-var_inside : (h : ℕ) → Near (var_run exprs h)
-unfolding var_run
-var_inside h = near_as var_made _ (near_turn an_ident_at (in_turn dims_run (given_run h)) (near_picking _) (near_turn dims_run (given_run h) dims_inside (given_inside h)))
 
 updating_inside : (h : ℕ) → Near (effect_in_run exprs h)
 unfolding with_room

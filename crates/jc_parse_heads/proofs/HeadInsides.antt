@@ -1,13 +1,12 @@
 -- What is read of heads of catches, `try` and `for` has its reach not behind what is left.
 use Rattle.std.proofs.Common.{ℕ, zero, suc, [], ◌∷◌, arith}
+use Rattle.jc_parse_parts.proofs.PartInsides.{class_inside, type_inside}
 use Rattle.jc_lexer.specs.declared.token.Key.TheVariants as key_of
 use Rattle.jc_lexer.specs.declared.token.Sign.TheVariants as sign_of
 use Rattle.jc_reading.specs.Kinds.{sign_code, key_code}
 use Rattle.jc_reading.specs.Reading.{in_turn, of_kind, at_kind, an_ident_at, each_behind}
 use Rattle.jc_parse_type.specs.TypeReading.{class_run, type_run}
-use Rattle.jc_parse_type.proofs.CodeSteps.{within_type}
 use Rattle.jc_part_laws.specs.PartReading.{closing_run, modifiers_run, modifier_run, which}
-use Rattle.jc_part_laws.proofs.PartForms.{class_coded_laws}
 use Rattle.jc_expr_laws.specs.ExprReading.{exprs, readers}
 use Rattle.jc_expr_laws.proofs.ExprWhole.{expr_laws}
 use Rattle.jc_unit_laws.specs.UnitReading.{resource_made, resource_run, resources_made, resources_run}
@@ -16,12 +15,6 @@ use Rattle.jc_reading.proofs.Nears.{near_as, near_each, near_either, near_pickin
 use Rattle.jc_parse_heads.specs.UnitCode.{catch_opening, catch_opening_run, roomy_resources_run}
 use Rattle.jc_parse_heads.specs.HeadCode.{one_resource_run}
 use Rattle.jc_parse_heads.proofs.Aheads.{modifier_ahead}
-
-pub class_inside : (h : ℕ) → Near (class_run h)
-class_inside h ts = (class_coded_laws h).within ts
-
-pub type_inside : (h : ℕ) → Near (type_run h)
-type_inside h ts = (within_type h ts)
 
 pub modifiers_inside : (h : ℕ) → Near (modifiers_run exprs h)
 modifiers_inside h = near_any (modifier_run exprs h) (ahead_near (modifier_run exprs h) (modifier_ahead h))

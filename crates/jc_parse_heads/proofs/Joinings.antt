@@ -7,12 +7,11 @@ use Rattle.jc_reading.specs.declared.reading.Found as answer
 use Rattle.jc_reading.specs.declared.reading.Halt.{Halt}
 use Rattle.jc_reading.specs.declared.reading.Halt.TheVariants as halt_of
 use Rattle.jc_reading.specs.Giving.{Gives, Halts, Is}
-use Rattle.jc_reading.specs.Kinds.{sign_code, one_of}
-use Rattle.jc_reading.specs.Reading.{Read, Found, Stopped, Run, noting, becoming, joined, ◌>>=◌, as_new, in_turn, of_kind, before_it, Either, This, That, either}
+use Rattle.jc_reading.specs.Kinds.{one_of}
+use Rattle.jc_reading.specs.Reading.{Read, Found, Stopped, Run, noting, becoming, joined, ◌>>=◌, as_new, in_turn, Either, This, That, either}
 use Rattle.jc_reading.specs.Further.{with_room, either_one}
 use Rattle.jc_unit_laws.specs.UnitReading.{or_others}
 use Rattle.jc_parse_nodes.specs.Joins.{behind, Joined}
-use Rattle.jc_parse_heads.specs.Closing.{closing}
 
 -- a reach that is noted
 
@@ -147,14 +146,6 @@ cut {A = A} make m n ts q a l e = ap (λ (v : Read A). becoming make (v >>= (λ 
 
 -- a first one and a sign behind it
 
-pub closed_gives : {A B : Type 0} (make : (A × Unit {0}) → B) (s : Sign) (m : Read A) (first : answer.Found A) → Is first m → becoming make (m >>= (λ a q. becoming (joined a) (of_kind (sign_code s) q))) ≡ becoming (λ a. make (a, tt)) (closing s first)
-closed_gives {A = A} make s m first e =
-    ap (λ (v : Read A). becoming make (v >>= (λ a q. becoming (joined a) (of_kind (sign_code s) q)))) e ∙ inside (of_kind (sign_code s) first.rest.now)
-  where
-    inside : (v : Read (Unit {0})) → becoming make (noting first.left (becoming (joined first.value) v)) ≡ becoming (λ a. make (a, tt)) (noting first.left (becoming (λ (u : Unit {0}). first.value) v))
-    inside (Found u r k) = refl
-    inside (Stopped k) = refl
-
 -- room
 
 pub room_there : {A : Type 0} (h : ℕ) (m : Run A) (ts : List Token) → (h ≡ 0 → ⊥) → with_room h m ts ≡ m ts
@@ -187,14 +178,6 @@ either_this make codes m n ts e = ap (becoming make) (cond-true (one_of codes ts
 
 pub either_that : {A B C : Type 0} (make : Either A B → C) (codes : List ℕ) (m : Run A) (n : Run B) (ts : List Token) → one_of codes ts ≡ false → as_new make (either codes m n) ts ≡ as_new (λ b. make (That b)) n ts
 either_that make codes m n ts e = ap (becoming make) (cond-false (one_of codes ts) (becoming This (m ts)) (becoming That (n ts)) e) ∙ remade That make (λ b. make (That b)) (n ts) (λ b. refl)
-
-pub closed_is : {A : Type 0} (s : Sign) (m : Read A) (first : answer.Found A) → Is first m → becoming before_it (m >>= (λ a q. becoming (joined a) (of_kind (sign_code s) q))) ≡ closing s first
-closed_is {A = A} s m first e =
-    ap (λ (v : Read A). becoming before_it (v >>= (λ a q. becoming (joined a) (of_kind (sign_code s) q)))) e ∙ inside (of_kind (sign_code s) first.rest.now)
-  where
-    inside : (v : Read (Unit {0})) → becoming before_it (noting first.left (becoming (joined first.value) v)) ≡ noting first.left (becoming (λ (u : Unit {0}). first.value) v)
-    inside (Found u r k) = refl
-    inside (Stopped k) = refl
 
 -- a first value that is read already, and two parts behind it
 module _ {A B C D E : Type 0} (make : (A × (B × C)) → E) (a : A) (fd : C → D) (node : (B × D) → E) (same : (b : B) (c : C) → make (a, (b, c)) ≡ node (b, fd c)) where

@@ -11,7 +11,7 @@ use Rattle.jc_tree.specs.declared.statement.ClauseHead.TheVariants as clause_of
 use Rattle.jc_tree.specs.declared.statement.Stmt.{Stmt}
 use Rattle.jc_tree.specs.declared.statement.Stmt.TheVariants as stmt_of
 use Rattle.jc_reading.specs.Kinds.{sign_code, key_code, one_of}
-use Rattle.jc_reading.specs.Reading.{Read, Found, Stopped, Run, noting, becoming, joined, ◌>>=◌, as_new, in_turn, any_number, perhaps, of_kind, at_kind, an_ident_at, before_it, This, That, either}
+use Rattle.jc_reading.specs.Reading.{Stopped, Run, becoming, ◌>>=◌, as_new, in_turn, any_number, perhaps, of_kind, at_kind, an_ident_at, before_it, This, That, either}
 use Rattle.jc_reading.specs.Further.{with_room}
 use Rattle.jc_expr_laws.specs.ExprReading.{exprs}
 use Rattle.jc_unit_laws.specs.UnitReading.{Braces, CaseLabel, Level, arm_made, arm_run, block_made, block_run, braced_run, break_made, break_run, case_made, case_run, continue_made, continue_run, expr_in_run, for_head_run, for_made, for_run, label_run, labeled_made, parens_run, return_made, return_run, semicolon_run, switch_made, switch_run, throw_made, throw_run, while_made, while_run}
@@ -22,7 +22,7 @@ use Rattle.jc_parse_heads.specs.UnitCode.{tested_made, tested_run, roomy_tested_
 use Rattle.jc_parse_nodes.specs.Nodes.{clause_made}
 use Rattle.jc_parse_nodes.specs.declared.pieces.ForOpening.{ForOpening}
 use Rattle.jc_parse_nodes.specs.declared.pieces.Tested.{Tested}
-use Rattle.jc_parse_heads.proofs.Joinings.{split_here, split_behind, split_room, grouped, first_made, second_made, either_this, either_that, noted_bind, room_gone, room_there}
+use Rattle.jc_parse_heads.proofs.Joinings.{split_here, split_behind, split_room, grouped, first_made, second_made, either_this, either_that, room_gone, room_there}
 
 abbrev Case : List ℕ
 Case = key_code key_of.Case ∷ []
@@ -152,10 +152,3 @@ throw_none h l ts e = ap (becoming throw_made) (room_gone h (in_turn (at_kind (k
 pub throw_there : (h : ℕ) (l : Level) (ts : List Token) → (h ≡ 0 → ⊥) → throw_run exprs h l ts ≡ as_new throw_node (in_turn (at_kind (key_code key_of.Throw)) (ended_expr_run h)) ts
 unfolding throw_run ended_expr_run
 throw_there h l ts n = ap (becoming throw_made) (room_there h (in_turn (at_kind (key_code key_of.Throw)) (in_turn (exprs.expr h) semicolon_run)) ts n) ∙ second_made throw_made before_it throw_node (λ a b. refl) (at_kind (key_code key_of.Throw)) (in_turn (exprs.expr h) semicolon_run) ts
-
-pub case_label_there : (h : ℕ) (ts q : List Token) (at l : ℕ) → (h ≡ 0 → ⊥) → at_kind (key_code key_of.Case) ts ≡ Found at q l → case_label_run h ts ≡ becoming (λ (p : Expr × Unit {0}). code.case_opening (at, p)) (noting l (exprs.conditional h q) >>= (λ e r. becoming (joined e) (of_kind (sign_code sign_of.Colon) r)))
-unfolding case_label_run
-case_label_there h ts q at l n e =
-    ap (becoming code.case_opening) (room_there h (in_turn (at_kind (key_code key_of.Case)) (in_turn (exprs.conditional h) (of_kind (sign_code sign_of.Colon)))) ts n)
-    ∙ ap (λ (v : Read ℕ). becoming code.case_opening (v >>= (λ a z. becoming (joined a) (in_turn (exprs.conditional h) (of_kind (sign_code sign_of.Colon)) z)))) e
-    ∙ noted_bind code.case_opening at (of_kind (sign_code sign_of.Colon)) l (exprs.conditional h q)

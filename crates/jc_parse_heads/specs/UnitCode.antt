@@ -88,14 +88,8 @@ items_until_run h = until_brace (levels exprs h).item
 unfoldable pub braced_items_run : ℕ → Run (List Stmt)
 braced_items_run h = as_new braces_list (braced_run (levels exprs h).item)
 
-unfoldable pub groups_until_run : ℕ → Run (List Clause)
-groups_until_run h = until_brace (case_run exprs h (levels exprs h))
-
 unfoldable pub braced_groups_run : ℕ → Run (List Clause)
 braced_groups_run h = as_new braces_list (braced_run (case_run exprs h (levels exprs h)))
-
-unfoldable pub members_until_run : ℕ → Run (List Member)
-members_until_run h = until_brace (member_run exprs h (levels exprs h))
 
 unfoldable pub braced_members_run : ℕ → Run (List Member)
 braced_members_run h = as_new braces_list (braced_run (member_run exprs h (levels exprs h)))

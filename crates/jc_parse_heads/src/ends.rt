@@ -1,5 +1,5 @@
 //! What ends members, and calls of other constructors (JLS 8.4.7, 8.8.7).
-ghost use Rattle.std.specs.Prelude.{◌<◌, ◌≤◌, ◌^◌, length, List, Some, IfOk};
+ghost use Rattle.std.specs.Prelude.{◌<◌, ◌≤◌, ◌^◌, length, Some, IfOk};
 ghost use Rattle.jc_reading.specs.Giving.{Gives, Is};
 ghost use Rattle.jc_reading.specs.Reading.{Read, becoming, commas_run};
 ghost use Rattle.jc_expr_laws.specs.ExprReading.{exprs};

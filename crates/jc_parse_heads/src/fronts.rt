@@ -1,12 +1,11 @@
 //! What stands at the front.
-ghost use Rattle.std.specs.Prelude.{◌≡◌, ◌∷◌, [], List, ℕ};
+ghost use Rattle.std.specs.Prelude.{◌≡◌, ◌∷◌, [], ℕ};
 ghost use Rattle.jc_lexer.specs.declared.token.Key.TheVariants as key_of;
 ghost use Rattle.jc_lexer.specs.declared.token.Sign.TheVariants as sign_of;
 ghost use Rattle.jc_reading.specs.Giving.{Gives};
-ghost use Rattle.jc_reading.specs.Kinds.{key_code, kind_code, one_of, sign_code, word_code};
+ghost use Rattle.jc_reading.specs.Kinds.{key_code, one_of, sign_code, word_code};
 ghost use Rattle.jc_reading.specs.Reading.{Read};
 ghost use Rattle.jc_reading.specs.Further.{past, second_is};
-ghost use Rattle.jc_part_laws.specs.PartReading.{modifier_word_codes};
 ghost use Rattle.jc_unit_laws.specs.MemberReading.{paren_codes, rest_codes};
 ghost use Rattle.jc_unit_laws.specs.UnitReading.{statement_codes};
 ghost use Rattle.jc_parse_heads.specs.Beginnings.{begins_declaration, begins_modifier, begins_rest, begins_statement, begins_word, declaration_codes, modifier_codes};
@@ -240,7 +239,7 @@ pub fn behind_static<'a, T>(
 }
 
 /// The same answer, with a reach behind a keyword that stands first.
-pub fn behind_key<'a, T>(
+pub fn reach_behind_key<'a, T>(
     key: Key,
     tokens: &[Token],
     read: Result<Found<'a, T>, Halt>,

@@ -16,8 +16,8 @@ mod simple;
 pub use closing::closed;
 pub use ends::{in_some, no_items, no_statements, super_call, this_call};
 pub use fronts::{
-    behind_key, behind_name, behind_static, declaration_stands, key_call_stands, label_stands,
-    modifier_stands, rest_stands, sign_stands, statement_stands, static_block_stands, word_stands,
+    behind_name, behind_static, declaration_stands, key_call_stands, label_stands, modifier_stands,
+    reach_behind_key, rest_stands, sign_stands, statement_stands, static_block_stands, word_stands,
 };
 pub use locals::{
     catch_opening, ended_effect, finally_opening, for_opening, local, local_or_effect, resources,

@@ -1,7 +1,6 @@
 //! Variables, effects, catches and resources (JLS 14.4, 14.8, 14.14, 14.20).
 ghost use Rattle.std.specs.Prelude.{◌<◌, ◌≤◌, ◌^◌, length, IfOk};
 ghost use Rattle.jc_reading.specs.Giving.{Gives};
-ghost use Rattle.jc_reading.specs.Reading.{noting};
 ghost use Rattle.jc_expr_laws.specs.ExprReading.{exprs};
 ghost use Rattle.jc_part_laws.specs.PartReading.{modifier_run};
 ghost use Rattle.jc_unit_laws.specs.UnitReading.{local_run};

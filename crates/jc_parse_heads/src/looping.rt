@@ -2,8 +2,7 @@
 ghost use Rattle.std.specs.Prelude.{◌<◌, ◌≤◌, ◌≡◌, ◌^◌, List, length, IfOk};
 ghost use Rattle.jc_lexer.specs.declared.token.Sign.TheVariants as sign_of;
 ghost use Rattle.jc_reading.specs.Giving.{Gives};
-ghost use Rattle.jc_reading.specs.Kinds.{sign_code};
-ghost use Rattle.jc_reading.specs.Reading.{Read, becoming, of_kind};
+ghost use Rattle.jc_reading.specs.Reading.{Read, becoming};
 ghost use Rattle.jc_expr_laws.specs.ExprReading.{exprs, strict_effect};
 ghost use Rattle.jc_part_laws.specs.PartReading.{modifier_run};
 ghost use Rattle.jc_parse_heads.specs.HeadCode.{bare_head, closed_expr_run, each_kind, effects_in_run, effects_run, empty_head, first_modifiers_run, for_dims_run, for_each_run, for_effects_run, for_ended_run, for_kind_run, for_moded_run, for_more_run, for_name_run, for_other_run, for_tail_run, for_test_run, for_typed_or_run, for_typed_run, for_update_run, for_vars_run, named_head, no_updates, parens_end, typed_head, updates_run};

@@ -1,5 +1,5 @@
 //! Members up to their bodies, behind their modifiers (JLS 8.3, 8.4, 8.8).
-ghost use Rattle.std.specs.Prelude.{◌<◌, ◌≤◌, ◌^◌, length, IfOk};
+ghost use Rattle.std.specs.Prelude.{◌<◌, ◌≤◌, ◌^◌, length};
 ghost use Rattle.jc_reading.specs.Giving.{Gives};
 ghost use Rattle.jc_parse_heads.specs.MemberCode.{code_head_run, generic_head_run, plain_head_run, constructor_shape_run, ended_more_run, fields_run, generic_shape_run, method_shape_run, named_shape_run, named_signature_run, named_tail_run, signature_run, typed_shape_run, void_shape_run};
 

@@ -1,5 +1,5 @@
 //! Nodes of what was read: of a first part, and of what was read behind it.
-ghost use Rattle.std.specs.Prelude.{◌≡◌, ℕ, Bool, List, Option, Some, None};
+ghost use Rattle.std.specs.Prelude.{◌≡◌, ℕ, List, Option, Some, None};
 ghost use Rattle.jc_tree.specs.declared.expression.Expr.{Expr};
 ghost use Rattle.jc_tree.specs.declared.name.Ident.{Ident};
 ghost use Rattle.jc_tree.specs.declared.statement.Clause.{Clause};

@@ -1,6 +1,6 @@
 //! Parts of declarations before their braces (JLS 8.1, 8.3, 9.1, 9.6).
 use jc_rules::Items;
-use jc_tree::{ClassTree, Ident, TypeParam, TypeTree, Var};
+use jc_tree::{ClassTree, Ident, TypeParam, Var};
 
 /// What stands between the modifiers of a declaration of a type and its braces (JLS 8.1, 9.1, 9.6).
 #[derive(Drop)]

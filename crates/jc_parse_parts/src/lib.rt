@@ -55,6 +55,5 @@ pub use names::{
 pub use openings::{import, package};
 pub use params::{keyed_within, params_of_within, params_within};
 pub use variables::{
-    formal_within, formals_within, initial_within, more_vars_within, result_within, var_within,
-    vars_within,
+    formal_within, formals_within, initial_within, more_vars_within, var_within, vars_within,
 };

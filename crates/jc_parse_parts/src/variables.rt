@@ -5,21 +5,21 @@ ghost use Rattle.jc_reading.specs.Giving.{Gives, Is};
 ghost use Rattle.jc_reading.specs.Kinds.{sign_code};
 ghost use Rattle.jc_reading.specs.Reading.{Read, as_new, behind_it, becoming, in_turn, noting, of_kind, perhaps};
 ghost use Rattle.jc_expr_laws.specs.ExprReading.{exprs};
-ghost use Rattle.jc_part_laws.specs.PartReading.{formal_run, formals_run, result_run, var_run};
+ghost use Rattle.jc_part_laws.specs.PartReading.{formal_run, formals_run, var_run};
 ghost use Rattle.jc_parse_parts.specs.Parts.{formal_tail_run, formal_with, initial_run, more_vars_run, perhaps_formals_run, some_formals_run, vars_tree_run};
 ghost use Rattle.jc_parse_parts.specs.declared.trees.FormalTail.{FormalTail};
 
 use crate::annotations::modifiers_within;
 use crate::kinds::{dims, type_within};
 use crate::lists::{each, no_list};
-use crate::names::{name, past_sign, past_word_at};
+use crate::names::{name, past_sign};
 use crate::trees::FormalTail;
-use jc_lexer::{Key, Sign, Token};
+use jc_lexer::{Sign, Token};
 use jc_parse_expr::init_within;
 use jc_parse_nodes::Vars;
 use jc_reading::{Found, Halt, pushed, without};
 use jc_rules::{Items, WantOfMemory};
-use jc_tree::{Formal, Init, Modifier, ResultType, Var};
+use jc_tree::{Formal, Init, Modifier, Var};
 use std::alloc::Global;
 
 /// The sign of a variable arity, where it stands there.
@@ -313,31 +313,5 @@ pub fn vars_within(alloc: Global, tokens: &[Token], height: u32) -> Result<Found
         },
         rest: more.rest,
         left: first.left.min(more.left),
-    })
-}
-
-/// A type, or `void`.
-#[tactic(auto, unfolding(jc_part_laws::specs::PartReading::result_run))]
-pub fn result_within(
-    alloc: Global,
-    tokens: &[Token],
-    height: u32,
-) -> Result<Found<'_, ResultType>, Halt>
-    requires { length tokens.now < 2 ^ 32 }
-    ensures read { Gives result (result_run height tokens.now) }
-    ensures shorter { IfOk result (λ f. length f.rest.now ≤ length tokens.now) }
-{
-    if let Some((at, rest)) = past_word_at(Key::Void, tokens) {
-        return Ok(Found {
-            value: ResultType::Void { at },
-            rest,
-            left: rest.len(),
-        });
-    }
-    let found = type_within(alloc, tokens, height)?;
-    Ok(Found {
-        value: ResultType::Type(found.value),
-        rest: found.rest,
-        left: found.left,
     })
 }

@@ -6,7 +6,7 @@ ghost use Rattle.jc_reading.specs.Kinds.{one_of, sign_code};
 ghost use Rattle.jc_lexer.specs.declared.token.Sign.TheVariants as sign_of;
 ghost use Rattle.jc_tree.specs.declared.types.TypeArg.TheVariants as arg_of;
 ghost use Rattle.jc_reading.specs.Reading.{as_new, behind_it, commas_run, each_behind, found, in_turn, of_kind};
-ghost use Rattle.jc_reading.specs.Reading.{Found as read_found, Stopped as read_stopped};
+ghost use Rattle.jc_reading.specs.Reading.{Stopped as read_stopped};
 ghost use Rattle.jc_parse_type.specs.TypeReading.{arg_run, args_run, base_run, bound_run, bracket_run, class_run, dims_run, part_run, primitive_codes, type_run, wildcard, word_of_kind, word_run};
 
 use jc_lexer::{Key, Sign, Token, TokenKind};

@@ -1,5 +1,6 @@
 -- The head of a member leaves no more tokens than there are.
 use Rattle.std.proofs.Common.{◌≡◌, ◌==◌, ℕ, zero, suc, ◌≤◌, List, [], ◌∷◌, length, subst, arith}
+use Rattle.jc_parse_parts.proofs.PartInsides.{class_inside, type_inside, dims_inside, var_inside}
 use Rattle.jc_lexer.specs.declared.token.Key.TheVariants as key_of
 use Rattle.jc_lexer.specs.declared.token.Sign.TheVariants as sign_of
 use Rattle.jc_lexer.specs.declared.token.Token.{Token}
@@ -8,11 +9,9 @@ use Rattle.jc_reading.specs.Kinds.{key_code, kind_code, sign_code, word_code}
 use Rattle.jc_reading.specs.Reading.{Read, Found, Stopped, Run, This, That, an_ident_at, as_new, at_kind, becoming, commas_run, each_behind, either, in_turn, noting, of_kind, perhaps}
 use Rattle.jc_reading.specs.Further.{either_one, past, roomy_second, second_is, with_room}
 use Rattle.jc_parse_type.specs.TypeReading.{class_run, dims_run, type_run}
-use Rattle.jc_parse_type.proofs.CodeSteps.{within_type}
-use Rattle.jc_parse_type.proofs.TypeForms.{dims_laws}
-use Rattle.jc_part_laws.specs.PartReading.{formal_run, formals_run, keyed_run, or_nothing, params_of_run, var_made, var_run}
+use Rattle.jc_part_laws.specs.PartReading.{formal_run, formals_run, keyed_run, or_nothing, params_of_run, var_run}
 use Rattle.jc_part_laws.proofs.FormalForms.{formals_laws}
-use Rattle.jc_part_laws.proofs.PartForms.{class_coded_laws, params_of_laws}
+use Rattle.jc_part_laws.proofs.PartForms.{params_of_laws}
 use Rattle.jc_expr_laws.specs.ExprReading.{exprs}
 use Rattle.jc_expr_laws.proofs.ExprWhole.{expr_laws}
 use Rattle.jc_unit_laws.specs.UnitReading.{or_others, semicolon_run}
@@ -39,15 +38,6 @@ inside_roomy (suc h) code codes m n v w ts =
 inside_others : {A : Type 0} (codes : List ℕ) (m n : Run A) → Near m → Near n → Near (or_others codes m n)
 inside_others codes m n v w = near_as either_one (either codes m n) (near_either codes m n v w)
 
-class_inside : (h : ℕ) → Near (class_run h)
-class_inside h ts = (class_coded_laws h).within ts
-
-type_inside : (h : ℕ) → Near (type_run h)
-type_inside h ts = (within_type h ts)
-
-dims_inside : Near dims_run
-dims_inside ts = dims_laws.within ts
-
 throws_inside : (h : ℕ) → Near (keyed_run key_of.Throws (class_run h))
 unfolding keyed_run
 throws_inside h = near_as or_nothing _ (near_perhaps _ (near_turn (of_kind (key_code key_of.Throws)) (commas_run (class_run h)) (near_picking _) (near_commas (class_run h) (class_inside h))))
@@ -68,12 +58,6 @@ assigned_inside (suc h) ts = near_turn (of_kind (sign_code sign_of.Assign)) (exp
 
 given_inside : (h : ℕ) → Near (perhaps (with_room h (in_turn (of_kind (sign_code sign_of.Assign)) (exprs.init h))))
 given_inside h = near_perhaps (with_room h (in_turn (of_kind (sign_code sign_of.Assign)) (exprs.init h))) (assigned_inside h)
-
-var_inside : (h : ℕ) → Near (var_run exprs h)
-unfolding var_run
-var_inside h =
-    near_as var_made _ (near_turn an_ident_at (in_turn dims_run (perhaps (with_room h (in_turn (of_kind (sign_code sign_of.Assign)) (exprs.init h))))) (near_picking _)
-    (near_turn dims_run (perhaps (with_room h (in_turn (of_kind (sign_code sign_of.Assign)) (exprs.init h)))) dims_inside (given_inside h)))
 
 module _ (h : ℕ) where
   signature_inside : Near (signature_run h)

@@ -15,8 +15,8 @@ ghost use Rattle.jc_unit_laws.specs.UnitReading.{braced_at_run};
 use crate::statements::{braced_items, if_at, item_within, items_until, simple, worded};
 use jc_lexer::{Key, Sign, Token};
 use jc_parse_heads::{
-    are_low, behind_key, behind_static, closed, code_head, declaration_stands, in_some,
-    key_call_stands, no_items, no_statements, rest_stands, sign_stands, statement_stands,
+    are_low, behind_static, closed, code_head, declaration_stands, in_some, key_call_stands,
+    no_items, no_statements, reach_behind_key, rest_stands, sign_stands, statement_stands,
     static_block_stands, super_call, this_call, typed, word_stands,
 };
 use jc_parse_nodes::{
@@ -322,7 +322,7 @@ fn first_at(alloc: Global, tokens: &[Token], height: u32) -> Result<Found<'_, St
     if key_call_stands(Key::This, tokens) {
         return this_call(alloc, tokens, height);
     }
-    behind_key(Key::This, tokens, super_or_item(alloc, tokens, height))
+    reach_behind_key(Key::This, tokens, super_or_item(alloc, tokens, height))
 }
 
 /// A call of a constructor of the superclass, or an item.
@@ -335,7 +335,7 @@ fn super_or_item(alloc: Global, tokens: &[Token], height: u32) -> Result<Found<'
     if key_call_stands(Key::Super, tokens) {
         return super_call(alloc, tokens, height);
     }
-    behind_key(Key::Super, tokens, item_at(alloc, tokens, height))
+    reach_behind_key(Key::Super, tokens, item_at(alloc, tokens, height))
 }
 
 /// A declaration or variables, with their modifiers.

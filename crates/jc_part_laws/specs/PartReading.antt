@@ -188,10 +188,6 @@ abbrev pub var_made : (Ident × (ℕ × Option (Unit {0} × Init))) → Var
 var_made (name, (dims, None)) = record { name = name; dims = dims; init = None }
 var_made (name, (dims, Some p)) = record { name = name; dims = dims; init = Some p.1 }
 
-abbrev pub result_made : Either ℕ TypeTree → ResultType
-result_made (This at) = result_of.Void at
-result_made (That ty) = result_of.Type ty
-
 module _ (x : Exprs) where
   -- an annotation or a word
   unfoldable pub modifier_run : ℕ → Run Modifier
@@ -212,10 +208,6 @@ module _ (x : Exprs) where
   -- Var {"," Var}
   abbrev pub vars_run : ℕ → Run (Var × List (Unit {0} × Var))
   vars_run h = in_turn (var_run h) (each_behind sign_of.Comma (var_run h))
-
--- a type or "void"
-unfoldable pub result_run : ℕ → Run ResultType
-result_run h = as_new result_made (either (key_code key_of.Void ∷ []) (at_kind (key_code key_of.Void)) (type_run h))
 
 -- a head behind its modifiers
 abbrev pub ClassHead : Type 0

@@ -5,10 +5,7 @@ mod lists;
 mod nodes;
 mod sorts;
 
-pub use lists::{
-    arm_list, capture_list, case_list, catch_list, operand_places, step_list, stmt_places,
-    type_list,
-};
+pub use lists::{capture_list, case_list, catch_list, type_list};
 pub use nodes::{
     arms_node, captures_node, cases_node, catches_node, declared_node, expr_node, links_node,
     operand_node, operands_node, ops_node, steps_node, stmt_node, stmts_node, types_node,

@@ -1,19 +1,12 @@
 //! The places of the members of lists, in order.
 ghost use Rattle.std.specs.Prelude.{◌≡◌, [], IfOk, map, reverse};
-ghost use Rattle.jc_typed.specs.Parts.{stmts_of, stmt_of, operands_of, operand_of, types_of, type_of, steps_of, step_over, parts, captures_of, cases_of, arms_of, catches_of};
-ghost use Rattle.jc_meaning.specs.Programs.{stmt_list, operand_list};
-ghost use Rattle.jc_places.specs.Sorts.{arm_of, arms_before, catch_of, catches_before};
+ghost use Rattle.jc_typed.specs.Parts.{types_of, type_of, captures_of, cases_of, catches_of};
+ghost use Rattle.jc_places.specs.Sorts.{catch_of, catches_before};
 
-use crate::nodes::{
-    arms_node, captures_node, cases_node, catches_node, operands_node, steps_node, stmts_node,
-    types_node,
-};
-use crate::sorts::{ArmPlaces, CatchPlaces};
+use crate::nodes::{captures_node, cases_node, catches_node, types_node};
+use crate::sorts::CatchPlaces;
 use jc_rules::{Items, WantOfMemory};
-use jc_typed::{
-    ArmsNode, Capture, CapturesNode, Case, CasesNode, CatchesNode, ListNode, Nodes, StepNode,
-    StepsNode,
-};
+use jc_typed::{Capture, CapturesNode, Case, CasesNode, CatchesNode, ListNode, Nodes};
 use std::alloc::Global;
 
 // The items in their reverse order.
@@ -26,51 +19,12 @@ fn turned<T: Drop>(items: Items<T>) -> Items<T>
 }
 
 #[tactic(auto, using(crate::proofs::Turned::turned))]
-pub fn stmt_places(alloc: Global, nodes: &Nodes, at: u32) -> Result<Items<u32>, WantOfMemory>
-    ensures { IfOk result (λ r. stmt_list (stmts_of nodes.now at) ≡ map (stmt_of nodes.now) r) }
-{
-    let mut out = Items::new(alloc);
-    let mut list = at;
-    while let ListNode::More { before, last } = stmts_node(nodes, list) {
-        out.push(last)?;
-        list = before;
-    }
-    Ok(turned(out))
-}
-
-#[tactic(auto, using(crate::proofs::Turned::turned))]
-pub fn operand_places(alloc: Global, nodes: &Nodes, at: u32) -> Result<Items<u32>, WantOfMemory>
-    ensures { IfOk result (λ r. operand_list (operands_of nodes.now at) ≡ map (operand_of nodes.now) r) }
-{
-    let mut out = Items::new(alloc);
-    let mut list = at;
-    while let ListNode::More { before, last } = operands_node(nodes, list) {
-        out.push(last)?;
-        list = before;
-    }
-    Ok(turned(out))
-}
-
-#[tactic(auto, using(crate::proofs::Turned::turned))]
 pub fn type_list(alloc: Global, nodes: &Nodes, at: u32) -> Result<Items<u32>, WantOfMemory>
     ensures { IfOk result (λ r. types_of nodes.now at ≡ map (type_of nodes.now) r) }
 {
     let mut out = Items::new(alloc);
     let mut list = at;
     while let ListNode::More { before, last } = types_node(nodes, list) {
-        out.push(last)?;
-        list = before;
-    }
-    Ok(turned(out))
-}
-
-#[tactic(auto, using(crate::proofs::Turned::turned))]
-pub fn step_list(alloc: Global, nodes: &Nodes, at: u32) -> Result<Items<StepNode>, WantOfMemory>
-    ensures { IfOk result (λ r. steps_of nodes.now at ≡ map (step_over (parts nodes.now)) r) }
-{
-    let mut out = Items::new(alloc);
-    let mut list = at;
-    while let StepsNode::More { before, last } = steps_node(nodes, list) {
         out.push(last)?;
         list = before;
     }
@@ -98,19 +52,6 @@ pub fn case_list(alloc: Global, nodes: &Nodes, at: u32) -> Result<Items<Case>, W
     let mut list = at;
     while let CasesNode::More { before, last } = cases_node(nodes, list) {
         out.push(last)?;
-        list = before;
-    }
-    Ok(turned(out))
-}
-
-#[tactic(auto, using(crate::proofs::Turned::turned))]
-pub fn arm_list(alloc: Global, nodes: &Nodes, at: u32) -> Result<Items<ArmPlaces>, WantOfMemory>
-    ensures { IfOk result (λ r. arms_before (arms_of nodes.now at) [] ≡ map (arm_of nodes.now) r) }
-{
-    let mut out = Items::new(alloc);
-    let mut list = at;
-    while let ArmsNode::More { before, test, then } = arms_node(nodes, list) {
-        out.push(ArmPlaces { test, then })?;
         list = before;
     }
     Ok(turned(out))

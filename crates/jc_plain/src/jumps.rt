@@ -1,7 +1,7 @@
 //! Jumps (JVMS 2.11.7).
-ghost use Rattle.std.specs.Prelude.{◌≡◌, pos, if◌then◌else◌};
+ghost use Rattle.std.specs.Prelude.{◌≡◌, if◌then◌else◌};
 ghost use Rattle.jc_jvm.specs.Plain.{same_reference, is_null};
-ghost use Rattle.jc_jvm.specs.Table.{jumps, turned, reference_jumps, int_jumps, int_pair_jumps, pair_jumps, null_jumps};
+ghost use Rattle.jc_jvm.specs.Table.{turned, reference_jumps, int_jumps, int_pair_jumps, pair_jumps, null_jumps};
 ghost use Rattle.jc_plain.specs.Acted.{acted};
 
 use crate::numbers::passes;

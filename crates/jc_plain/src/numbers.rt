@@ -1,6 +1,6 @@
 //! Whole numbers of 32 and 64 bits.
 ghost use Rattle.std.specs.Prelude.{◌≡◌, ◌%◌, ◌^◌, ◌<◌, false, pos};
-ghost use Rattle.std.specs.Int.{w8, w16, w32, w64, cast_signed, cast_unsigned};
+ghost use Rattle.std.specs.Int.{w8, w16, w32, cast_signed, cast_unsigned};
 ghost use Rattle.jc_jvm.specs.Plain.{int_shift, long_shift, compared, int_of_two, long_of_two, int_shifted, long_shifted, is_zero, int_quotient, long_quotient, low_int, of_int, of_long, holds};
 
 use jc_jvm::{Comparison, Division, IntConversion, LongConversion, Operator, Shift, Value};

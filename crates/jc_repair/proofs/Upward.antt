@@ -1,6 +1,7 @@
 -- The repair of a type is above it.
 use Rattle.std.proofs.Common.{◌≡◌, ℕ, ◌==◌, ◌&&◌, Bool, true, false, List, [], ◌∷◌, ◌++◌, map, refl, ap, sym, subst, ◌∙◌, if◌then◌else◌, arith}
-use Rattle.std.proofs.lemmas.Bool.Decides.{nat_tests}
+use Rattle.std.proofs.lemmas.Bool.{and_from}
+use Rattle.jc_rules.proofs.Truths.{self_equal}
 use Rattle.jc_types.specs.declared.environment.Bounds.{Bounds}
 use Rattle.jc_types.specs.declared.form.Arg.{Arg, Arg-F, out-Arg, roll-Arg, map-Arg, para-roll-Arg}
 use Rattle.jc_types.specs.declared.form.Arg.TheVariants.{Exact, Any, Extends, Super, outs-Exact, outs-Any, outs-Extends, outs-Super, rolls-Exact, rolls-Any, rolls-Extends, rolls-Super}
@@ -83,13 +84,6 @@ in-Super t a = ap (λ (f : Arg → Bool). f a) (ap arg_is_in (sym (rolls-Super t
 
 -- ---- small facts
 
-number_self : (n : ℕ) → (n == n) ≡ true
-number_self n = grind (arith, nat_tests)
-
-both_true : (a b : Bool) → a ≡ true → b ≡ true → (a && b) ≡ true
-both_true true b e f = f
-both_true false b e f = cc
-
 both_first : (a b : Answer) → both a b ≡ Yes → a ≡ Yes
 both_first Yes b e = refl
 both_first No b e = cc
@@ -115,10 +109,10 @@ yes_is No e = cc
 yes_is Deep e = cc
 
 class_above : (i : ClassId) (xs ys : List Arg) → all_pass (map arg_is_in xs) ys ≡ true → is_looser (Class i xs) (Class i ys) ≡ true
-class_above i xs ys h = looser-Class i xs (Class i ys) ∙ ap (class_looser i (map arg_is_in xs)) (outs-Class i ys) ∙ both_true _ _ (number_self i.0) h
+class_above i xs ys h = looser-Class i xs (Class i ys) ∙ ap (class_looser i (map arg_is_in xs)) (outs-Class i ys) ∙ and_from _ _ (self_equal i.0) h
 
 array_above : (t u : Ty) (n : ℕ) → is_looser t u ≡ true → is_looser (Array t n) (Array u n) ≡ true
-array_above t u n h = looser-Array t n (Array u n) ∙ ap (array_looser n (is_looser t)) (outs-Array u n) ∙ both_true _ _ (number_self n) h
+array_above t u n h = looser-Array t n (Array u n) ∙ ap (array_looser n (is_looser t)) (outs-Array u n) ∙ and_from _ _ (self_equal n) h
 
 meet_above : (xs ys : List Ty) → all_pass (map is_looser xs) ys ≡ true → is_looser (Meet xs) (Meet ys) ≡ true
 meet_above xs ys h = looser-Meet xs (Meet ys) ∙ ap (meet_looser (map is_looser xs)) (outs-Meet ys) ∙ h
@@ -273,15 +267,15 @@ module _ (T : Table) (env : List Bounds) where
   args_kept [] h = refl
   args_kept (z ∷ zs) h =
       let parts = formed_append T env (inside_arg z.0) (inside_args (map (λ z. z.0) zs)) h in
-      both_true _ _ (z.1.kept parts.0) (args_kept zs parts.1)
+      and_from _ _ (z.1.kept parts.0) (args_kept zs parts.1)
 
   args_loose : (zs : List RArg) → all_pass (map arg_is_in (map (λ z. z.0) zs)) (map loosened (map (repaired_arg T env) (map (λ z. z.0) zs))) ≡ true
   args_loose [] = refl
-  args_loose (z ∷ zs) = both_true _ _ z.1.loose (args_loose zs)
+  args_loose (z ∷ zs) = and_from _ _ z.1.loose (args_loose zs)
 
   types_above : (zs : List RTy) → all_pass (map is_looser (map (λ z. z.0) zs)) (map (repaired T env) (map (λ z. z.0) zs)) ≡ true
   types_above [] = refl
-  types_above (z ∷ zs) = both_true _ _ z.1 (types_above zs)
+  types_above (z ∷ zs) = and_from _ _ z.1 (types_above zs)
 
   above_chosen : (i : ClassId) (xs ys : List Arg) (b : Bool) → (b ≡ true → all_pass (map arg_is_in xs) ys ≡ true) → all_pass (map arg_is_in xs) (map loosened ys) ≡ true → is_looser (Class i xs) (if b then Class i ys else Class i (map loosened ys)) ≡ true
   above_chosen i xs ys true kept loose = class_above i xs ys (kept refl)

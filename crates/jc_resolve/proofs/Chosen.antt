@@ -1,5 +1,6 @@
 -- A chosen member is one of the applicable ones, and every other one that none beats has its signature.
 use Rattle.std.proofs.Common.{◌≡◌, ◌⊎◌, inl, inr, ℕ, zero, suc, Bool, true, false, cond, ◌&&◌, Option, Some, None, List, [], ◌∷◌, ap, refl, subst, sym, ◌∙◌}
+use Rattle.jc_rules.proofs.Truths.{and_first, and_second}
 use Rattle.jc_types.specs.declared.conversion.Phase.{Phase}
 use Rattle.jc_types.specs.declared.conversion.Phase.TheVariants.{Subtyping, Invocation, VariableArity}
 use Rattle.jc_types.specs.declared.environment.Bounds.{Bounds}
@@ -65,14 +66,6 @@ module _ (T : Table) (env : List Bounds) (site : CallSite) (phase : Phase) where
 abbrev is_chosen : Choice → Bool
 is_chosen (choice.Chosen m phase by params r u) = true
 is_chosen _ = false
-
-both_left : (a b : Bool) → (a && b) ≡ true → a ≡ true
-both_left true b e = refl
-both_left false b e = absurd cc
-
-both_right : (a b : Bool) → (a && b) ≡ true → b ≡ true
-both_right true b e = e
-both_right false b e = absurd cc
 
 ambiguous_is_none : (cs : List Candidate) → is_chosen (ambiguous cs) ≡ false
 ambiguous_is_none [] = refl
@@ -186,17 +179,17 @@ module _ (T : Table) (env : List Bounds) (phase : Phase) where
 
   equivalent_to : (a : MethodView) (cs : List Candidate) → all_equivalent_to T a cs ≡ true → (c : Candidate) → IsAmong cs c → equivalent T a c.member ≡ true
   equivalent_to a [] h c k = absurd k
-  equivalent_to a (d ∷ cs) h c (inl e) = subst (λ (x : Candidate). equivalent T a x.member ≡ true) (sym e) (both_left (equivalent T a d.member) (all_equivalent_to T a cs) h)
-  equivalent_to a (d ∷ cs) h c (inr k) = equivalent_to a cs (both_right (equivalent T a d.member) (all_equivalent_to T a cs) h) c k
+  equivalent_to a (d ∷ cs) h c (inl e) = subst (λ (x : Candidate). equivalent T a x.member ≡ true) (sym e) (and_first (equivalent T a d.member) (all_equivalent_to T a cs) h)
+  equivalent_to a (d ∷ cs) h c (inr k) = equivalent_to a cs (and_second (equivalent T a d.member) (all_equivalent_to T a cs) h) c k
 
   alike_pairs : (cs : List Candidate) → all_equivalent T cs ≡ true → (a b : Candidate) → IsAmong cs a → IsAmong cs b → (a ≡ b) ⊎ AreEquivalent T a.member b.member
   alike_pairs [] h a b j k = absurd j
   alike_pairs (d ∷ cs) h a b (inl e) (inl f) = inl (e ∙ sym f)
   alike_pairs (d ∷ cs) h a b (inl e) (inr k) =
-      inr (inl (subst (λ (x : Candidate). equivalent T x.member b.member ≡ true) (sym e) (equivalent_to d.member cs (both_left (all_equivalent_to T d.member cs) (all_equivalent T cs) h) b k)))
+      inr (inl (subst (λ (x : Candidate). equivalent T x.member b.member ≡ true) (sym e) (equivalent_to d.member cs (and_first (all_equivalent_to T d.member cs) (all_equivalent T cs) h) b k)))
   alike_pairs (d ∷ cs) h a b (inr j) (inl f) =
-      inr (inr (subst (λ (x : Candidate). equivalent T x.member a.member ≡ true) (sym f) (equivalent_to d.member cs (both_left (all_equivalent_to T d.member cs) (all_equivalent T cs) h) a j)))
-  alike_pairs (d ∷ cs) h a b (inr j) (inr k) = alike_pairs cs (both_right (all_equivalent_to T d.member cs) (all_equivalent T cs) h) a b j k
+      inr (inr (subst (λ (x : Candidate). equivalent T x.member a.member ≡ true) (sym f) (equivalent_to d.member cs (and_first (all_equivalent_to T d.member cs) (all_equivalent T cs) h) a j)))
+  alike_pairs (d ∷ cs) h a b (inr j) (inr k) = alike_pairs cs (and_second (all_equivalent_to T d.member cs) (all_equivalent T cs) h) a b j k
 
   -- ---- the whole of a phase
 

@@ -3,7 +3,7 @@ ghost use Rattle.std.specs.Prelude.{◌≡◌, IfOk, List, Option, length, map, 
 ghost use Rattle.jc_resolve.specs.declared.applied.Candidate.{Candidate};
 ghost use Rattle.jc_infer.specs.declared.outcome.Inference.TheVariants as inference;
 ghost use Rattle.jc_types.specs.Substitution.{subst};
-ghost use Rattle.jc_resolve.specs.Applying.{applicable, applied_by, applied_with, before, before_if, behind, by_subtyping, candidate, converted, counts, fits, gathered, gathered_by, takes, type_arguments, type_arguments_of};
+ghost use Rattle.jc_resolve.specs.Applying.{applicable, applied_by, applied_with, before, before_if, by_subtyping, candidate, converted, counts, fits, gathered, gathered_by, takes, type_arguments};
 
 use crate::applied::{Applied, Candidate, Fit};
 use crate::copying::copy_view;

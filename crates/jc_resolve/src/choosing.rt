@@ -1,5 +1,5 @@
 //! The most specific one of applicable members (JLS 15.12.2.5, 15.12.2.6).
-ghost use Rattle.std.specs.Prelude.{◌≡◌, IfOk, map};
+ghost use Rattle.std.specs.Prelude.{◌≡◌, IfOk};
 ghost use Rattle.jc_types.specs.Substitution.{subst};
 ghost use Rattle.std.specs.Option.{option_map};
 ghost use Rattle.jc_resolve.specs.Choosing.{ambiguous, bodies, by_body, by_result, chosen, chosen_among, result_type};

@@ -1,5 +1,5 @@
 //! Which members are more specific than others (JLS 15.12.2.5).
-ghost use Rattle.std.specs.Prelude.{◌≡◌, IfOk, List, Option, length, map, max};
+ghost use Rattle.std.specs.Prelude.{◌≡◌, IfOk, List, Option, max};
 ghost use Rattle.jc_resolve.specs.declared.applied.Candidate.{Candidate};
 ghost use Rattle.jc_resolve.specs.Applying.{before, before_if};
 ghost use Rattle.jc_infer.specs.declared.outcome.Inference.TheVariants as inference;

@@ -9,7 +9,7 @@ use crate::choice::Choice;
 use crate::choosing::chosen_among;
 use crate::ranking::maximal;
 use crate::site::CallSite;
-use jc_rules::{Items, WantOfMemory};
+use jc_rules::WantOfMemory;
 use jc_types::{Env, Phase, Table};
 use std::alloc::Global;
 

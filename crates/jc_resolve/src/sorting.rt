@@ -1,5 +1,5 @@
 //! Several most specific members with one signature (JLS 8.4.2, 8.4.5, 15.12.2.5).
-ghost use Rattle.std.specs.Prelude.{◌≡◌, ◌≤◌, IfOk, length};
+ghost use Rattle.std.specs.Prelude.{◌≡◌, ◌≤◌, IfOk};
 ghost use Rattle.std.specs.Option.{option_copied};
 ghost use Rattle.jc_resolve.specs.Choosing.{all_equivalent, all_equivalent_to, bodies, converts_to, equivalent, first_with_body, fits_all, reference_fits, result_fits, type_fits, yes_if};
 

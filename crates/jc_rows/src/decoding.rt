@@ -1,10 +1,8 @@
 //! What an instruction means.
 ghost use Rattle.std.specs.Prelude.{◌≡◌, IfOk};
-ghost use Rattle.std.specs.Option.{option_map};
 ghost use Rattle.jc_jvm.specs.Classes.{method_at};
 ghost use Rattle.jc_jvm.specs.Table.{group_of as group_by_code, plain_of as plain_by_operand};
-ghost use Rattle.jc_opcodes.specs.Opcodes.{opcode_of};
-ghost use Rattle.jc_rows.specs.Decoded.{return_row, row_without_operand, row_of_constant, row_of_number, row_of_switch, row_by_operand, row_by_plain, row_by_code, row_of};
+ghost use Rattle.jc_rows.specs.Decoded.{return_row, row_without_operand, row_of_constant, row_of_number, row_of_switch, row_by_operand, row_by_plain, row_of};
 
 use crate::Row;
 use crate::members::{make_array, read_class, read_dims, read_member};

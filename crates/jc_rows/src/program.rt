@@ -1,7 +1,6 @@
 //! Classes whose instructions are read once.
-ghost use Rattle.std.specs.Prelude.{◌≡◌, IfOk, map};
+ghost use Rattle.std.specs.Prelude.{◌≡◌, IfOk};
 ghost use Rattle.std.specs.Option.{option_copied};
-ghost use Rattle.std.specs.List.{range_with_len};
 ghost use Rattle.jc_rows.specs.Laid.{method_rows as rows_of_method, class_rows as rows_of_class, all_rows as rows_of_all, row_at};
 
 use crate::Placed;

@@ -1,5 +1,5 @@
 //! The rules, their stages, and the places at which they are broken.
-ghost use Rattle.std.specs.Prelude.{◌≡◌, ◌/◌, ◌+◌, IfSome, IfNone, IsTrue, ◌↔◌, IsNone, false};
+ghost use Rattle.std.specs.Prelude.{◌≡◌, ◌/◌, ◌+◌, IfSome, IsTrue, ◌↔◌, IsNone, false};
 ghost use Rattle.jc_rules.specs.Rules.{is_rule, stage_of};
 
 use std::marker::Model;

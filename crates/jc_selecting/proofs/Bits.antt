@@ -1,18 +1,12 @@
 -- Maps by the bits of numbers.
 use Rattle.std.proofs.Common.{◌≡◌, ◌≢◌, ◌<◌, ◌+◌, ◌∙◌, ◌==◌, ◌/◌, ◌%◌, ℕ, zero, suc, Bool, true, false, refl, sym, ap, arith, if◌then◌else◌}
-use Rattle.std.proofs.lemmas.Bool.Decides.{nat_tests}
 use Rattle.std.specs.declared.option.Option.{Option}
 use Rattle.std.specs.declared.option.Option.TheVariants.{Some, None}
 use Rattle.std.specs.declared.alloc.Global.{Global}
 use Rattle.std.specs.declared.rc.Rc.{Rc}
+use Rattle.jc_rules.proofs.Truths.{equal_numbers, other_numbers}
 use Rattle.jc_selecting.specs.Held.{content, even_of, half_of, held, held_on, odd_of, value_of}
 use Rattle.jc_selecting.specs.declared.map.Branch.{Branch}
-
-test_true : (x y : ℕ) → (x == y) ≡ true → x ≡ y
-test_true x y e = grind (arith, nat_tests)
-
-test_false : (x y : ℕ) → (x == y) ≡ false → x ≢ y
-test_false x y e = λ h. grind (arith, nat_tests)
 
 -- what stands at a number, by the number's tests
 abbrev pub by_tests : ℕ → Option Branch → ℕ → Bool → Bool → Option (ℕ × ℕ)
@@ -31,9 +25,9 @@ held_by : (n : ℕ) (b a : Option Branch) (k : ℕ) (x : Option (ℕ × ℕ)) �
 held_by n b a k x v o e = held_suc n b k ∙ by (k == 0) (k % 2 == 1) refl refl
   where
     by : (z t : Bool) → (k == 0) ≡ z → (k % 2 == 1) ≡ t → by_tests n b k z t ≡ x
-    by true t p q = v (test_true k 0 p)
-    by false true p q = o (test_false k 0 p) (test_true (k % 2) 1 q)
-    by false false p q = e (test_false k 0 p) (test_false (k % 2) 1 q)
+    by true t p q = v (equal_numbers k 0 p)
+    by false true p q = o (other_numbers k 0 p) (equal_numbers (k % 2) 1 q)
+    by false false p q = e (other_numbers k 0 p) (other_numbers (k % 2) 1 q)
 
 at_zero : (n : ℕ) (b : Option Branch) (k : ℕ) → k ≡ 0 → held_on (suc n) b k ≡ value_of b
 at_zero n b k z = held_by n b b k (value_of b) (λ y. refl) (λ y o. absurd (y z)) (λ y o. absurd (y z))
@@ -100,8 +94,8 @@ pub held_with : (b a : Option Branch) (key : ℕ) (x : ℕ × ℕ) → ((n : ℕ
 held_with b a key x here others k = by (k == key) refl
   where
     by : (t : Bool) → (k == key) ≡ t → held b k ≡ (if t then Some x else held a k)
-    by true e = let same : k ≡ key = test_true k key e in ap (λ (j : ℕ). held b j) same ∙ here (key + 1) (omega arith)
-    by false e = others (k + 1) k (test_false k key e)
+    by true e = let same : k ≡ key = equal_numbers k key e in ap (λ (j : ℕ). held b j) same ∙ here (key + 1) (omega arith)
+    by false e = others (k + 1) k (other_numbers k key e)
 
 -- ---- a search
 
@@ -124,8 +118,8 @@ pub search_half : (b c : Option Branch) (k : ℕ) (whole : Option (ℕ × ℕ)) 
 search_half b c k whole z is e = by (k % 2 == 1) refl
   where
     by : (t : Bool) → (k % 2 == 1) ≡ t → held c (k / 2) ≡ whole
-    by true o = search_odd b c k whole z (test_true (k % 2) 1 o) (is ∙ ap (λ (t : Bool). if t then odd_of b else even_of b) o) e
-    by false o = search_even b c k whole z (test_false (k % 2) 1 o) (is ∙ ap (λ (t : Bool). if t then odd_of b else even_of b) o) e
+    by true o = search_odd b c k whole z (equal_numbers (k % 2) 1 o) (is ∙ ap (λ (t : Bool). if t then odd_of b else even_of b) o) e
+    by false o = search_even b c k whole z (other_numbers (k % 2) 1 o) (is ∙ ap (λ (t : Bool). if t then odd_of b else even_of b) o) e
 
 pub search_none : (branch : Option (Rc Branch Global)) (k : ℕ) (whole : Option (ℕ × ℕ)) → branch ≡ None → held (content branch) k ≡ whole → None ≡ whole
 search_none branch k whole none e = sym (ap (λ (c : Option (Rc Branch Global)). held (content c) k) none ∙ held_none (k + 1) k) ∙ e

@@ -1,8 +1,6 @@
 -- Selection along superclasses.
-use Rattle.std.proofs.Common.{◌≡◌, ◌≢◌, ◌<◌, ◌+◌, ◌-◌, ◌∙◌, ◌==◌, ℕ, zero, suc, Bool, true, false, cond, List, [], ◌∷◌, drop, get_or, length, position, replicate, slice_get, slice_set, refl, sym, ap, subst, arith, if◌then◌else◌}
-use Rattle.std.proofs.lemmas.Bool.Decides.{nat_tests}
+use Rattle.std.proofs.Common.{◌≡◌, ◌≢◌, ◌<◌, ◌+◌, ◌-◌, ◌∙◌, ◌==◌, ℕ, zero, suc, cond, List, [], ◌∷◌, drop, get_or, length, position, replicate, slice_get, refl, sym, ap, arith, if◌then◌else◌}
 use Rattle.std.proofs.lemmas.Iterator.Adapters.{position_from-zero}
-use Rattle.std.proofs.lemmas.List.{drop_all}
 use Rattle.std.proofs.Math.Seq.{drop-cons}
 use Rattle.std.specs.List.{position_from}
 use Rattle.std.specs.Option.{option_map}
@@ -61,44 +59,10 @@ own_from k s i row = option_map (λ (j : ℕ). (k, j)) (position_from (is_number
 abbrev pub Holds : ℕ → List (Option ℕ) → SharedMap → SharedMap → ℕ → Type 0
 Holds k row map grown at = (s : ℕ) → held (content grown.root) s ≡ or_else (own_from k s at (drop at row)) (held (content map.root) s)
 
-pub holds_none : (k : ℕ) (row : List (Option ℕ)) (map : SharedMap) (at : ℕ) → at ≡ length row → Holds k row map map at
-holds_none k row map at end = λ s. sym (ap (λ (xs : List (Option ℕ)). or_else (own_from k s at xs) (held (content map.root) s)) (drop_all at row (omega (arith, end))))
-
 row_step : (k s i : ℕ) (row : List (Option ℕ)) → i < length row → own_from k s i (drop i row) ≡ option_map (λ (j : ℕ). (k, j)) (cond (is_number s (get_or row i None)) (Some i) (position_from (is_number s) (i + 1) (drop (i + 1) row)))
 row_step k s i row inside =
     ap (λ (xs : List (Option ℕ)). own_from k s i xs) (drop-cons row i None inside)
     ∙ ap (λ (n : ℕ). option_map (λ (j : ℕ). (k, j)) (cond (is_number s (get_or row i None)) (Some i) (position_from (is_number s) (i + 1) (drop n row)))) (let e : suc i ≡ i + 1 = omega arith in e)
-
-same_either : (s n : ℕ) → (s == n) ≡ (n == s)
-same_either s n = by (s == n) (n == s) refl refl
-  where
-    by : (a b : Bool) → (s == n) ≡ a → (n == s) ≡ b → a ≡ b
-    by true true e f = refl
-    by true false e f = absurd (let h : s ≡ n = grind (arith, nat_tests) in let g : n ≢ s = λ q. grind (arith, nat_tests) in g (sym h))
-    by false true e f = absurd (let h : n ≡ s = grind (arith, nat_tests) in let g : s ≢ n = λ q. grind (arith, nat_tests) in g (sym h))
-    by false false e f = refl
-
--- one that may be selected
-pub holds_one : (k : ℕ) (row : List (Option ℕ)) (map grown new : SharedMap) (at before number : ℕ) → before ≡ at + 1 → at < length row → get_or row at None ≡ Some number →
-    ((s : ℕ) → held (content new.root) s ≡ (if s == number then Some (k, at) else held (content grown.root) s)) → Holds k row map grown before → Holds k row map new at
-holds_one k row map grown new at before number next inside is put so = λ s.
-    put s
-    ∙ ap (λ (o : Option (ℕ × ℕ)). if s == number then Some (k, at) else o) (so s ∙ ap (λ (n : ℕ). or_else (own_from k s n (drop n row)) (held (content map.root) s)) next)
-    ∙ ap (λ (b : Bool). if b then Some (k, at) else or_else (own_from k s (at + 1) (drop (at + 1) row)) (held (content map.root) s)) (same_either s number)
-    ∙ by s (number == s)
-    ∙ ap (λ (o : Option ℕ). or_else (option_map (λ (j : ℕ). (k, j)) (cond (is_number s o) (Some at) (position_from (is_number s) (at + 1) (drop (at + 1) row)))) (held (content map.root) s)) (sym is)
-    ∙ ap (λ (o : Option (ℕ × ℕ)). or_else o (held (content map.root) s)) (sym (row_step k s at row inside))
-  where
-    by : (s : ℕ) (b : Bool) → (if b then Some (k, at) else or_else (own_from k s (at + 1) (drop (at + 1) row)) (held (content map.root) s)) ≡ or_else (option_map (λ (j : ℕ). (k, j)) (cond b (Some at) (position_from (is_number s) (at + 1) (drop (at + 1) row)))) (held (content map.root) s)
-    by s true = refl
-    by s false = refl
-
--- one that may not
-pub holds_skip : (k : ℕ) (row : List (Option ℕ)) (map grown : SharedMap) (at before : ℕ) → before ≡ at + 1 → at < length row → get_or row at None ≡ None → Holds k row map grown before → Holds k row map grown at
-holds_skip k row map grown at before next inside is so = λ s.
-    so s ∙ ap (λ (n : ℕ). or_else (own_from k s n (drop n row)) (held (content map.root) s)) next
-    ∙ ap (λ (o : Option ℕ). or_else (option_map (λ (j : ℕ). (k, j)) (cond (is_number s o) (Some at) (position_from (is_number s) (at + 1) (drop (at + 1) row)))) (held (content map.root) s)) (sym is)
-    ∙ ap (λ (o : Option (ℕ × ℕ)). or_else o (held (content map.root) s)) (sym (row_step k s at row inside))
 
 -- all of them
 pub holds_all : (k : ℕ) (row : List (Option ℕ)) (map grown : SharedMap) (at : ℕ) → at ≡ 0 → Holds k row map grown at → (s : ℕ) → held (content grown.root) s ≡ or_else (own_found k row s) (held (content map.root) s)
@@ -125,39 +89,6 @@ table_none parents own map empty = record {
   within = omega arith;
   finds = λ m s h. found_none parents own s m ∙ sym (empty s);
 }
-
--- a map with the same content
-pub table_same : (parents : List (Option ℕ)) (own : List (List (Option ℕ))) (here : Option ℕ) (map new : SharedMap) (depth : ℕ) → content new.root ≡ content map.root → IsTable parents own here map depth → IsTable parents own here new depth
-table_same parents own here map new depth same is = record {
-  within = is.within;
-  finds = λ m s h. is.finds m s h ∙ ap (λ b. held b s) (sym same);
-}
-
-set_other : {A : Type 0} (xs : List A) (x : A) (k j : ℕ) → j ≢ k → slice_get (slice_set xs k x) j ≡ slice_get xs j
-set_other [] x k j h = refl
-set_other (y ∷ xs) x zero zero h = absurd (h refl)
-set_other (y ∷ xs) x zero (suc j) h = refl
-set_other (y ∷ xs) x (suc k) zero h = refl
-set_other (y ∷ xs) x (suc k) (suc j) h = set_other xs x k j (λ e. h (ap suc e))
-
-set_here : {A : Type 0} (xs : List A) (x : A) (k : ℕ) → k < length xs → slice_get (slice_set xs k x) k ≡ Some x
-set_here [] x k h = absurd (omega (arith, h))
-set_here (y ∷ xs) x zero h = refl
-set_here (y ∷ xs) x (suc k) h = set_here xs x k (omega (arith, h))
-
-pub table_kept : (parents : List (Option ℕ)) (own : List (List (Option ℕ))) (tables : List (Option Table)) (k : ℕ) (table : Table) → k < length tables → IsTable parents own (Some k) table.map table.depth → AreTables parents own tables →
-    AreTables parents own (slice_set tables k (Some table))
-table_kept parents own tables k table inside is all = λ j t e. by j t e (j == k) refl
-  where
-    by : (j : ℕ) (t : Table) → slice_get (slice_set tables k (Some table)) j ≡ Some (Some t) → (b : Bool) → (j == k) ≡ b → IsTable parents own (Some j) t.map t.depth
-    by j t e true q =
-        let same : j ≡ k = grind (arith, nat_tests) in
-        let at : Some (Some table) ≡ Some (Some t) = sym (set_here tables (Some table) k inside) ∙ ap (λ (i : ℕ). slice_get (slice_set tables k (Some table)) i) (sym same) ∙ e in
-        let one : table ≡ t = cc in
-        subst (λ (i : ℕ). IsTable parents own (Some i) t.map t.depth) (sym same) (subst (λ (u : Table). IsTable parents own (Some k) u.map u.depth) one is)
-    by j t e false q =
-        let other : j ≢ k = λ h. grind (arith, nat_tests) in
-        all j t (sym (set_other tables (Some table) k j other) ∙ e)
 
 nowhere : (n j : ℕ) (t : Table) → slice_get (replicate n None) j ≡ Some (Some t) → ⊥
 nowhere zero j t e = cc

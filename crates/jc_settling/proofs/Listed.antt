@@ -4,6 +4,7 @@ use Rattle.std.specs.Prelude.{cond, ◌==◌}
 use Rattle.std.proofs.lemmas.Grind.{common_steps}
 use Rattle.std.proofs.lemmas.List.{get_or-set_same}
 use Rattle.std.proofs.lemmas.Option.{slice_get-get_or}
+use Rattle.jc_rules.proofs.Truths.{equal_numbers, other_numbers}
 use Rattle.jc_declares.specs.declared.heads.ClassHead.{ClassHead}
 use Rattle.jc_declares.specs.declared.heads.Heads.{Heads}
 use Rattle.jc_declares.specs.Heads.{Named}
@@ -50,12 +51,6 @@ room T q =
     let a : length (padded q T) ≡ length T + length (replicate (suc q - length T) nothing) = length-append T _ in
     let b : length (replicate (suc q - length T) nothing) ≡ suc q - length T = grind (arith, common_steps) in
     omega arith
-
-equal_numbers : (a b : ℕ) → (a == b) ≡ true → a ≡ b
-equal_numbers a b e = grind (arith, common_steps)
-
-other_numbers : (a b : ℕ) → (a == b) ≡ false → a ≢ b
-other_numbers a b e = grind (arith, common_steps)
 
 right_nothing : (es : Named) → es ++ [] ≡ es
 right_nothing [] = refl

@@ -1,6 +1,6 @@
 //! The types that expressions write.
-ghost use Rattle.std.specs.Prelude.{◌≡◌, ◌++◌, [], ◌∷◌, map, OnOk};
-ghost use Rattle.jc_declares.specs.Sites.{BodyPart, uses_of_lists, uses_in_each, uses_in_some, use_of_arg, uses_of_expr, uses_of_init, uses_of_creation, uses_of_operand, uses_of_array, uses_of_var};
+ghost use Rattle.std.specs.Prelude.{◌≡◌, ◌++◌, [], ◌∷◌, OnOk};
+ghost use Rattle.jc_declares.specs.Sites.{BodyPart, uses_in_each, use_of_arg, uses_of_expr, uses_of_init, uses_of_creation, uses_of_operand, uses_of_array, uses_of_var};
 ghost use Rattle.jc_sites.specs.Joining.{placed};
 ghost use Rattle.jc_sites.specs.Seen.{part_seen};
 

@@ -1,7 +1,7 @@
 //! The types that statements write, and the modifiers of the variables that they declare.
 ghost use Rattle.std.specs.Prelude.{◌≡◌, ◌++◌, [], ◌∷◌, map, OnOk};
-ghost use Rattle.jc_tree.specs.Offsets.{first_offset_of_base, modifiers_first, first_offset_of_modifier};
-ghost use Rattle.jc_declares.specs.Sites.{BodyPart, OfClassType, uses_in_each, uses_in_some, uses_of_lists, uses_of_expr, uses_of_locals, uses_of_for_init, uses_of_for, uses_of_clause_head, uses_of_stmt, uses_of_clause};
+ghost use Rattle.jc_tree.specs.Offsets.{modifiers_first, first_offset_of_modifier};
+ghost use Rattle.jc_declares.specs.Sites.{BodyPart, OfClassType, uses_in_each, uses_in_some, uses_of_expr, uses_of_locals, uses_of_for_init, uses_of_for, uses_of_clause_head, uses_of_stmt, uses_of_clause};
 ghost use Rattle.jc_sites.specs.Joining.{placed};
 
 use crate::expressions::{push_expr, push_exprs, push_part, push_var, push_vars};

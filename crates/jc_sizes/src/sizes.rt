@@ -1,5 +1,5 @@
 //! The size of an instruction by what stands behind its opcode.
-ghost use Rattle.std.specs.Prelude.{◌≡◌, ◌≤◌, ◌<◌, ◌+◌, ◌^◌, length};
+ghost use Rattle.std.specs.Prelude.{◌≡◌, ◌≤◌, ◌<◌, ◌+◌, ◌^◌};
 ghost use Rattle.jc_class_out.specs.Instructions.{operand_size, wide_size, ins_size};
 
 use jc_class_out::{Ins, Kind, Operand, kind};

@@ -1,6 +1,6 @@
 -- The class of a program has a class file: its numbers have room, and its pool has room for its constants.
 use Rattle.std.proofs.Common.{◌≡◌, ◌≤◌, ◌<◌, ℕ, zero, suc, ◌+◌, ◌-◌, ◌*◌, Bool, true, false, List, [], ◌∷◌, ◌++◌, length, refl, sym, ap, ◌∙◌, subst, arith, leb-true, length-append, codes, inl, inr, ◌⊎◌}
-use Rattle.std.proofs.lemmas.Bool.{lt-ltb, le-leb}
+use Rattle.std.proofs.lemmas.Bool.{lt-ltb, le-leb, and_from, or_right}
 use Rattle.std.proofs.lemmas.List.{append-nil}
 use Rattle.std.specs.Prelude.{flat_map, pos, nat_le, ◌&&◌, ◌||◌}
 use Rattle.std.specs.List.{AllByRecursion, list_all, list_any}
@@ -16,9 +16,6 @@ use Rattle.jc_class_out.specs.Spelling.{same_known, has, add, adds, ins_uses, in
 use Rattle.jc_class_out.specs.Fitting.{text_fits, known_fits, operand_fits, ins_fits, all_fit, ins_lands, ins_all_fit, tables_fit, frames_fit, frames_within, code_fits, method_fits, counts_fit, members_fit, pool_fits, fits_of}
 use Rattle.jc_small.specs.Small.{Program, IsSum}
 use Rattle.jc_small.specs.ClassOf.{ins, const_ins, more_code, write_code, main_code, main_class, out_ins, write_ins, init_method, main_method}
-
-and_true : (a b : Bool) → a ≡ true → b ≡ true → (a && b) ≡ true
-and_true a b e f = rw (e, f) refl
 
 all_first : (a b c : Bool) → (a && b) ≡ true → (b ≡ true → c ≡ true) → (a && c) ≡ true
 all_first true b c e more = more e
@@ -64,17 +61,13 @@ any_first : (a b c : Bool) → (a || b) ≡ true → (b ≡ true → c ≡ true)
 any_first true b c e more = refl
 any_first false b c e more = more e
 
-any_second : (a c : Bool) → c ≡ true → (a || c) ≡ true
-any_second true c e = refl
-any_second false c e = e
-
 any_more : {A : Type 0} (p : A → Bool) (xs : List A) (y : A) → list_any p xs ≡ true → list_any p (xs ++ y ∷ []) ≡ true
 any_more p [] y e = cc
 any_more p (x ∷ xs) y e = any_first (p x) (list_any p xs) (list_any p (xs ++ y ∷ [])) e (any_more p xs y)
 
 any_last : {A : Type 0} (p : A → Bool) (xs : List A) (y : A) → p y ≡ true → list_any p (xs ++ y ∷ []) ≡ true
 any_last p [] y e = rw e refl
-any_last p (x ∷ xs) y e = any_second (p x) (list_any p (xs ++ y ∷ [])) (any_last p xs y e)
+any_last p (x ∷ xs) y e = or_right (p x) (list_any p (xs ++ y ∷ [])) (any_last p xs y e)
 
 fewer : (ks : List Known) (k b : Known) → count_if (has (ks ++ k ∷ []) b) ≤ count_if (has ks b)
 unfolding has count_if
@@ -180,7 +173,7 @@ loaded_small n h = record {
   least = λ at. omega arith;
   most = λ at. omega arith;
   first = refl;
-  known = and_true _ true (lt-ltb n 2147483648 (omega arith)) refl;
+  known = and_from _ true (lt-ltb n 2147483648 (omega arith)) refl;
   cost = 1;
   small = omega arith;
   costs = other none;
@@ -261,11 +254,11 @@ size_least i is at fit = omega (arith, fit.0.least at)
 each_fits : (is : List Ins) (at : ℕ) → AllByRecursion IsFit is → all_fit at is ≡ true
 unfolding all_fit
 each_fits [] at fit = refl
-each_fits (i ∷ is) at fit = and_true (ins_fits at i) _ (fit.0.fits at) (each_fits is (at + ins_size at i) fit.1)
+each_fits (i ∷ is) at fit = and_from (ins_fits at i) _ (fit.0.fits at) (each_fits is (at + ins_size at i) fit.1)
 
 each_lands : (is : List Ins) (marks : List Bool) → AllByRecursion IsFit is → list_all (ins_lands marks) is ≡ true
 each_lands [] marks fit = refl
-each_lands (i ∷ is) marks fit = and_true (ins_lands marks i) _ (fit.0.lands marks) (each_lands is marks fit.1)
+each_lands (i ∷ is) marks fit = and_from (ins_lands marks i) _ (fit.0.lands marks) (each_lands is marks fit.1)
 
 none_first : (is : List Ins) → AllByRecursion IsFit is → flat_map ins_first_uses is ≡ []
 none_first [] fit = refl
@@ -299,8 +292,8 @@ init_method_fits = refl
 main_ins_fit : (is : List Ins) → 1 ≤ length is → length is ≤ 16384 → AllByRecursion IsFit is → ins_all_fit is ≡ true
 unfolding ins_all_fit
 main_ins_fit is some short fit =
-    and_true _ _ (lt-ltb 0 (size_from 0 is) (omega (arith, size_some is some fit)))
-    (and_true _ _ (lt-ltb (size_from 0 is) 65536 (omega (arith, size_most is 0 fit))) (and_true _ _ (each_fits is 0 fit) (each_lands is (marks_of is) fit)))
+    and_from _ _ (lt-ltb 0 (size_from 0 is) (omega (arith, size_some is some fit)))
+    (and_from _ _ (lt-ltb (size_from 0 is) 65536 (omega (arith, size_most is 0 fit))) (and_from _ _ (each_fits is 0 fit) (each_lands is (marks_of is) fit)))
 
 main_tables_fit : (marks : List Bool) (entry : List Item) (is : List Ins) → tables_fit marks entry (record { stack = 3; locals = 1; ins = is; handlers = []; frames = [] }) ≡ true
 unfolding tables_fit frames_fit frames_within
@@ -308,7 +301,7 @@ main_tables_fit marks entry is = refl
 
 main_code_fits : (entry : List Item) (is : List Ins) → 1 ≤ length is → length is ≤ 16384 → AllByRecursion IsFit is → code_fits entry (record { stack = 3; locals = 1; ins = is; handlers = []; frames = [] }) ≡ true
 unfolding code_fits
-main_code_fits entry is some short fit = and_true _ _ (main_ins_fit is some short fit) (main_tables_fit (marks_of is) entry is)
+main_code_fits entry is some short fit = and_from _ _ (main_ins_fit is some short fit) (main_tables_fit (marks_of is) entry is)
 
 main_method_fits : (program : Program) → AllByRecursion IsFit (main_code program) → length (main_code program) ≤ 16384 → 1 ≤ length (main_code program) → method_fits (codes "Main") (main_method program) ≡ true
 unfolding method_fits name_end type_end parameters_on parameter_units
@@ -352,7 +345,7 @@ class_pool_fits program fit short =
     let costs = each_costs code fit in
     let room = grown main_base base_selfsame [] (head_known ++ flat_map ins_uses code) (length head_known + costs.cost) (costs_append (costs_others head_known) costs.costs) in
     rw (no_loads program fit, members_are program)
-    (and_true _ _ (all_append known_fits head_known (flat_map ins_uses code) head_fits (each_known code fit))
+    (and_from _ _ (all_append known_fits head_known (flat_map ins_uses code) head_fits (each_known code fit))
     (le-leb (length (adds [] (head_known ++ flat_map ins_uses code))) 65534 (omega (arith, room, missing_most [] main_base, costs.small, short))))
 
 -- the class of a program that isn't too long has a file
@@ -361,4 +354,4 @@ unfolding fits_of
 class_fits program sums short =
     let fit = main_fits program sums in
     let some : 1 ≤ length (main_code program) = omega (arith, length-append (flat_map write_code program) (ins 0xb1 Nothing ∷ [])) in
-    and_true _ _ (class_members_fit program fit short some) (class_pool_fits program fit short)
+    and_from _ _ (class_members_fit program fit short some) (class_pool_fits program fit short)

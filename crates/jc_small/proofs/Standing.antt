@@ -2,7 +2,7 @@
 use Rattle.std.proofs.Common.{◌≡◌, ◌≤◌, ◌<◌, ℕ, ◌+◌, ◌-◌, ◌*◌, Bool, true, false, List, [], ◌∷◌, length, refl, ap, ◌∙◌, arith, Some, if◌then◌else◌, le-leb}
 use Rattle.std.specs.Prelude.{◌==◌}
 use Rattle.std.proofs.Common.{eqb-true}
-use Rattle.std.proofs.lemmas.Bool.Decides.{Decides-eqb}
+use Rattle.jc_rules.proofs.Truths.{self_equal}
 use Rattle.jc_class_out.specs.declared.model.Ins.{Ins}
 use Rattle.jc_machine.specs.declared.rows.Row.{Row}
 use Rattle.jc_machine.specs.Rows.{row_of}
@@ -25,12 +25,9 @@ unlike m n h = by_test (m == n) refl
     by_test true e = let same : m ≡ n = eqb-true m n e in absurd (omega arith)
     by_test false e = e
 
-alike : (n : ℕ) → (n == n) ≡ true
-alike n = (Decides-eqb n n).1 refl
-
 pub rest_here : (at : ℕ) (is : List Ins) → rest_from at is at ≡ is
 rest_here at [] = refl
-rest_here at (i ∷ is) = rw (alike at) refl
+rest_here at (i ∷ is) = rw (self_equal at) refl
 
 -- behind an instruction stand those that come after it
 rest_after : (start at : ℕ) (code : List Ins) (i : Ins) (rest : List Ins) → rest_from start code at ≡ i ∷ rest → (start ≤ at) × (rest_from start code (at + size_of at i) ≡ rest)

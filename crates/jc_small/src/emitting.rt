@@ -2,7 +2,7 @@
 ghost use Rattle.std.specs.Prelude.{◌≡◌, ◌≤◌, [], ◌∷◌, ◌++◌, IfOk, OnOk, Some};
 ghost use Rattle.std.specs.List.{AllByRecursion};
 ghost use Rattle.jc_small.specs.Small.{IsSum};
-ghost use Rattle.jc_small.specs.ClassOf.{const_ins, more_code, sum_code, write_code, main_code, main_class, init_code, ins as one_ins};
+ghost use Rattle.jc_small.specs.ClassOf.{const_ins, sum_code, write_code, main_code, main_class, init_code, ins as one_ins};
 
 use crate::reading::Program;
 use jc_class_out::{ClassModel, CodeModel, Ins, Loaded, MethodModel, Operand};

@@ -1,7 +1,6 @@
 //! The tokens that stand in every small program.
 // The fixed lexemes of the small language.
-ghost use Rattle.std.specs.Prelude.{◌≡◌, codes};
-ghost use Rattle.std.specs.Str.{bytes_eq};
+ghost use Rattle.std.specs.Prelude.{◌≡◌};
 ghost use Rattle.jc_small.specs.Lexemes.{is, is_key, is_sign, is_word};
 
 use jc_lexer::{Key, Sign, TokenKind};

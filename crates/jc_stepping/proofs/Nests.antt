@@ -6,6 +6,7 @@ use Rattle.std.specs.Option.{option_map}
 use Rattle.std.specs.Prelude.{ℤ, pos, negsuc, is_some}
 use Rattle.std.specs.declared.option.Option.{Option}
 use Rattle.std.specs.declared.option.Option.TheVariants.{Some, None}
+use Rattle.jc_rules.proofs.Truths.{and_all, and_assoc}
 use Rattle.jc_jvm.specs.Frames.{Fails, throws}
 use Rattle.jc_jvm.specs.Objects.{lengths_on, naturals, nest_by, nest_made}
 use Rattle.jc_jvm.specs.declared.frame.Frame.{Frame}
@@ -51,12 +52,8 @@ among_kind (suc n) found (Long m ∷ rest) = refl
 among_kind (suc n) found (Address at ∷ rest) = refl
 among_kind (suc n) found (NullValue ∷ rest) = refl
 
-and_true : (b : Bool) → (b && true) ≡ b
-and_true true = refl
-and_true false = refl
-
 same_kind : (k : Option Bool) → option_map (λ (b : Bool). b && true) k ≡ k
-same_kind (Some b) = ap (λ (c : Bool). Some c) (and_true b)
+same_kind (Some b) = ap (λ (c : Bool). Some c) (and_all b)
 same_kind None = refl
 
 among_is : (n : ℕ) (values : List Value) → naturals_among (lengths_on n [] values) ≡ kind n values
@@ -89,10 +86,6 @@ kind_few (suc n) (Address at ∷ rest) h = refl
 kind_few (suc n) (NullValue ∷ rest) h = refl
 
 -- ---- from the bottom
-
-and_assoc : (a b c : Bool) → ((a && b) && c) ≡ (a && (b && c))
-and_assoc true b c = refl
-and_assoc false b c = refl
 
 all_append : (p : Value → Bool) (xs ys : List Value) → list_all p (xs ++ ys) ≡ (list_all p xs && list_all p ys)
 all_append p [] ys = refl

@@ -2,6 +2,7 @@
 use Rattle.std.proofs.Common.{◌≡◌, ℕ, zero, suc, get_or, ◌+◌, ◌<◌, ◌==◌, ◌&&◌, Bool, true, false, Option, Some, None, List, [], ◌∷◌, length, map, slice_get, IfSome, if◌then◌else◌, ◌++◌, arith, refl, sym, ap, ◌∙◌}
 use Rattle.std.proofs.lemmas.Bool.Decides.{nat_tests}
 use Rattle.std.proofs.lemmas.List.{length-map}
+use Rattle.jc_rules.proofs.Truths.{and_first, and_second}
 use Rattle.jc_types.specs.declared.form.Ty.{Ty}
 use Rattle.jc_types.specs.declared.form.Ty.TheVariants.{Class, Variable}
 use Rattle.jc_types.specs.declared.form.Arg.{Arg, Arg-F, out-Arg, roll-Arg, roll-out-Arg}
@@ -19,14 +20,6 @@ use Rattle.jc_judge.specs.Views.{exact_at, exacts, class_supers, erased}
 use Rattle.jc_sub.specs.Reaching.{super_with, own_arg}
 use Rattle.jc_sub.proofs.Ups.{super_got}
 
-first : (a b : Bool) → (a && b) ≡ true → a ≡ true
-first true b e = refl
-first false b e = cc
-
-second : (a b : Bool) → (a && b) ≡ true → b ≡ true
-second true b e = e
-second false b e = cc
-
 -- an argument that is no wildcard is the type in it
 exact_by : (a : Arg) (l : ArgLayer) → out-Arg a ≡ l → is_exact_at l ≡ true → (t : Ty) × (a ≡ Exact t) × (exact_at l ≡ t ∷ [])
 exact_by a (Arg-F.Exact t) e x = (t, sym (roll-out-Arg a) ∙ ap roll-Arg e ∙ rolls-Exact t, refl)
@@ -37,8 +30,8 @@ exact_by a (Arg-F.Super t) e x = cc
 exacts_told : (args : List Arg) → are_exact args ≡ true → map Exact (exacts args) ≡ args
 exacts_told [] e = refl
 exacts_told (a ∷ args) e =
-    let here = exact_by a (out-Arg a) refl (first _ _ e) in
-    let rest : map Exact (exacts args) ≡ args = exacts_told args (second (is_exact_at (out-Arg a)) _ e) in
+    let here = exact_by a (out-Arg a) refl (and_first _ _ e) in
+    let rest : map Exact (exacts args) ≡ args = exacts_told args (and_second (is_exact_at (out-Arg a)) _ e) in
     let t = here.0 in
     let whole : exacts (a ∷ args) ≡ t ∷ exacts args = ap (λ ts. ts ++ exacts args) here.2 in
     let head : Exact t ≡ a = sym here.1 in
@@ -51,11 +44,11 @@ as_many args e = sym (length-map (exacts args) Exact) ∙ ap length (exacts_told
 skipped : (w : VarId) (e : Ty) (vars : List VarId) (es : List Ty) (n : ℕ) (xs : List VarId) → w.0 < n → is_row_from n xs ≡ true → map (replacement (w ∷ vars) (e ∷ es)) xs ≡ map (replacement vars es) xs
 skipped w e vars es n [] lt row = refl
 skipped w e vars es n (x ∷ xs) lt row =
-    let here : (x.0 == n) ≡ true = first _ _ row in
+    let here : (x.0 == n) ≡ true = and_first _ _ row in
     let other : (w.0 == x.0) ≡ false = grind (arith, nat_tests) in
     let less : w.0 < n + 1 = omega arith in
     ap (λ (b : Bool). (if b then e else replacement vars es x) ∷ map (replacement (w ∷ vars) (e ∷ es)) xs) other
-    ∙ ap (λ ts. replacement vars es x ∷ ts) (skipped w e vars es (n + 1) xs less (second (x.0 == n) _ row))
+    ∙ ap (λ ts. replacement vars es x ∷ ts) (skipped w e vars es (n + 1) xs less (and_second (x.0 == n) _ row))
 
 -- the variables of a row are replaced by the types in their order
 row_replaced : (n : ℕ) (vars : List VarId) (es : List Ty) → length vars ≡ length es → is_row_from n vars ≡ true → map (replacement vars es) vars ≡ es
@@ -63,11 +56,11 @@ row_replaced n [] [] same row = refl
 row_replaced n [] (e ∷ es) same row = absurd (omega arith)
 row_replaced n (w ∷ vars) [] same row = absurd (omega arith)
 row_replaced n (w ∷ vars) (e ∷ es) same row =
-    let here : (w.0 == n) ≡ true = first _ _ row in
+    let here : (w.0 == n) ≡ true = and_first _ _ row in
     let met : (w.0 == w.0) ≡ true = grind (arith, nat_tests) in
     let less : w.0 < n + 1 = grind (arith, nat_tests) in
     ap (λ (b : Bool). (if b then e else replacement vars es w) ∷ map (replacement (w ∷ vars) (e ∷ es)) vars) met
-    ∙ ap (λ ts. e ∷ ts) (skipped w e vars es (n + 1) vars less (second (w.0 == n) _ row) ∙ row_replaced (n + 1) vars es (omega arith) (second (w.0 == n) _ row))
+    ∙ ap (λ ts. e ∷ ts) (skipped w e vars es (n + 1) vars less (and_second (w.0 == n) _ row) ∙ row_replaced (n + 1) vars es (omega arith) (and_second (w.0 == n) _ row))
 
 replaced : (vars : List VarId) (es : List Ty) → length vars ≡ length es → is_row vars ≡ true → map (replacement vars es) vars ≡ es
 unfolding is_row

@@ -10,8 +10,8 @@ use crate::meeting::{as_one, classes_meet, glb_parts};
 use jc_judge::CaptureFault;
 use jc_rules::{Items, Stop, WantOfMemory};
 use jc_types::{
-    Arg, Bounds, CaptureId, ClassId, Env, Table, Ty, VarId, class_vars, copy_type, copy_types,
-    declared_bounds, is_row, substitute_all,
+    Arg, Bounds, CaptureId, ClassId, Env, Table, Ty, VarId, class_vars, copy_type, declared_bounds,
+    is_row, substitute_all,
 };
 use std::alloc::Global;
 

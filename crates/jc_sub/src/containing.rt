@@ -1,5 +1,5 @@
 //! Containment of type arguments (JLS 4.5.1).
-ghost use Rattle.std.specs.Prelude.{◌≡◌, ◌++◌, map, length, IfOk, OnOk};
+ghost use Rattle.std.specs.Prelude.{◌≡◌, ◌++◌, IfOk, OnOk};
 ghost use Rattle.jc_judge.specs.declared.question.Part.TheVariants.{Ask};
 ghost use Rattle.jc_judge.specs.Asking.{contained, all_contained, in_extends_at, in_super_at, in_exact_at};
 ghost use Rattle.jc_types.specs.declared.form.Arg.{out-Arg};

@@ -1,10 +1,10 @@
 //! Intersections of types (JLS 4.9).
-ghost use Rattle.std.specs.Prelude.{◌≡◌, ◌++◌, ◌∷◌, [], filter, not, length, if◌then◌else◌, IfOk, OnOk};
+ghost use Rattle.std.specs.Prelude.{◌≡◌, ◌++◌, ◌∷◌, [], filter, not, if◌then◌else◌, IfOk, OnOk};
 ghost use Rattle.jc_types.specs.declared.form.Ty.{out-Ty};
 ghost use Rattle.jc_types.specs.declared.form.Arg.{out-Arg};
 ghost use Rattle.jc_judge.specs.Kinds.{is_object, class_of};
 ghost use Rattle.jc_judge.specs.Views.{view};
-ghost use Rattle.jc_judge.specs.Meeting.{as_one, parts_at, flattened, is_listed, distinct, is_exact_at, are_exact, is_plain_at, is_view_of, covers, is_covered, without_object, uncovered, glb_parts, clash, clashes, classes_meet};
+ghost use Rattle.jc_judge.specs.Meeting.{as_one, parts_at, flattened, is_listed, distinct, is_exact_at, are_exact, is_plain_at, covers, is_covered, without_object, uncovered, glb_parts, clash, clashes, classes_meet};
 
 use crate::kinds::{class_of, is_object};
 use crate::views::view;

@@ -1,5 +1,5 @@
 //! What a question of subtyping leads to (JLS 4.10).
-ghost use Rattle.std.specs.Prelude.{◌≡◌, ◌++◌, map, length, Option, slice_get, IfOk, OnOk};
+ghost use Rattle.std.specs.Prelude.{◌≡◌, ◌++◌, map, Option, IfOk};
 ghost use Rattle.std.specs.Option.{option_copied};
 ghost use Rattle.jc_types.specs.declared.form.Ty.{out-Ty};
 ghost use Rattle.jc_types.specs.Accessors.{lower_bound_of, uppers_of};

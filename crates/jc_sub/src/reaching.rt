@@ -5,7 +5,7 @@ ghost use Rattle.jc_sub.specs.Reaching.{WayIs, SightIs};
 
 use crate::kinds::class_of;
 use jc_rules::{Items, WantOfMemory};
-use jc_types::{ClassId, Table, Ty, class_supers};
+use jc_types::{ClassId, Table, class_supers};
 use std::alloc::Global;
 use std::collections::HashSet;
 

@@ -1,6 +1,6 @@
 -- The loop over the sources, turn by turn.
 use Rattle.std.proofs.Common.{◌≡◌, ℕ, ◌+◌, ◌<◌, ◌≤◌, false, List, [], ◌∷◌, ◌++◌, length, get_or, take, drop, sym, ap, ◌∙◌, subst, arith}
-use Rattle.std.proofs.lemmas.List.{take_more, drop_more, take-append-drop, length-take-le, take_all}
+use Rattle.std.proofs.lemmas.List.{take_more, drop_more, take-append-drop, length-take-le}
 use Rattle.jc_rules.specs.declared.rule.Refusal.{Refusal}
 use Rattle.jc_rules.specs.declared.stop.Stop.{Stop}
 use Rattle.jc_rules.specs.declared.stop.Stop.TheVariants as stop_of
@@ -35,6 +35,3 @@ unit_stops texts lists units n list size (stop_of.Refused refused) h l e g b =
       breaks = subst (λ (k : ℕ). BreaksIn (k + 1) list (length (get_or texts k [])) refused) (sym (length-take-le n lists (omega (arith, l)))) (subst (λ (s : ℕ). BreaksIn (n + 1) list s refused) g b);
     }
 unit_stops texts lists units n list size stop_of.WantOfMemory h l e g b = tt
-
-pub units_end : (lists : List (List Token)) (units : List SourceFile) (n : ℕ) → HaveUnits (take n lists) units → length lists ≤ n → HaveUnits lists units
-units_end lists units n h l = subst (λ (ls : List (List Token)). HaveUnits ls units) (take_all n lists l) h

@@ -4,7 +4,7 @@ ghost use Rattle.jc_types.specs.declared.ids.FieldId.{FieldId};
 ghost use Rattle.jc_types.specs.declared.ids.MethodId.{MethodId};
 ghost use Rattle.jc_tree.specs.Offsets.{first_offset_of_head};
 ghost use Rattle.jc_declares.specs.Heads.{superclass_trees};
-ghost use Rattle.jc_declares.specs.Making.{types, class_id, outer_id, or_object, written_classes, super_list, class_decl, numbered};
+ghost use Rattle.jc_declares.specs.Making.{types, class_id, outer_id, or_object, written_classes, class_decl, numbered};
 ghost use Rattle.jc_declares.specs.Readings.{head_reading};
 ghost use Rattle.jc_declared.specs.Types.{with_types};
 ghost use Rattle.jc_table.specs.Filling.{superclass_read, supers_read, class_in};

@@ -1,6 +1,6 @@
 //! All declarations of a program together.
 ghost use Rattle.std.specs.Prelude.{◌≡◌, ◌++◌, [], IfOk, OnOk};
-ghost use Rattle.jc_declares.specs.Making.{class_decl, method_decl, field_decl, variable_decl, scope_decl, use_decls, numbered, first_names, binaries_from, table_with};
+ghost use Rattle.jc_declares.specs.Making.{table_with};
 ghost use Rattle.jc_groups.specs.Members.{AreMembers};
 ghost use Rattle.jc_looking.specs.Members.{known_in};
 ghost use Rattle.jc_looking.specs.Scenes.{IsScene};

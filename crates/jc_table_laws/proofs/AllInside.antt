@@ -1,6 +1,7 @@
 -- Each list of a table's written types, by the trees that write them.
 use Rattle.std.proofs.Common.{◌≡◌, ◌<◌, ◌+◌, ◌==◌, ◌&&◌, ◌||◌, ℕ, suc, Bool, true, false, IsTrue, Option, Some, None, List, [], ◌∷◌, ◌++◌, map, length, slice_get, refl, sym, ap, subst, ◌∙◌}
 use Rattle.std.specs.Prelude.{cond}
+use Rattle.std.proofs.lemmas.Bool.{and_from}
 use Rattle.jc_tree.specs.declared.statement.Formal.{Formal}
 use Rattle.jc_tree.specs.declared.statement.ResultType.{ResultType}
 use Rattle.jc_tree.specs.declared.statement.ResultType.TheVariants as result_of
@@ -43,12 +44,8 @@ pub mapped : {X Y : Type 0} (f : X → Y) (xs : List X) → length (map f xs) �
 mapped f [] = refl
 mapped f (x ∷ xs) = ap suc (mapped f xs)
 
-pub both_true : (a b : Bool) → a ≡ true → b ≡ true → (a && b) ≡ true
-both_true true b e f = f
-both_true false b e f = cc
-
 all_more : (T : Table) (t : Ty) (ts : List Ty) → is_inside T t ≡ true → are_inside T ts ≡ true → are_inside T (t ∷ ts) ≡ true
-all_more T t ts e f = both_true (is_inside T t) (are_inside T ts) e f
+all_more T t ts e f = and_from (is_inside T t) (are_inside T ts) e f
 
 all_joined : (T : Table) (xs ys : List Written) → are_inside T (map (λ (w : Written). w.ty) xs) ≡ true → are_inside T (map (λ (w : Written). w.ty) ys) ≡ true
     → are_inside T (map (λ (w : Written). w.ty) (xs ++ ys)) ≡ true

@@ -3,7 +3,7 @@
 use Rattle.std.proofs.Common.{◌≡◌, ◌≢◌, ◌⊎◌, inl, inr, ◌<◌, ◌≤◌, ◌+◌, ◌-◌, ◌==◌, ◌||◌, ◌&&◌, ℕ, zero, suc, Bool, true, false, Option, Some, None, List, [], ◌∷◌, ◌++◌, length, slice_get, arith, refl, sym, ap, subst, ◌∙◌}
 use Rattle.std.specs.Prelude.{cond, codes, nat_lt}
 use Rattle.std.proofs.lemmas.Bool.Decides.{nat_tests}
-use Rattle.std.proofs.lemmas.Grind.{common_steps}
+use Rattle.jc_rules.proofs.Truths.{and_first, and_second, equal_numbers, self_equal as same}
 use Rattle.jc_types.specs.Names.{named}
 use Rattle.jc_declares.specs.declared.heads.Heads.{Heads}
 use Rattle.jc_declares.specs.declared.heads.Path.{Path}
@@ -13,22 +13,6 @@ use Rattle.jc_declares.specs.Knowing.{meant_in_head, meant_class, and_class, wri
 use Rattle.jc_settling.proofs.Rounds.{all_known as every_round}
 use Rattle.jc_table_laws.proofs.Fitting.{Each, each_joined, IsBelow}
 use Rattle.jc_table_laws.proofs.Ranges.{LookIn, OneIn, SomeIn, found_in, in_head_in, member_in, package_types_in, known_in}
-
--- ---- tests
-
-left_true : (a b : Bool) → (a && b) ≡ true → a ≡ true
-left_true true b e = refl
-left_true false b e = e
-
-right_true : (a b : Bool) → (a && b) ≡ true → b ≡ true
-right_true true b e = e
-right_true false b e = cc
-
-equal : (a b : ℕ) → (a == b) ≡ true → a ≡ b
-equal a b e = grind (arith, common_steps)
-
-same : (a : ℕ) → (a == a) ≡ true
-same a = grind (arith, common_steps)
 
 -- ---- of n + 1 numbers below n two are the same
 
@@ -130,7 +114,7 @@ below_one n d [] e a = absurd (let z : ⊥ = cc in z)
 below_one n d (c ∷ cs) e a = by (d == c) refl e (λ m. below_one n d cs m a.1)
   where
     by : (b : Bool) → (d == c) ≡ b → (b || has d cs) ≡ true → (has d cs ≡ true → d < n) → d < n
-    by true s m rest = subst (λ (k : ℕ). k < n) (sym (equal d c s)) a.0
+    by true s m rest = subst (λ (k : ℕ). k < n) (sym (equal_numbers d c s)) a.0
     by false s m rest = rest m
 
 module _ (H : Heads) (K : Knowledge) where
@@ -142,7 +126,7 @@ module _ (H : Heads) (K : Knowledge) where
 
   each_some : (cs : List ℕ) → all_known K cs ≡ true → AllSome cs
   each_some [] e = tt
-  each_some (c ∷ cs) e = (left_true (is_some (K c)) (all_known K cs) e, each_some cs (right_true (is_some (K c)) (all_known K cs) e))
+  each_some (c ∷ cs) e = (and_first (is_some (K c)) (all_known K cs) e, each_some cs (and_second (is_some (K c)) (all_known K cs) e))
 
   left_some : (xs ys : List ℕ) → AllSome (xs ++ ys) → AllSome xs
   left_some [] ys a = tt

@@ -1,6 +1,7 @@
 -- A supertype of a class is Object, or is needed by the class.
 use Rattle.std.proofs.Common.{◌≡◌, ◌⊎◌, inl, inr, ◌==◌, ◌+◌, ℕ, zero, suc, Bool, true, false, ◌||◌, Option, Some, List, [], ◌∷◌, ◌++◌, map, slice_get, append_assoc, arith, refl, sym, ap, subst, ◌∙◌}
 use Rattle.std.specs.Prelude.{cond}
+use Rattle.std.proofs.lemmas.Bool.{or_right}
 use Rattle.jc_tree.specs.declared.types.ClassTree.{ClassTree}
 use Rattle.jc_tree.specs.Offsets.{first_offset_of_head}
 use Rattle.jc_types.specs.declared.declarations.ClassDecl.{ClassDecl}
@@ -27,10 +28,6 @@ use Rattle.jc_table_laws.proofs.Meant.{tree_passed}
 or_more : (a p q : Bool) → (p ≡ true → q ≡ true) → (a || p) ≡ true → (a || q) ≡ true
 or_more true p q f e = refl
 or_more false p q f e = f e
-
-or_right : (a b : Bool) → b ≡ true → (a || b) ≡ true
-or_right true b e = refl
-or_right false b e = e
 
 has_left : (d : ℕ) (xs ys : List ℕ) → has d xs ≡ true → has d (xs ++ ys) ≡ true
 has_left d [] ys e = cc

@@ -2,7 +2,8 @@
 use Rattle.std.proofs.Common.{◌≡◌, ◌<◌, ◌≤◌, ◌+◌, ◌==◌, ◌&&◌, ℕ, suc, Bool, true, false, Option, Some, None, List, [], ◌∷◌, ◌++◌, map, length, slice_get, arith, refl, sym, subst, ◌∙◌}
 use Rattle.std.specs.Prelude.{cond, nat_lt}
 use Rattle.std.specs.List.{list_all}
-use Rattle.std.proofs.lemmas.Bool.Decides.{nat_tests}
+use Rattle.std.proofs.lemmas.Bool.{and_from}
+use Rattle.jc_rules.proofs.Truths.{less_is}
 use Rattle.jc_types.specs.declared.declarations.ClassDecl.{ClassDecl}
 use Rattle.jc_types.specs.declared.declarations.FieldDecl.{FieldDecl}
 use Rattle.jc_types.specs.declared.declarations.MethodDecl.{MethodDecl}
@@ -36,16 +37,13 @@ use Rattle.jc_declares.specs.Making.{class_id, numbers, outer_id, methods_from, 
 use Rattle.jc_declares.specs.Readings.{wrote_in_use}
 use Rattle.jc_declares.specs.Sites.{Sites, ClassSite, MethodSite, FieldSite, VariableSite, UseSite, MethodForm, Headed, ImpliedConstructor, StaticInitialiser, sites_of}
 use Rattle.jc_declares.specs.Writing.{Wrote}
-use Rattle.jc_table_laws.proofs.AllInside.{counted, mapped, both_true, supers_inside, params_inside, result_inside, thrown_inside, field_inside, bounds_inside, use_wrote_in}
+use Rattle.jc_table_laws.proofs.AllInside.{counted, mapped, supers_inside, params_inside, result_inside, thrown_inside, field_inside, bounds_inside, use_wrote_in}
 use Rattle.jc_table_laws.proofs.Fitting.{Each, each_joined, each_at, each_mapped, IsBelow, ClassFits, MethodFits, FieldFits, OwnerFits, VariableFits, OuterFits, FormFits, ScopeFits, UseFits, SitesFit, sizes, all_fit}
 use Rattle.jc_table_laws.proofs.Ranges.{AllIn, FoundIn, SomeIn, declared_in, unit_types_in, class_variables_in, method_variables_in, imported_in, singles_in, known_in}
 
-less : (a b : ℕ) → a < b → nat_lt a b ≡ true
-less a b l = grind (arith, nat_tests)
-
 all_by : {X : Type 0} (test : X → Bool) (xs : List X) → Each (λ x. test x ≡ true) xs → list_all test xs ≡ true
 all_by test [] a = refl
-all_by test (x ∷ xs) a = both_true (test x) (list_all test xs) a.0 (all_by test xs a.1)
+all_by test (x ∷ xs) a = and_from (test x) (list_all test xs) a.0 (all_by test xs a.1)
 
 -- each with its number
 each_numbered : {X Y : Type 0} (f : ℕ → X → Y) (P : X → Type 0) (Q : Y → Type 0) (i : ℕ) (xs : List X) → ((k : ℕ) (x : X) → P x → Q (f k x)) → Each P xs → Each Q (numbered f i xs)
@@ -122,19 +120,19 @@ module _ (units : List SourceUnit) where
   scope_places = counted (scope_decl H K) 0 H.scopes
 
   a_class : (c : ℕ) → c < length S.classes → is_class T (class_id c) ≡ true
-  a_class c l = less c (length T.classes) (subst (λ (n : ℕ). c < n) (sym class_places) l)
+  a_class c l = less_is c (length T.classes) (subst (λ (n : ℕ). c < n) (sym class_places) l)
 
   a_head : (c : ℕ) → c < length H.classes → is_class T (class_id c) ≡ true
-  a_head c l = less c (length T.classes) (subst (λ (n : ℕ). c < n) (mapped class_head S.classes ∙ sym class_places) l)
+  a_head c l = less_is c (length T.classes) (subst (λ (n : ℕ). c < n) (mapped class_head S.classes ∙ sym class_places) l)
 
   a_method : (m : ℕ) → m < length S.methods → is_method T (record { 0 = m }) ≡ true
-  a_method m l = less m (length T.methods) (subst (λ (n : ℕ). m < n) (sym method_places) l)
+  a_method m l = less_is m (length T.methods) (subst (λ (n : ℕ). m < n) (sym method_places) l)
 
   a_scope : (s : ℕ) → s < length S.scopes → is_scope T (record { 0 = s }) ≡ true
-  a_scope s l = less s (length T.scopes) (subst (λ (n : ℕ). s < n) (sym scope_places) l)
+  a_scope s l = less_is s (length T.scopes) (subst (λ (n : ℕ). s < n) (sym scope_places) l)
 
   a_variable : (v : ℕ) → v < length H.variables → is_variable T (record { 0 = v }) ≡ true
-  a_variable v l = less v (length T.variables) (subst (λ (n : ℕ). v < n) (mapped variable_head S.variables ∙ sym (counted (variable_decl H K) 0 S.variables)) l)
+  a_variable v l = less_is v (length T.variables) (subst (λ (n : ℕ). v < n) (mapped variable_head S.variables ∙ sym (counted (variable_decl H K) 0 S.variables)) l)
 
   some : (c : ℕ) → c < length S.classes → 0 < class_count T
   some c l = some_below c (length T.classes) (subst (λ (n : ℕ). c < n) (sym class_places) l)
@@ -143,15 +141,15 @@ module _ (units : List SourceUnit) where
 
   classes_of : (es : Named) → AllIn (length H.classes) es → list_all (is_class T) (map class_id (numbers es)) ≡ true
   classes_of [] a = refl
-  classes_of (e ∷ es) a = both_true (is_class T (class_id e.1)) (list_all (is_class T) (map class_id (numbers es))) (a_head e.1 a.0) (classes_of es a.1)
+  classes_of (e ∷ es) a = and_from (is_class T (class_id e.1)) (list_all (is_class T) (map class_id (numbers es))) (a_head e.1 a.0) (classes_of es a.1)
 
   variables_of : (es : Named) → AllIn (length H.variables) es → list_all (is_variable T) (variable_ids es) ≡ true
   variables_of [] a = refl
-  variables_of (e ∷ es) a = both_true (is_variable T (record { 0 = e.1 })) (list_all (is_variable T) (variable_ids es)) (a_variable e.1 a.0) (variables_of es a.1)
+  variables_of (e ∷ es) a = and_from (is_variable T (record { 0 = e.1 })) (list_all (is_variable T) (variable_ids es)) (a_variable e.1 a.0) (variables_of es a.1)
 
   rounds_of : (cs : List ℕ) → Each (IsBelow (length S.classes)) cs → list_all (is_class T) (map class_id cs) ≡ true
   rounds_of [] a = refl
-  rounds_of (c ∷ cs) a = both_true (is_class T (class_id c)) (list_all (is_class T) (map class_id cs)) (a_class c a.0) (rounds_of cs a.1)
+  rounds_of (c ∷ cs) a = and_from (is_class T (class_id c)) (list_all (is_class T) (map class_id cs)) (a_class c a.0) (rounds_of cs a.1)
 
   outer_of : (cs : List ℕ) → Each (IsBelow (length S.classes)) cs → if_any (is_class T) (outer_id cs) ≡ true
   outer_of [] a = refl
@@ -160,17 +158,17 @@ module _ (units : List SourceUnit) where
   methods_of : (ms : List MethodId) → Each (λ (m : MethodId). m.0 < length H.methods) ms → list_all (is_method T) ms ≡ true
   methods_of [] a = refl
   methods_of (m ∷ ms) a =
-      both_true (is_method T m) (list_all (is_method T) ms)
-      (less m.0 (length T.methods) (subst (λ (n : ℕ). m.0 < n) (mapped method_place S.methods ∙ sym method_places) a.0)) (methods_of ms a.1)
+      and_from (is_method T m) (list_all (is_method T) ms)
+      (less_is m.0 (length T.methods) (subst (λ (n : ℕ). m.0 < n) (mapped method_place S.methods ∙ sym method_places) a.0)) (methods_of ms a.1)
 
   fields_of : (fs : List FieldId) → Each (λ (m : FieldId). m.0 < length H.fields) fs → list_all (is_field T) fs ≡ true
   fields_of [] a = refl
   fields_of (f ∷ fs) a =
-      both_true (is_field T f) (list_all (is_field T) fs)
-      (less f.0 (length T.fields) (subst (λ (n : ℕ). f.0 < n) (mapped field_head S.fields ∙ sym (counted (field_decl H K) 0 S.fields)) a.0)) (fields_of fs a.1)
+      and_from (is_field T f) (list_all (is_field T) fs)
+      (less_is f.0 (length T.fields) (subst (λ (n : ℕ). f.0 < n) (mapped field_head S.fields ∙ sym (counted (field_decl H K) 0 S.fields)) a.0)) (fields_of fs a.1)
 
   both : (a b : Bool) → a ≡ true → b ≡ true → (a && b) ≡ true
-  both a b e f = both_true a b e f
+  both a b e f = and_from a b e f
 
   -- ---- classes
 
@@ -310,7 +308,7 @@ module _ (units : List SourceUnit) where
     where
       along : (es : Named) → AllIn (length H.classes) es → list_all (λ i. is_class T i.class) (inherited_list (Some es)) ≡ true
       along [] a = refl
-      along (e ∷ es) a = both_true (is_class T (class_id e.1)) (list_all (λ i. is_class T i.class) (inherited_list (Some es))) (a_head e.1 a.0) (along es a.1)
+      along (e ∷ es) a = and_from (is_class T (class_id e.1)) (list_all (λ i. is_class T i.class) (inherited_list (Some es))) (a_head e.1 a.0) (along es a.1)
 
   abbrev HeadRound : ClassHead → Type 0
   HeadRound h = Each (IsBelow (length S.classes)) h.round

@@ -131,9 +131,6 @@ member_layer (Member-F.Nested d) = d.1
 goes_along : (v w : Walk) → v ≡ w → Goes w → Goes v
 goes_along v w e g = subst Goes (sym e) g
 
-walk_of : Membered → Walk
-walk_of m = m.walk
-
 member_rolled : (y : Member-F SomeMember SomeStmt SomeClause SomeDeclaration) → MemberGoes (roll-Member (plain_member y))
 unfolding membered uses_of_stmt uses_of_clause sites_of_declaration
 member_rolled y = goes_along _ _ (ap (λ (m : Membered). m.walk) (fold-roll-Member Membered Uses Uses Walk member_sites stmt_uses clause_uses declaration_sites (plain_member y))) (member_layer y)

@@ -1,7 +1,8 @@
 -- The class of a written class type is Object, or the last of those that its name names.
 use Rattle.std.proofs.Common.{◌≡◌, ◌⊎◌, inl, inr, ◌==◌, ℕ, Bool, true, false, ◌||◌, Option, Some, None, List, [], ◌∷◌, ◌++◌, map, arith, refl, sym, ap, subst, ◌∙◌}
 use Rattle.std.specs.Prelude.{cond, codes}
-use Rattle.std.proofs.lemmas.Bool.Decides.{nat_tests}
+use Rattle.std.proofs.lemmas.Bool.{or_right}
+use Rattle.jc_rules.proofs.Truths.{self_equal}
 use Rattle.jc_tree.specs.declared.types.ClassTree.{ClassTree, out-ClassTree, fold_out-ClassTree}
 use Rattle.jc_tree.specs.declared.types.TypePart.{TypePart, out-TypePart, fold_out-TypePart}
 use Rattle.jc_types.specs.declared.form.Arg.{Arg}
@@ -91,15 +92,8 @@ module _ (H : Heads) (K : Knowledge) (r : Reading) where
 
 -- ---- what a name means is the last of the classes that it names
 
-or_right : (a b : Bool) → b ≡ true → (a || b) ≡ true
-or_right true b e = refl
-or_right false b e = e
-
-self : (b : ℕ) → (b == b) ≡ true
-self b = grind (arith, nat_tests)
-
 only : (ms : List Meaning) (b : ℕ) → ms ≡ AClass b ∷ [] → has b (meant_class ms) ≡ true
-only ms b e = subst (λ (m : List Meaning). has b (meant_class m) ≡ true) (sym e) (ap (λ x. x || false) (self b))
+only ms b e = subst (λ (m : List Meaning). has b (meant_class m) ≡ true) (sym e) (ap (λ x. x || false) (self_equal b))
 
 module _ (H : Heads) (K : Knowledge) (b : ℕ) where
   parts_passed : (ps : List (List ℕ)) (o : Look) → IsClass (with_parts H K ps o) b → has b (passed H K ps o) ≡ true

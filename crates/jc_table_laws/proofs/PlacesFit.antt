@@ -3,6 +3,7 @@ use Rattle.std.proofs.Common.{◌≡◌, inl, inr, ◌<◌, ◌+◌, ◌==◌, �
 use Rattle.std.specs.Prelude.{cond}
 use Rattle.std.specs.List.{list_all}
 use Rattle.std.proofs.lemmas.Grind.{common_steps}
+use Rattle.std.proofs.lemmas.Bool.{or_right, and_from}
 use Rattle.jc_rules.specs.declared.rule.Refusal.{Refusal}
 use Rattle.jc_tree.specs.declared.statement.Formal.{Formal}
 use Rattle.jc_tree.specs.declared.statement.MethodHead.{MethodHead}
@@ -42,7 +43,7 @@ use Rattle.jc_declares.specs.Sites.{Sites, ClassSite, MethodSite, FieldSite, Var
 use Rattle.jc_declares.specs.Words.{says_static}
 use Rattle.jc_declares.specs.Writing.{Broken, Reading, Wrote, with_dims, wrote_base, wrote_class, wrote_type}
 use Rattle.jc_types.specs.Names.{named}
-use Rattle.jc_table_laws.proofs.AllInside.{mapped, both_true}
+use Rattle.jc_table_laws.proofs.AllInside.{mapped}
 use Rattle.jc_table_laws.proofs.AllKnown.{none_unknown, sure_next, sure_unit, sure_classes, sure_head}
 use Rattle.jc_table_laws.proofs.Fitting.{Each, each_joined, each_at, IsBelow, MethodFits, FieldFits, ScopeFits, SitesFit, FormFits, sizes, all_fit}
 use Rattle.jc_table_laws.proofs.IdsFit.{round_below}
@@ -58,7 +59,7 @@ each_as P Q (x ∷ xs) f a = (f x a.0, each_as P Q xs f a.1)
 
 all_by : {X : Type 0} (test : X → Bool) (xs : List X) → Each (λ x. test x ≡ true) xs → list_all test xs ≡ true
 all_by test [] a = refl
-all_by test (x ∷ xs) a = both_true (test x) (list_all test xs) a.0 (all_by test xs a.1)
+all_by test (x ∷ xs) a = and_from (test x) (list_all test xs) a.0 (all_by test xs a.1)
 
 -- of each in a list, with its number
 abbrev pub EachFrom : {X : Type 0} → (ℕ → X → Type 0) → ℕ → List X → Type 0
@@ -112,10 +113,6 @@ none_in_file file (b ∷ bs) e = cc
 equal_true : (a b : ℕ) → a ≡ b → (a == b) ≡ true
 equal_true a b e = grind (arith, common_steps)
 
-or_right : (a b : Bool) → b ≡ true → (a || b) ≡ true
-or_right true b e = refl
-or_right false b e = e
-
 abbrev WrittenZips : Written → Type 0
 WrittenZips w = written_zips w ≡ true
 
@@ -129,7 +126,7 @@ written_zip file at dims w z =
 
 list_zips : (ws : List Written) → Each WrittenZips ws → types_zip (types ws) ≡ true
 list_zips [] a = refl
-list_zips (w ∷ ws) a = both_true (written_zips w) (types_zip (types ws)) a.0 (list_zips ws a.1)
+list_zips (w ∷ ws) a = and_from (written_zips w) (types_zip (types ws)) a.0 (list_zips ws a.1)
 
 cond_each : (b : Bool) (ws : List Written) → Each WrittenZips ws → Each WrittenZips (cond b [] ws)
 cond_each true ws a = tt
@@ -352,8 +349,8 @@ module _ (units : List SourceUnit) (unbroken : (b : Refusal) → BreaksNames (si
 
   joins : (d : MethodDecl) → types_zip d.params ≡ true → (length d.param_names == length d.params.types) ≡ true → if_any written_zips d.result ≡ true → types_zip d.thrown ≡ true → method_zips d ≡ true
   joins d a b r t =
-      both_true (types_zip d.params && (length d.param_names == length d.params.types) && if_any written_zips d.result) (types_zip d.thrown)
-      (both_true (types_zip d.params && (length d.param_names == length d.params.types)) (if_any written_zips d.result) (both_true (types_zip d.params) (length d.param_names == length d.params.types) a b) r) t
+      and_from (types_zip d.params && (length d.param_names == length d.params.types) && if_any written_zips d.result) (types_zip d.thrown)
+      (and_from (types_zip d.params && (length d.param_names == length d.params.types)) (if_any written_zips d.result) (and_from (types_zip d.params) (length d.param_names == length d.params.types) a b) r) t
 
   names_count : (file : ℕ) (fs : List Formal) (r : Reading) → (length (map (param_name file) fs) == length (map (λ (w : Written). w.ty) (map (written_formal H K file r) fs))) ≡ true
   names_count file fs r =
@@ -484,8 +481,8 @@ module _ (units : List SourceUnit) (unbroken : (b : Refusal) → BreaksNames (si
       let g : list_all (λ (v : VariableDecl). types_zip v.bounds) T.variables ≡ true =
       all_by (λ (v : VariableDecl). types_zip v.bounds) T.variables (each_numbered (variable_decl H K) VariableOwned (λ (v : VariableDecl). types_zip v.bounds ≡ true) 0 S.variables variable_zip (all_owned units)) in
       let h : list_all (λ (u : Use). written_zips u.ty) T.uses ≡ true = all_by (λ (u : Use). written_zips u.ty) T.uses (uses_zip 0 S.uses uses_unbroken) in
-      both_true (list_all (λ (c : ClassDecl). types_zip c.supers) T.classes && list_all method_zips T.methods && list_all (λ (f : FieldDecl). written_zips f.ty) T.fields && list_all (λ (v : VariableDecl). types_zip v.bounds) T.variables)
+      and_from (list_all (λ (c : ClassDecl). types_zip c.supers) T.classes && list_all method_zips T.methods && list_all (λ (f : FieldDecl). written_zips f.ty) T.fields && list_all (λ (v : VariableDecl). types_zip v.bounds) T.variables)
       (list_all (λ (u : Use). written_zips u.ty) T.uses)
-      (both_true (list_all (λ (c : ClassDecl). types_zip c.supers) T.classes && list_all method_zips T.methods && list_all (λ (f : FieldDecl). written_zips f.ty) T.fields) (list_all (λ (v : VariableDecl). types_zip v.bounds) T.variables)
-      (both_true (list_all (λ (c : ClassDecl). types_zip c.supers) T.classes && list_all method_zips T.methods) (list_all (λ (f : FieldDecl). written_zips f.ty) T.fields)
-      (both_true (list_all (λ (c : ClassDecl). types_zip c.supers) T.classes) (list_all method_zips T.methods) a b) d) g) h
+      (and_from (list_all (λ (c : ClassDecl). types_zip c.supers) T.classes && list_all method_zips T.methods && list_all (λ (f : FieldDecl). written_zips f.ty) T.fields) (list_all (λ (v : VariableDecl). types_zip v.bounds) T.variables)
+      (and_from (list_all (λ (c : ClassDecl). types_zip c.supers) T.classes && list_all method_zips T.methods) (list_all (λ (f : FieldDecl). written_zips f.ty) T.fields)
+      (and_from (list_all (λ (c : ClassDecl). types_zip c.supers) T.classes) (list_all method_zips T.methods) a b) d) g) h

@@ -1,7 +1,8 @@
 -- The classes and type variables of written types are places in the table.
 use Rattle.std.proofs.Common.{◌≡◌, ◌<◌, ◌+◌, ◌&&◌, ℕ, zero, suc, Bool, true, false, Some, None, List, [], ◌∷◌, map, length, arith, refl, sym, ap, subst, ◌∙◌}
 use Rattle.std.specs.Prelude.{cond, nat_lt}
-use Rattle.std.proofs.lemmas.Bool.Decides.{nat_tests}
+use Rattle.std.proofs.lemmas.Bool.{and_from}
+use Rattle.jc_rules.proofs.Truths.{less_is}
 use Rattle.jc_tree.specs.declared.types.BaseTree.{BaseTree, BaseTree-F, fold-roll-BaseTree, map-BaseTree, roll-BaseTree, ind-BaseTree}
 use Rattle.jc_tree.specs.declared.types.ClassTree.{ClassTree, ClassTree-F, fold-roll-ClassTree, map-ClassTree, roll-ClassTree, ind-ClassTree}
 use Rattle.jc_tree.specs.declared.types.TypeArg.{TypeArg, TypeArg-F, fold-roll-TypeArg, map-TypeArg, roll-TypeArg}
@@ -21,17 +22,6 @@ use Rattle.jc_declares.specs.Heads.{class_variables}
 use Rattle.jc_declares.specs.Looking.{Knowledge, Look, AClass, AVariable, look_up}
 use Rattle.jc_declares.specs.Writing.{Reading, Wrote, WroteArg, WrotePart, is_empty, name_of_part, args_in, last_args, class_type, meant_type, with_dims, primitive_of, base_wrote, arg_wrote, class_tree_wrote, class_wrote, part_wrote, type_wrote, wrote_base, wrote_arg, wrote_class, wrote_part, wrote_type}
 use Rattle.jc_table_laws.proofs.Ranges.{LookIn, SomeIn, look_up_in}
-
-below : (a b : ℕ) → a < b → nat_lt a b ≡ true
-below a b l = grind (arith, nat_tests)
-
-both_true : (a b : Bool) → a ≡ true → b ≡ true → (a && b) ≡ true
-both_true true b e f = f
-both_true false b e f = cc
-
-first_true : (a b : Bool) → (a && b) ≡ true → a ≡ true
-first_true true b e = refl
-first_true false b e = cc
 
 unfoldable pub arg_inside : Table → Arg → Bool
 arg_inside T a = fold-Arg Bool Bool arg_is_inside_at (is_inside_at T) a
@@ -56,18 +46,18 @@ module _ (T : Table) where
 
   all_in : (args : List Arg) → ArgsIn args → all_true (map (arg_inside T) args) ≡ true
   all_in [] h = refl
-  all_in (a ∷ args) h = both_true (arg_inside T a) (all_true (map (arg_inside T) args)) h.0 (all_in args h.1)
+  all_in (a ∷ args) h = and_from (arg_inside T a) (all_true (map (arg_inside T) args)) h.0 (all_in args h.1)
 
   exact_in : (c : ℕ) (args : List Arg) → c < length T.classes → ArgsIn args → TypeIn (aTy.Class (record { 0 = c }) args)
   exact_in c args l h =
       inside_at (aTy.Class (record { 0 = c }) args) _ (aTy.outs-Class (record { 0 = c }) args)
-      ∙ both_true (nat_lt c (length T.classes)) (all_true (map (arg_inside T) args)) (below c (length T.classes) l) (all_in args h)
+      ∙ and_from (nat_lt c (length T.classes)) (all_true (map (arg_inside T) args)) (less_is c (length T.classes) l) (all_in args h)
 
   raw_in : (c : ℕ) → c < length T.classes → TypeIn (aTy.Raw (record { 0 = c }))
-  raw_in c l = inside_at (aTy.Raw (record { 0 = c })) _ (aTy.outs-Raw (record { 0 = c })) ∙ below c (length T.classes) l
+  raw_in c l = inside_at (aTy.Raw (record { 0 = c })) _ (aTy.outs-Raw (record { 0 = c })) ∙ less_is c (length T.classes) l
 
   variable_in : (v : ℕ) → v < length T.variables → TypeIn (aTy.Variable (record { 0 = v }))
-  variable_in v l = inside_at (aTy.Variable (record { 0 = v })) _ (aTy.outs-Variable (record { 0 = v })) ∙ below v (length T.variables) l
+  variable_in v l = inside_at (aTy.Variable (record { 0 = v })) _ (aTy.outs-Variable (record { 0 = v })) ∙ less_is v (length T.variables) l
 
   primitive_in : (p : Primitive) → TypeIn (aTy.Prim p)
   primitive_in p = inside_at (aTy.Prim p) _ (aTy.outs-Prim p)

@@ -1,6 +1,7 @@
 -- What a table promises is kept with each declaration that stands in it.
-use Rattle.std.proofs.Common.{Option, Some, None, MatchOption, ap, ◌∙◌, ◌≡◌, ℕ, ◌+◌, ◌≤◌, ◌&&◌, Bool, true, false, IsTrue, List, [], ◌∷◌, ◌++◌, length, length-append, arith, refl, sym}
+use Rattle.std.proofs.Common.{Option, Some, None, MatchOption, ap, ◌∙◌, ◌≡◌, ℕ, ◌+◌, ◌≤◌, ◌&&◌, Bool, true, IsTrue, List, [], ◌∷◌, ◌++◌, length, length-append, arith, refl, sym}
 use Rattle.std.specs.List.{list_all}
+use Rattle.jc_rules.proofs.Truths.{and_first, and_second}
 use Rattle.jc_types.specs.declared.declarations.ClassDecl.{ClassDecl}
 use Rattle.jc_types.specs.declared.declarations.MethodDecl.{MethodDecl}
 use Rattle.jc_types.specs.declared.declarations.FieldDecl.{FieldDecl}
@@ -12,14 +13,6 @@ use Rattle.jc_types.specs.Tables.{IsTable, class_fits, method_fits, field_fits, 
 use Rattle.jc_tables.specs.Making.{empty, with_class, with_method, with_field, with_variable, with_scope, with_use, class_stands, method_stands, field_stands, variable_stands, use_stands}
 use Rattle.jc_tables.proofs.Grown.{Grown, Leads, both_lead, all_lead, class_fits_lead, method_fits_lead, field_fits_lead, variable_fits_lead, scope_fits_lead, use_fits_lead}
 use Rattle.jc_tables.proofs.Indexed.{index_kept}
-
-first : (a b : Bool) → (a && b) ≡ true → a ≡ true
-first true b e = refl
-first false b e = cc
-
-second : (a b : Bool) → (a && b) ≡ true → b ≡ true
-second true b e = e
-second false b e = cc
 
 all_pushed : {A : Type 0} (f : A → Bool) (xs : List A) (x : A) → f x ≡ true → list_all f xs ≡ true → list_all f (xs ++ x ∷ []) ≡ true
 all_pushed f [] x fit = λ e. both_lead true true (f x) true (λ _. fit) (λ _. refl) refl
@@ -62,8 +55,8 @@ module _ (T : Table) where
       let more = class_grown T c in
       record {
         index = index_kept c T.classes T.index is.index;
-        ids = both_lead _ _ _ _ (both_lead _ _ _ _ (both_lead _ _ _ _ (both_lead _ _ _ _ (both_lead _ _ _ _ (λ e. all_pushed (class_fits U) T.classes c (first (class_fits U c) (types_zip c.supers) stands) (all_lead (class_fits T) (class_fits U) (class_fits_lead T U more) T.classes e)) (all_lead (method_fits T) (method_fits U) (method_fits_lead T U more) T.methods)) (all_lead (field_fits T) (field_fits U) (field_fits_lead T U more) T.fields)) (all_lead (variable_fits T) (variable_fits U) (variable_fits_lead T U more) T.variables)) (all_lead (scope_fits T) (scope_fits U) (scope_fits_lead T U more) T.scopes)) (all_lead (use_fits T) (use_fits U) (use_fits_lead T U more) T.uses) is.ids;
-        places = both_lead _ _ _ _ (both_lead _ _ _ _ (both_lead _ _ _ _ (both_lead _ _ _ _ (all_pushed (λ (c : ClassDecl). types_zip c.supers) T.classes c (second (class_fits U c) (types_zip c.supers) stands)) (same_leads (list_all method_zips T.methods))) (same_leads (list_all (λ (f : FieldDecl). written_zips f.ty) T.fields))) (same_leads (list_all (λ (v : VariableDecl). types_zip v.bounds) T.variables))) (same_leads (list_all (λ (u : Use). written_zips u.ty) T.uses)) is.places;
+        ids = both_lead _ _ _ _ (both_lead _ _ _ _ (both_lead _ _ _ _ (both_lead _ _ _ _ (both_lead _ _ _ _ (λ e. all_pushed (class_fits U) T.classes c (and_first (class_fits U c) (types_zip c.supers) stands) (all_lead (class_fits T) (class_fits U) (class_fits_lead T U more) T.classes e)) (all_lead (method_fits T) (method_fits U) (method_fits_lead T U more) T.methods)) (all_lead (field_fits T) (field_fits U) (field_fits_lead T U more) T.fields)) (all_lead (variable_fits T) (variable_fits U) (variable_fits_lead T U more) T.variables)) (all_lead (scope_fits T) (scope_fits U) (scope_fits_lead T U more) T.scopes)) (all_lead (use_fits T) (use_fits U) (use_fits_lead T U more) T.uses) is.ids;
+        places = both_lead _ _ _ _ (both_lead _ _ _ _ (both_lead _ _ _ _ (both_lead _ _ _ _ (all_pushed (λ (c : ClassDecl). types_zip c.supers) T.classes c (and_second (class_fits U c) (types_zip c.supers) stands)) (same_leads (list_all method_zips T.methods))) (same_leads (list_all (λ (f : FieldDecl). written_zips f.ty) T.fields))) (same_leads (list_all (λ (v : VariableDecl). types_zip v.bounds) T.variables))) (same_leads (list_all (λ (u : Use). written_zips u.ty) T.uses)) is.places;
       }
 
   pub method_kept : (m : MethodDecl) → IsTable T → IsTrue (method_stands (with_method T m) m) → IsTable (with_method T m)
@@ -72,8 +65,8 @@ module _ (T : Table) where
       let more = method_grown T m in
       record {
         index = is.index;
-        ids = both_lead _ _ _ _ (both_lead _ _ _ _ (both_lead _ _ _ _ (both_lead _ _ _ _ (both_lead _ _ _ _ (all_lead (class_fits T) (class_fits U) (class_fits_lead T U more) T.classes) (λ e. all_pushed (method_fits U) T.methods m (first (method_fits U m) (method_zips m) stands) (all_lead (method_fits T) (method_fits U) (method_fits_lead T U more) T.methods e))) (all_lead (field_fits T) (field_fits U) (field_fits_lead T U more) T.fields)) (all_lead (variable_fits T) (variable_fits U) (variable_fits_lead T U more) T.variables)) (all_lead (scope_fits T) (scope_fits U) (scope_fits_lead T U more) T.scopes)) (all_lead (use_fits T) (use_fits U) (use_fits_lead T U more) T.uses) is.ids;
-        places = both_lead _ _ _ _ (both_lead _ _ _ _ (both_lead _ _ _ _ (both_lead _ _ _ _ (same_leads (list_all (λ (c : ClassDecl). types_zip c.supers) T.classes)) (all_pushed method_zips T.methods m (second (method_fits U m) (method_zips m) stands))) (same_leads (list_all (λ (f : FieldDecl). written_zips f.ty) T.fields))) (same_leads (list_all (λ (v : VariableDecl). types_zip v.bounds) T.variables))) (same_leads (list_all (λ (u : Use). written_zips u.ty) T.uses)) is.places;
+        ids = both_lead _ _ _ _ (both_lead _ _ _ _ (both_lead _ _ _ _ (both_lead _ _ _ _ (both_lead _ _ _ _ (all_lead (class_fits T) (class_fits U) (class_fits_lead T U more) T.classes) (λ e. all_pushed (method_fits U) T.methods m (and_first (method_fits U m) (method_zips m) stands) (all_lead (method_fits T) (method_fits U) (method_fits_lead T U more) T.methods e))) (all_lead (field_fits T) (field_fits U) (field_fits_lead T U more) T.fields)) (all_lead (variable_fits T) (variable_fits U) (variable_fits_lead T U more) T.variables)) (all_lead (scope_fits T) (scope_fits U) (scope_fits_lead T U more) T.scopes)) (all_lead (use_fits T) (use_fits U) (use_fits_lead T U more) T.uses) is.ids;
+        places = both_lead _ _ _ _ (both_lead _ _ _ _ (both_lead _ _ _ _ (both_lead _ _ _ _ (same_leads (list_all (λ (c : ClassDecl). types_zip c.supers) T.classes)) (all_pushed method_zips T.methods m (and_second (method_fits U m) (method_zips m) stands))) (same_leads (list_all (λ (f : FieldDecl). written_zips f.ty) T.fields))) (same_leads (list_all (λ (v : VariableDecl). types_zip v.bounds) T.variables))) (same_leads (list_all (λ (u : Use). written_zips u.ty) T.uses)) is.places;
       }
 
   pub field_kept : (f : FieldDecl) → IsTable T → IsTrue (field_stands (with_field T f) f) → IsTable (with_field T f)
@@ -82,8 +75,8 @@ module _ (T : Table) where
       let more = field_grown T f in
       record {
         index = is.index;
-        ids = both_lead _ _ _ _ (both_lead _ _ _ _ (both_lead _ _ _ _ (both_lead _ _ _ _ (both_lead _ _ _ _ (all_lead (class_fits T) (class_fits U) (class_fits_lead T U more) T.classes) (all_lead (method_fits T) (method_fits U) (method_fits_lead T U more) T.methods)) (λ e. all_pushed (field_fits U) T.fields f (first (field_fits U f) (written_zips f.ty) stands) (all_lead (field_fits T) (field_fits U) (field_fits_lead T U more) T.fields e))) (all_lead (variable_fits T) (variable_fits U) (variable_fits_lead T U more) T.variables)) (all_lead (scope_fits T) (scope_fits U) (scope_fits_lead T U more) T.scopes)) (all_lead (use_fits T) (use_fits U) (use_fits_lead T U more) T.uses) is.ids;
-        places = both_lead _ _ _ _ (both_lead _ _ _ _ (both_lead _ _ _ _ (both_lead _ _ _ _ (same_leads (list_all (λ (c : ClassDecl). types_zip c.supers) T.classes)) (same_leads (list_all method_zips T.methods))) (all_pushed (λ (f : FieldDecl). written_zips f.ty) T.fields f (second (field_fits U f) (written_zips f.ty) stands))) (same_leads (list_all (λ (v : VariableDecl). types_zip v.bounds) T.variables))) (same_leads (list_all (λ (u : Use). written_zips u.ty) T.uses)) is.places;
+        ids = both_lead _ _ _ _ (both_lead _ _ _ _ (both_lead _ _ _ _ (both_lead _ _ _ _ (both_lead _ _ _ _ (all_lead (class_fits T) (class_fits U) (class_fits_lead T U more) T.classes) (all_lead (method_fits T) (method_fits U) (method_fits_lead T U more) T.methods)) (λ e. all_pushed (field_fits U) T.fields f (and_first (field_fits U f) (written_zips f.ty) stands) (all_lead (field_fits T) (field_fits U) (field_fits_lead T U more) T.fields e))) (all_lead (variable_fits T) (variable_fits U) (variable_fits_lead T U more) T.variables)) (all_lead (scope_fits T) (scope_fits U) (scope_fits_lead T U more) T.scopes)) (all_lead (use_fits T) (use_fits U) (use_fits_lead T U more) T.uses) is.ids;
+        places = both_lead _ _ _ _ (both_lead _ _ _ _ (both_lead _ _ _ _ (both_lead _ _ _ _ (same_leads (list_all (λ (c : ClassDecl). types_zip c.supers) T.classes)) (same_leads (list_all method_zips T.methods))) (all_pushed (λ (f : FieldDecl). written_zips f.ty) T.fields f (and_second (field_fits U f) (written_zips f.ty) stands))) (same_leads (list_all (λ (v : VariableDecl). types_zip v.bounds) T.variables))) (same_leads (list_all (λ (u : Use). written_zips u.ty) T.uses)) is.places;
       }
 
   pub variable_kept : (v : VariableDecl) → IsTable T → IsTrue (variable_stands (with_variable T v) v) → IsTable (with_variable T v)
@@ -92,8 +85,8 @@ module _ (T : Table) where
       let more = variable_grown T v in
       record {
         index = is.index;
-        ids = both_lead _ _ _ _ (both_lead _ _ _ _ (both_lead _ _ _ _ (both_lead _ _ _ _ (both_lead _ _ _ _ (all_lead (class_fits T) (class_fits U) (class_fits_lead T U more) T.classes) (all_lead (method_fits T) (method_fits U) (method_fits_lead T U more) T.methods)) (all_lead (field_fits T) (field_fits U) (field_fits_lead T U more) T.fields)) (λ e. all_pushed (variable_fits U) T.variables v (first (variable_fits U v) (types_zip v.bounds) stands) (all_lead (variable_fits T) (variable_fits U) (variable_fits_lead T U more) T.variables e))) (all_lead (scope_fits T) (scope_fits U) (scope_fits_lead T U more) T.scopes)) (all_lead (use_fits T) (use_fits U) (use_fits_lead T U more) T.uses) is.ids;
-        places = both_lead _ _ _ _ (both_lead _ _ _ _ (both_lead _ _ _ _ (both_lead _ _ _ _ (same_leads (list_all (λ (c : ClassDecl). types_zip c.supers) T.classes)) (same_leads (list_all method_zips T.methods))) (same_leads (list_all (λ (f : FieldDecl). written_zips f.ty) T.fields))) (all_pushed (λ (v : VariableDecl). types_zip v.bounds) T.variables v (second (variable_fits U v) (types_zip v.bounds) stands))) (same_leads (list_all (λ (u : Use). written_zips u.ty) T.uses)) is.places;
+        ids = both_lead _ _ _ _ (both_lead _ _ _ _ (both_lead _ _ _ _ (both_lead _ _ _ _ (both_lead _ _ _ _ (all_lead (class_fits T) (class_fits U) (class_fits_lead T U more) T.classes) (all_lead (method_fits T) (method_fits U) (method_fits_lead T U more) T.methods)) (all_lead (field_fits T) (field_fits U) (field_fits_lead T U more) T.fields)) (λ e. all_pushed (variable_fits U) T.variables v (and_first (variable_fits U v) (types_zip v.bounds) stands) (all_lead (variable_fits T) (variable_fits U) (variable_fits_lead T U more) T.variables e))) (all_lead (scope_fits T) (scope_fits U) (scope_fits_lead T U more) T.scopes)) (all_lead (use_fits T) (use_fits U) (use_fits_lead T U more) T.uses) is.ids;
+        places = both_lead _ _ _ _ (both_lead _ _ _ _ (both_lead _ _ _ _ (both_lead _ _ _ _ (same_leads (list_all (λ (c : ClassDecl). types_zip c.supers) T.classes)) (same_leads (list_all method_zips T.methods))) (same_leads (list_all (λ (f : FieldDecl). written_zips f.ty) T.fields))) (all_pushed (λ (v : VariableDecl). types_zip v.bounds) T.variables v (and_second (variable_fits U v) (types_zip v.bounds) stands))) (same_leads (list_all (λ (u : Use). written_zips u.ty) T.uses)) is.places;
       }
 
   pub scope_kept : (s : Scope) → IsTable T → IsTrue (scope_fits (with_scope T s) s) → IsTable (with_scope T s)
@@ -112,8 +105,8 @@ module _ (T : Table) where
       let more = use_grown T u in
       record {
         index = is.index;
-        ids = both_lead _ _ _ _ (both_lead _ _ _ _ (both_lead _ _ _ _ (both_lead _ _ _ _ (both_lead _ _ _ _ (all_lead (class_fits T) (class_fits U) (class_fits_lead T U more) T.classes) (all_lead (method_fits T) (method_fits U) (method_fits_lead T U more) T.methods)) (all_lead (field_fits T) (field_fits U) (field_fits_lead T U more) T.fields)) (all_lead (variable_fits T) (variable_fits U) (variable_fits_lead T U more) T.variables)) (all_lead (scope_fits T) (scope_fits U) (scope_fits_lead T U more) T.scopes)) (λ e. all_pushed (use_fits U) T.uses u (first (use_fits U u) (written_zips u.ty) stands) (all_lead (use_fits T) (use_fits U) (use_fits_lead T U more) T.uses e)) is.ids;
-        places = both_lead _ _ _ _ (both_lead _ _ _ _ (both_lead _ _ _ _ (both_lead _ _ _ _ (same_leads (list_all (λ (c : ClassDecl). types_zip c.supers) T.classes)) (same_leads (list_all method_zips T.methods))) (same_leads (list_all (λ (f : FieldDecl). written_zips f.ty) T.fields))) (same_leads (list_all (λ (v : VariableDecl). types_zip v.bounds) T.variables))) (all_pushed (λ (u : Use). written_zips u.ty) T.uses u (second (use_fits U u) (written_zips u.ty) stands)) is.places;
+        ids = both_lead _ _ _ _ (both_lead _ _ _ _ (both_lead _ _ _ _ (both_lead _ _ _ _ (both_lead _ _ _ _ (all_lead (class_fits T) (class_fits U) (class_fits_lead T U more) T.classes) (all_lead (method_fits T) (method_fits U) (method_fits_lead T U more) T.methods)) (all_lead (field_fits T) (field_fits U) (field_fits_lead T U more) T.fields)) (all_lead (variable_fits T) (variable_fits U) (variable_fits_lead T U more) T.variables)) (all_lead (scope_fits T) (scope_fits U) (scope_fits_lead T U more) T.scopes)) (λ e. all_pushed (use_fits U) T.uses u (and_first (use_fits U u) (written_zips u.ty) stands) (all_lead (use_fits T) (use_fits U) (use_fits_lead T U more) T.uses e)) is.ids;
+        places = both_lead _ _ _ _ (both_lead _ _ _ _ (both_lead _ _ _ _ (both_lead _ _ _ _ (same_leads (list_all (λ (c : ClassDecl). types_zip c.supers) T.classes)) (same_leads (list_all method_zips T.methods))) (same_leads (list_all (λ (f : FieldDecl). written_zips f.ty) T.fields))) (same_leads (list_all (λ (v : VariableDecl). types_zip v.bounds) T.variables))) (all_pushed (λ (u : Use). written_zips u.ty) T.uses u (and_second (use_fits U u) (written_zips u.ty) stands)) is.places;
       }
 
 -- a table with its own classes and index

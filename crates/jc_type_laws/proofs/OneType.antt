@@ -9,7 +9,7 @@ use Rattle.jc_reading.specs.Reading.{Read, Found, Stopped}
 use Rattle.jc_parse_type.specs.TypeReading.{type_run}
 use Rattle.jc_parse_type.proofs.TypeForms.{type_laws}
 use Rattle.jc_parse_type.proofs.TypePlaces.{from_spelled}
-use Rattle.jc_type_laws.specs.TypesAreTold.{TypesAreTold}
+use Rattle.jc_type_laws.specs.TypesDifferInTokens.{TypesDifferInTokens}
 
 same_found : (m : Read TypeTree) (a b : TypeTree) (r : List Token) → IsFound a r m → IsFound b r m → b ≡ a
 same_found m a b r f g = ap (value_of a) (sym g.1 ∙ f.1)
@@ -31,8 +31,8 @@ one_type h k ts a b r p q =
     let v = front_of k n ts b r (omega arith) q p.1 p.2 in
     same_found (type_run n p.1) a b [] ((type_laws (h + k)).exact p.1 a [] (from_spelled n p.1 a [] w) refl) ((type_laws (h + k)).exact p.1 b [] (from_spelled n p.1 b [] v) refl)
 
-pub types_are_told : TypesAreTold
-types_are_told = record {
+pub types_differ_in_tokens : TypesDifferInTokens
+types_differ_in_tokens = record {
   one_type = one_type;
   one_type_at = λ tokens at ty other next p q. one_type 200 200 (drop at tokens) ty other (drop next tokens) p q;
 }

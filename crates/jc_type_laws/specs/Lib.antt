@@ -1,1 +1,1 @@
-pub mod TypesAreTold
+pub mod TypesDifferInTokens

@@ -1,7 +1,7 @@
 -- What is reached over the rows of type variables, they depend on.
 use Rattle.std.proofs.Common.{◌≡◌, ◌⊎◌, inl, inr, ℕ, zero, suc, ◌+◌, ◌<◌, ◌≤◌, ◌==◌, Bool, true, false, ◌||◌, cond, nat_lt, List, [], ◌∷◌, ◌++◌, Some, None, length, slice_get, refl, sym, ap, subst, ◌∙◌, arith}
 use Rattle.std.specs.List.{list_any}
-use Rattle.std.proofs.lemmas.Bool.Decides.{nat_tests}
+use Rattle.jc_rules.proofs.Truths.{is_less, less_is, equal_numbers, self_equal}
 use Rattle.jc_types.specs.declared.form.Arg.{Arg}
 use Rattle.jc_types.specs.declared.form.Ty.{Ty, Ty-F, out-Ty}
 use Rattle.jc_types.specs.declared.ids.VarId.{VarId}
@@ -82,18 +82,12 @@ in_right : (b : ℕ) (xs ys : List ℕ) → IsIn b ys → IsIn b (xs ++ ys)
 in_right b [] ys m = m
 in_right b (x ∷ xs) ys m = inr (in_right b xs ys m)
 
-lt_true : (a b : ℕ) → nat_lt a b ≡ true → a < b
-lt_true a b e = grind (arith, nat_tests)
-
-true_lt : (a b : ℕ) → a < b → nat_lt a b ≡ true
-true_lt a b l = grind (arith, nat_tests)
-
 below_in : (n b : ℕ) (ts : List Ty) → IsIn b (variables_below n ts) → b < n
 below_in n b [] m = absurd m
 below_in n b (t ∷ ts) m = by (λ h. below_in n b ts h) (in_append b (variable_below n (out-Ty t)) (variables_below n ts) m)
   where
     chosen : (v : VarId) (c : Bool) → nat_lt v.0 n ≡ c → IsIn b (cond c (v.0 ∷ []) []) → b < n
-    chosen v true e (inl f) = let l = lt_true v.0 n e in omega (arith, l, f)
+    chosen v true e (inl f) = let l = is_less v.0 n e in omega (arith, l, f)
     chosen v true e (inr h) = absurd h
     chosen v false e h = absurd h
 
@@ -213,12 +207,6 @@ module _ (T : Table) (w : VarId) where
 
 -- ---- reached and depending
 
-same_var : (a b : ℕ) → (a == b) ≡ true → a ≡ b
-same_var a b e = grind (arith, nat_tests)
-
-own_var : (a : ℕ) → (a == a) ≡ true
-own_var a = grind (arith, nat_tests)
-
 module _ (T : Table) where
   abbrev rows : List (List ℕ)
   rows = rows_below T (variable_count T) (variable_count T)
@@ -236,7 +224,7 @@ module _ (T : Table) where
       first false b c e = cc
 
       chosen : (v : VarId) (c : Bool) → IsIn w.0 (cond c (v.0 ∷ []) []) → (v.0 == w.0) ≡ true
-      chosen v true (inl e) = subst (λ x. (x == w.0) ≡ true) e (own_var w.0)
+      chosen v true (inl e) = subst (λ x. (x == w.0) ≡ true) e (self_equal w.0)
       chosen v true (inr h) = absurd h
       chosen v false h = absurd h
 
@@ -315,7 +303,7 @@ module _ (T : Table) where
         second false y e = e
 
         by_first : ((v : VarId) → depends_within T n (var b) v ≡ true → depends_within T (suc n) (var c) v ≡ true) → (v : VarId) (x : Bool) → (v.0 == b) ≡ x → (x || depends_within T n (var b) v) ≡ true → depends_within T (suc n) (var c) v ≡ true
-        by_first r v true k h = subst (λ y. depends_within T (suc n) (var c) (var y) ≡ true) (sym (same_var v.0 b k)) (edge n)
+        by_first r v true k h = subst (λ y. depends_within T (suc n) (var c) (var y) ≡ true) (sym (equal_numbers v.0 b k)) (edge n)
         by_first r v false k h = r v h
 
         layer : ((v : VarId) → depends_within T n (var b) v ≡ true → depends_within T (suc n) (var c) v ≡ true) → (l : Ty-F Arg Ty) → (is_variable_at (var b) l || bound_depends (depends_within T n (var b)) l) ≡ true → (is_variable_at (var c) l || bound_depends (depends_within T (suc n) (var c)) l) ≡ true
@@ -341,7 +329,7 @@ module _ (T : Table) where
 
   module _ (n a c : ℕ) (lt : c < variable_count T) (less : (v : ℕ) → depends_within T n (var c) (var v) ≡ true → Reach rows v c) where
     listed_at : (v : VarId) → v.0 < variable_count T → IsIn v.0 (variable_below (variable_count T) (Ty-F.Variable v))
-    listed_at v l = subst (λ b. IsIn v.0 (cond b (v.0 ∷ []) [])) (sym (true_lt v.0 (variable_count T) l)) (inl refl)
+    listed_at v l = subst (λ b. IsIn v.0 (cond b (v.0 ∷ []) [])) (sym (less_is v.0 (variable_count T) l)) (inl refl)
 
     abbrev Edges : Ty-F Arg Ty → Type 0
     Edges l = (u : ℕ) → IsIn u (variable_below (variable_count T) l) → IsIn u (row rows a)
@@ -352,7 +340,7 @@ module _ (T : Table) where
 
     variable : (ts : List Ty) → (list_any (test T (var c) n) ts ≡ true → Reach rows a c) → (v : VarId) → Edges (Ty-F.Variable v) → (x y : Bool) → (v.0 == c) ≡ x → depends_within T n (var c) v ≡ y
         → ((x || y) || list_any (test T (var c) n) ts) ≡ true → Reach rows a c
-    variable ts rest v i true y p q k = let same = same_var v.0 c p in one c (subst (λ z. IsIn z (row rows a)) same (i v.0 (listed_at v (subst (λ z. z < variable_count T) (sym same) lt))))
+    variable ts rest v i true y p q k = let same = equal_numbers v.0 c p in one c (subst (λ z. IsIn z (row rows a)) same (i v.0 (listed_at v (subst (λ z. z < variable_count T) (sym same) lt))))
     variable ts rest v i false true p q k = onto v i (split v.0 (variable_count T)) q
     variable ts rest v i false false p q k = rest k
 

@@ -1,7 +1,6 @@
 //! Type parameters that depend on themselves (JLS 8.1.2).
-ghost use Rattle.std.specs.Prelude.{◌≡◌, ◌++◌, IfOk, OnOk, length};
+ghost use Rattle.std.specs.Prelude.{◌≡◌, ◌++◌, IfOk, OnOk};
 ghost use Rattle.jc_types.specs.declared.form.Ty.{out-Ty};
-ghost use Rattle.jc_types.specs.Accessors.{variable_count};
 ghost use Rattle.jc_components.specs.Marks.{is_marked};
 ghost use Rattle.jc_type_rules.specs.Depending.{AreDepending, rows_below, variable_below, variables_below};
 

@@ -3,7 +3,7 @@ ghost use Rattle.std.specs.Prelude.{◌≡◌, IfOk, None};
 ghost use Rattle.std.specs.Option.{option_copied};
 ghost use Rattle.jc_types.specs.Breaks.{least};
 ghost use Rattle.jc_header_rules.specs.Places.{of_each};
-ghost use Rattle.jc_header_rules.specs.Types.{class_broken, field_broken, kind_broken, method_broken, types_breaks, use_broken, variable_broken, written_broken};
+ghost use Rattle.jc_header_rules.specs.Types.{class_broken, field_broken, method_broken, types_breaks, use_broken, variable_broken, written_broken};
 ghost use Rattle.jc_type_rules.specs.Depending.{AreDepending};
 
 use crate::depending::{depending, is_marked};

@@ -1,5 +1,5 @@
 //! The rules on type parameters (JLS 4.4, 8.1.2): 407 and 409.
-ghost use Rattle.std.specs.Prelude.{◌≡◌, ◌||◌, not, IfOk};
+ghost use Rattle.std.specs.Prelude.{◌≡◌, ◌||◌, IfOk};
 ghost use Rattle.jc_types.specs.Breaks.{least};
 ghost use Rattle.jc_types.specs.declared.form.Ty.{out-Ty};
 ghost use Rattle.jc_header_rules.specs.Places.{of_written};

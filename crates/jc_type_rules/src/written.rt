@@ -1,6 +1,5 @@
 //! The rules on written types (JLS 4.5): 401 to 406.
 ghost use Rattle.std.specs.Prelude.{◌≡◌, [], IfOk};
-ghost use Rattle.std.specs.Option.{option_copied};
 ghost use Rattle.jc_types.specs.Breaks.{least};
 ghost use Rattle.jc_types.specs.declared.form.Ty.{out-Ty};
 ghost use Rattle.jc_types.specs.declared.form.Arg.{out-Arg};

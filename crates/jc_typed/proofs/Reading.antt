@@ -216,10 +216,6 @@ pub parts_length : (ns : List Node) → length (parts ns) ≡ length ns
 unfolding parts
 parts_length ns = let e : length (parts_on [] ns) ≡ 0 + length ns = length_on [] ns in omega (arith, e)
 
-pub parts_none : parts [] ≡ []
-unfolding parts
-parts_none = refl
-
 well_more : (k : ℕ) (ns : List Node) (n : Node) → WellFormed k ns → Below (k + length ns) n → WellFormed k (ns ++ n ∷ [])
 well_more k [] n w b = let e : k + 0 ≡ k = omega arith in (subst (λ j. Below j n) e b, tt)
 well_more k (m ∷ ns) n w b = let e : k + length (m ∷ ns) ≡ k + 1 + length ns = omega arith in

@@ -32,13 +32,6 @@ module _ (vs : VarId → Erased) (cs : CaptureId → Erased) where
 abbrev erased : Base → ℕ → Erased
 erased b n = record { base = b; dims = n }
 
-raised_zero : (e : Erased) → raised 0 e ≡ e
-raised_zero e = ap (erased e.base) (omega arith)
-
--- nothing has been passed
-pub reaches_itself : (t : Ty) → Reaches t t 0
-reaches_itself t = record { same = λ vs cs. ap capped (sym (raised_zero (erased_by vs cs t))) }
-
 -- an array's dimensions more
 pub reaches_element : (t u e : Ty) (n d m : ℕ) → Reaches t u n → u ≡ Array e d → m ≡ min (n + (d + 1)) (2 ^ 32 - 1) → Reaches t e m
 reaches_element t u e n d m r eu em = record {

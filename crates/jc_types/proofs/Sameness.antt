@@ -1,6 +1,7 @@
 -- The test of sameness is right.
 use Rattle.std.proofs.Common.{◌≡◌, ◌↔◌, ℕ, ◌==◌, ◌&&◌, Bool, true, false, IsTrue, List, [], ◌∷◌, map, arith, refl, ap, sym, subst, ◌∙◌}
-use Rattle.std.proofs.lemmas.Bool.Decides.{nat_tests}
+use Rattle.std.proofs.lemmas.Bool.{and_from}
+use Rattle.jc_rules.proofs.Truths.{equal_numbers, and_first, and_second, self_equal}
 use Rattle.jc_types.specs.declared.form.Ty.{Ty, Ty-F, out-Ty, roll-Ty, roll-out-Ty, out-roll-Ty, map-Ty, fold-roll-Ty, ind-Ty}
 use Rattle.jc_types.specs.declared.form.Arg.{Arg, Arg-F, out-Arg, roll-Arg, roll-out-Arg, out-roll-Arg, map-Arg, fold-roll-Arg}
 use Rattle.jc_types.specs.declared.form.Primitive.{Primitive}
@@ -19,25 +20,14 @@ prim_same Int Int e = refl
 prim_same Long Long e = refl
 prim_same _ _ e = cc
 
-number_same : (m n : ℕ) → (m == n) ≡ true → m ≡ n
-number_same m n e = grind (arith, nat_tests)
-
 class_same : (i j : ClassId) → (i.0 == j.0) ≡ true → i ≡ j
-class_same i j e = ap (λ (n : ℕ). let r : ClassId = record { 0 = n } in r) (number_same i.0 j.0 e)
+class_same i j e = ap (λ (n : ℕ). let r : ClassId = record { 0 = n } in r) (equal_numbers i.0 j.0 e)
 
 var_same : (i j : VarId) → (i.0 == j.0) ≡ true → i ≡ j
-var_same i j e = ap (λ (n : ℕ). let r : VarId = record { 0 = n } in r) (number_same i.0 j.0 e)
+var_same i j e = ap (λ (n : ℕ). let r : VarId = record { 0 = n } in r) (equal_numbers i.0 j.0 e)
 
 capture_same : (i j : CaptureId) → (i.0 == j.0) ≡ true → i ≡ j
-capture_same i j e = ap (λ (n : ℕ). let r : CaptureId = record { 0 = n } in r) (number_same i.0 j.0 e)
-
-first : (a b : Bool) → (a && b) ≡ true → a ≡ true
-first true b e = refl
-first false b e = cc
-
-second : (a b : Bool) → (a && b) ≡ true → b ≡ true
-second true b e = e
-second false b e = cc
+capture_same i j e = ap (λ (n : ℕ). let r : CaptureId = record { 0 = n } in r) (equal_numbers i.0 j.0 e)
 
 abbrev ToldArg : Arg → Type 0
 ToldArg a = (b : Arg) → same_arg a b ≡ true → a ≡ b
@@ -56,8 +46,8 @@ args_told [] [] e = refl
 args_told [] (x ∷ xs) e = cc
 args_told (z ∷ zs) [] e = cc
 args_told (z ∷ zs) (x ∷ xs) e =
-    let head : z.0 ≡ x = z.1 x (first _ _ e) in
-    let tail : map (λ z. z.0) zs ≡ xs = args_told zs xs (second (same_arg z.0 x) _ e) in
+    let head : z.0 ≡ x = z.1 x (and_first _ _ e) in
+    let tail : map (λ z. z.0) zs ≡ xs = args_told zs xs (and_second (same_arg z.0 x) _ e) in
     cc
 
 types_told : (zs : List SomeTy) (xs : List Ty) → all_pass (map same (map (λ z. z.0) zs)) xs ≡ true → map (λ z. z.0) zs ≡ xs
@@ -65,8 +55,8 @@ types_told [] [] e = refl
 types_told [] (x ∷ xs) e = cc
 types_told (z ∷ zs) [] e = cc
 types_told (z ∷ zs) (x ∷ xs) e =
-    let head : z.0 ≡ x = z.1 x (first _ _ e) in
-    let tail : map (λ z. z.0) zs ≡ xs = types_told zs xs (second (same z.0 x) _ e) in
+    let head : z.0 ≡ x = z.1 x (and_first _ _ e) in
+    let tail : map (λ z. z.0) zs ≡ xs = types_told zs xs (and_second (same z.0 x) _ e) in
     cc
 
 abbrev plain : Ty-F SomeArg SomeTy → Ty-F Arg Ty
@@ -84,13 +74,13 @@ arg_tests l = map-Arg Arg Ty (Arg → Bool) (Ty → Bool) same_arg same l
 layer_told : (y : Ty-F SomeArg SomeTy) (l : Ty-F Arg Ty) → type_passes (tests (plain y)) l ≡ true → plain y ≡ l
 layer_told (Ty-F.Prim p) (Ty-F.Prim q) e = ap Ty-F.Prim (prim_same p q e)
 layer_told (Ty-F.Class i zs) (Ty-F.Class j xs) e =
-    let ids : i ≡ j = class_same i j (first _ _ e) in
-    let args : map (λ z. z.0) zs ≡ xs = args_told zs xs (second (i.0 == j.0) _ e) in
+    let ids : i ≡ j = class_same i j (and_first _ _ e) in
+    let args : map (λ z. z.0) zs ≡ xs = args_told zs xs (and_second (i.0 == j.0) _ e) in
     cc
 layer_told (Ty-F.Raw i) (Ty-F.Raw j) e = ap Ty-F.Raw (class_same i j e)
 layer_told (Ty-F.Array z n) (Ty-F.Array t m) e =
-    let dims : n ≡ m = number_same n m (first _ _ e) in
-    let of : z.0 ≡ t = z.1 t (second (n == m) _ e) in
+    let dims : n ≡ m = equal_numbers n m (and_first _ _ e) in
+    let of : z.0 ≡ t = z.1 t (and_second (n == m) _ e) in
     cc
 layer_told (Ty-F.Variable v) (Ty-F.Variable w) e = ap Ty-F.Variable (var_same v w e)
 layer_told (Ty-F.Captured v) (Ty-F.Captured w) e = ap Ty-F.Captured (capture_same v w e)
@@ -118,14 +108,6 @@ same_told = ind-Ty ToldArg Told
     (λ x y is. subst (λ x. ToldArg (roll-Arg x)) is (λ u e. ap roll-Arg (arg_layer_told y (out-Arg u) (sym (same_arg_rolled _ u) ∙ e)) ∙ roll-out-Arg u))
     (λ x y is. subst (λ x. Told (roll-Ty x)) is (λ u e. ap roll-Ty (layer_told y (out-Ty u) (sym (same_rolled _ u) ∙ e)) ∙ roll-out-Ty u))
 
--- and each type passes its own test
-prim_self : (n : ℕ) → (n == n) ≡ true
-prim_self n = grind (arith, nat_tests)
-
-both_true : (a b : Bool) → a ≡ true → b ≡ true → (a && b) ≡ true
-both_true true b e f = f
-both_true false b e f = cc
-
 abbrev SelfArg : Type 0
 SelfArg = (a : Arg) × (same_arg a a ≡ true)
 
@@ -134,11 +116,11 @@ SelfTy = (t : Ty) × (same t t ≡ true)
 
 args_self : (zs : List SelfArg) → all_pass (map same_arg (map (λ z. z.0) zs)) (map (λ z. z.0) zs) ≡ true
 args_self [] = refl
-args_self (z ∷ zs) = both_true _ _ z.1 (args_self zs)
+args_self (z ∷ zs) = and_from _ _ z.1 (args_self zs)
 
 types_self : (zs : List SelfTy) → all_pass (map same (map (λ z. z.0) zs)) (map (λ z. z.0) zs) ≡ true
 types_self [] = refl
-types_self (z ∷ zs) = both_true _ _ z.1 (types_self zs)
+types_self (z ∷ zs) = and_from _ _ z.1 (types_self zs)
 
 abbrev own : Ty-F SelfArg SelfTy → Ty-F Arg Ty
 own y = map-Ty SelfArg SelfTy Arg Ty (λ z. z.0) (λ z. z.0) y
@@ -146,13 +128,14 @@ own y = map-Ty SelfArg SelfTy Arg Ty (λ z. z.0) (λ z. z.0) y
 abbrev own_arg : Arg-F SelfArg SelfTy → Arg-F Arg Ty
 own_arg y = map-Arg SelfArg SelfTy Arg Ty (λ z. z.0) (λ z. z.0) y
 
+-- each type passes its own test
 layer_self : (y : Ty-F SelfArg SelfTy) → type_passes (tests (own y)) (own y) ≡ true
-layer_self (Ty-F.Prim p) = prim_self (prim_number p)
-layer_self (Ty-F.Class i zs) = both_true _ _ (prim_self i.0) (args_self zs)
-layer_self (Ty-F.Raw i) = prim_self i.0
-layer_self (Ty-F.Array z n) = both_true _ _ (prim_self n) z.1
-layer_self (Ty-F.Variable v) = prim_self v.0
-layer_self (Ty-F.Captured v) = prim_self v.0
+layer_self (Ty-F.Prim p) = self_equal (prim_number p)
+layer_self (Ty-F.Class i zs) = and_from _ _ (self_equal i.0) (args_self zs)
+layer_self (Ty-F.Raw i) = self_equal i.0
+layer_self (Ty-F.Array z n) = and_from _ _ (self_equal n) z.1
+layer_self (Ty-F.Variable v) = self_equal v.0
+layer_self (Ty-F.Captured v) = self_equal v.0
 layer_self (Ty-F.Meet zs) = types_self zs
 layer_self Ty-F.NullTy = refl
 

@@ -12,7 +12,6 @@ use Rattle.jc_types.specs.declared.declarations.ClassDecl.{ClassDecl}
 use Rattle.jc_types.specs.declared.declarations.MethodDecl.{MethodDecl}
 use Rattle.jc_types.specs.declared.declarations.FieldDecl.{FieldDecl}
 use Rattle.jc_types.specs.declared.declarations.FieldValue.{FieldValue}
-use Rattle.jc_types.specs.declared.declarations.FieldValue.TheVariants.{Unknown}
 use Rattle.jc_types.specs.declared.declarations.VariableDecl.{VariableDecl}
 use Rattle.jc_types.specs.declared.declarations.Kind.{Kind}
 use Rattle.jc_types.specs.declared.declarations.Kind.TheVariants as kind
@@ -41,14 +40,6 @@ class_count T = length T.classes
 
 abbrev pub variable_count : Table → ℕ
 variable_count T = length T.variables
-
-abbrev pub class_place_in : Option ClassDecl → Option Place
-class_place_in (Some c) = Some c.place
-class_place_in None = None
-
--- where a class is declared
-abbrev pub class_place_of : Table → ClassId → Option Place
-class_place_of T id = class_place_in (slice_get T.classes id.0)
 
 abbrev pub class_name_in : Option ClassDecl → List ℕ
 class_name_in (Some c) = c.name
@@ -86,14 +77,6 @@ members_in None = []
 
 abbrev pub members_of : Table → ClassId → List ClassId
 members_of T id = members_in (slice_get T.classes id.0)
-
-abbrev pub class_scope_in : Option ClassDecl → Option ScopeId
-class_scope_in (Some c) = Some c.scope
-class_scope_in None = None
-
--- the scope of its body
-abbrev pub class_scope_of : Table → ClassId → Option ScopeId
-class_scope_of T id = class_scope_in (slice_get T.classes id.0)
 
 abbrev pub class_modifiers_in : Option ClassDecl → Option Modifiers
 class_modifiers_in (Some c) = Some c.modifiers
@@ -133,14 +116,6 @@ supers_in None = []
 abbrev pub supers_of : Table → ClassId → List Ty
 supers_of T id = supers_in (slice_get T.classes id.0)
 
-abbrev pub super_places_in : Option ClassDecl → List TypePlaces
-super_places_in (Some c) = c.supers.places
-super_places_in None = []
-
--- where they are written
-abbrev pub super_places_of : Table → ClassId → List TypePlaces
-super_places_of T id = super_places_in (slice_get T.classes id.0)
-
 abbrev pub methods_in : Option ClassDecl → List MethodId
 methods_in (Some c) = c.methods
 methods_in None = []
@@ -156,28 +131,6 @@ fields_in None = []
 abbrev pub fields_of : Table → ClassId → List FieldId
 fields_of T id = fields_in (slice_get T.classes id.0)
 
-abbrev pub variable_place_in : Option VariableDecl → Option Place
-variable_place_in (Some v) = Some v.place
-variable_place_in None = None
-
--- where a type variable is declared, its name and what declares it
-abbrev pub variable_place_of : Table → VarId → Option Place
-variable_place_of T id = variable_place_in (slice_get T.variables id.0)
-
-abbrev pub variable_name_in : Option VariableDecl → List ℕ
-variable_name_in (Some v) = v.name
-variable_name_in None = []
-
-abbrev pub variable_name_of : Table → VarId → List ℕ
-variable_name_of T id = variable_name_in (slice_get T.variables id.0)
-
-abbrev pub variable_owner_in : Option VariableDecl → Option Owner
-variable_owner_in (Some v) = Some v.owner
-variable_owner_in None = None
-
-abbrev pub variable_owner_of : Table → VarId → Option Owner
-variable_owner_of T id = variable_owner_in (slice_get T.variables id.0)
-
 abbrev pub bounds_in : Option VariableDecl → List Ty
 bounds_in (Some v) = v.bounds.types
 bounds_in None = []
@@ -185,14 +138,6 @@ bounds_in None = []
 -- the declared bounds of a type variable
 abbrev pub bounds_of : Table → VarId → List Ty
 bounds_of T id = bounds_in (slice_get T.variables id.0)
-
-abbrev pub bound_places_in : Option VariableDecl → List TypePlaces
-bound_places_in (Some v) = v.bounds.places
-bound_places_in None = []
-
--- where they are written
-abbrev pub bound_places_of : Table → VarId → List TypePlaces
-bound_places_of T id = bound_places_in (slice_get T.variables id.0)
 
 abbrev pub method_place_in : Option MethodDecl → Option Place
 method_place_in (Some m) = Some m.place
@@ -231,13 +176,6 @@ method_modifiers_in None = None
 abbrev pub method_modifiers_of : Table → MethodId → Option Modifiers
 method_modifiers_of T id = method_modifiers_in (slice_get T.methods id.0)
 
-abbrev pub method_scope_in : Option MethodDecl → Option ScopeId
-method_scope_in (Some m) = Some m.scope
-method_scope_in None = None
-
-abbrev pub method_scope_of : Table → MethodId → Option ScopeId
-method_scope_of T id = method_scope_in (slice_get T.methods id.0)
-
 abbrev pub method_vars_in : Option MethodDecl → List VarId
 method_vars_in (Some m) = m.vars
 method_vars_in None = []
@@ -252,20 +190,6 @@ params_in None = []
 
 abbrev pub params_of : Table → MethodId → List Ty
 params_of T id = params_in (slice_get T.methods id.0)
-
-abbrev pub param_places_in : Option MethodDecl → List TypePlaces
-param_places_in (Some m) = m.params.places
-param_places_in None = []
-
-abbrev pub param_places_of : Table → MethodId → List TypePlaces
-param_places_of T id = param_places_in (slice_get T.methods id.0)
-
-abbrev pub param_names_in : Option MethodDecl → List ParamName
-param_names_in (Some m) = m.param_names
-param_names_in None = []
-
-abbrev pub param_names_of : Table → MethodId → List ParamName
-param_names_of T id = param_names_in (slice_get T.methods id.0)
 
 abbrev pub result_in : Option MethodDecl → Option Ty
 result_in (Some m) = written_type m.result
@@ -283,13 +207,6 @@ thrown_in None = []
 abbrev pub thrown_of : Table → MethodId → List Ty
 thrown_of T id = thrown_in (slice_get T.methods id.0)
 
-abbrev pub thrown_places_in : Option MethodDecl → List TypePlaces
-thrown_places_in (Some m) = m.thrown.places
-thrown_places_in None = []
-
-abbrev pub thrown_places_of : Table → MethodId → List TypePlaces
-thrown_places_of T id = thrown_places_in (slice_get T.methods id.0)
-
 abbrev pub variable_arity_in : Option MethodDecl → Bool
 variable_arity_in (Some m) = m.is_variable_arity
 variable_arity_in None = false
@@ -305,27 +222,12 @@ body_in None = false
 abbrev pub has_body : Table → MethodId → Bool
 has_body T id = body_in (slice_get T.methods id.0)
 
-abbrev pub field_place_in : Option FieldDecl → Option Place
-field_place_in (Some f) = Some f.place
-field_place_in None = None
-
--- where a field is declared, the class that declares it, its name and modifiers
-abbrev pub field_place_of : Table → FieldId → Option Place
-field_place_of T id = field_place_in (slice_get T.fields id.0)
-
 abbrev pub field_owner_in : Option FieldDecl → Option ClassId
 field_owner_in (Some f) = Some f.class
 field_owner_in None = None
 
 abbrev pub field_owner_of : Table → FieldId → Option ClassId
 field_owner_of T id = field_owner_in (slice_get T.fields id.0)
-
-abbrev pub field_name_in : Option FieldDecl → List ℕ
-field_name_in (Some f) = f.name
-field_name_in None = []
-
-abbrev pub field_name_of : Table → FieldId → List ℕ
-field_name_of T id = field_name_in (slice_get T.fields id.0)
 
 abbrev pub field_modifiers_in : Option FieldDecl → Option Modifiers
 field_modifiers_in (Some f) = Some f.modifiers
@@ -341,13 +243,6 @@ field_type_in None = None
 -- its type, and what is known of its value before it runs
 abbrev pub field_type_of : Table → FieldId → Option Ty
 field_type_of T id = field_type_in (slice_get T.fields id.0)
-
-abbrev pub field_value_in : Option FieldDecl → FieldValue
-field_value_in (Some f) = f.value
-field_value_in None = Unknown
-
-abbrev pub field_value_of : Table → FieldId → FieldValue
-field_value_of T id = field_value_in (slice_get T.fields id.0)
 
 abbrev pub id_or_object : Option ℕ → ClassId
 id_or_object (Some n) = record { 0 = n }

@@ -1,16 +1,14 @@
 //! The declarations of a table by their ids.
 ghost use Rattle.std.specs.Prelude.{◌≡◌, slice_get};
 ghost use Rattle.std.specs.Option.{option_copied};
-ghost use Rattle.jc_types.specs.Accessors.{class_name_of, binary_of, package_of, outer_of, members_of, class_modifiers_of, kind_of, is_interface, vars_of, supers_of, super_places_of, methods_of, fields_of, bounds_of, bound_places_of, variable_owner_of, method_owner_of, method_name_of, method_kind_of, method_modifiers_of, method_vars_of, params_of, param_places_of, param_names_of, result_of, thrown_of, thrown_places_of, is_variable_arity, has_body, field_owner_of, field_name_of, field_modifiers_of, field_type_of, class_named, uppers_of, lower_bound_of};
+ghost use Rattle.jc_types.specs.Accessors.{class_name_of, binary_of, package_of, class_modifiers_of, is_interface, vars_of, supers_of, methods_of, fields_of, bounds_of, method_owner_of, method_name_of, method_kind_of, method_modifiers_of, method_vars_of, params_of, result_of, thrown_of, is_variable_arity, has_body, field_owner_of, field_modifiers_of, field_type_of, class_named, uppers_of, lower_bound_of};
 
 use crate::declarations::{
-    ClassDecl, FieldDecl, Kind, MethodDecl, MethodKind, Modifiers, Owner, ParamName, TypePlaces,
-    VariableDecl,
+    ClassDecl, FieldDecl, Kind, MethodDecl, MethodKind, Modifiers, VariableDecl,
 };
 use crate::environment::Bounds;
 use crate::form::Ty;
-use crate::ids::{CaptureId, ClassId, FieldId, MethodId, ScopeId, VarId};
-use crate::scopes::Scope;
+use crate::ids::{CaptureId, ClassId, FieldId, MethodId, VarId};
 use crate::table::Table;
 
 /// The declaration of a class, with its places.
@@ -39,13 +37,6 @@ pub fn variable_at(table: &Table, id: VarId) -> Option<&VariableDecl>
     ensures { option_copied result ≡ slice_get table.now.variables id.0 }
 {
     table.variables.get(id.0 as usize)
-}
-
-/// A scope.
-pub fn scope_at(table: &Table, id: ScopeId) -> Option<&Scope>
-    ensures { option_copied result ≡ slice_get table.now.scopes id.0 }
-{
-    table.scopes.get(id.0 as usize)
 }
 
 /// The class of this binary name with dots: the first one in the table, and `Object` where there is none.
@@ -88,42 +79,12 @@ pub fn class_package(table: &Table, id: ClassId) -> &str
     }
 }
 
-/// The class that a class is a member of.
-pub fn class_outer(table: &Table, id: ClassId) -> Option<ClassId>
-    ensures { result ≡ outer_of table.now id }
-{
-    match table.classes.get(id.0 as usize) {
-        Some(class) => class.outer,
-        None => None,
-    }
-}
-
-/// The member types of a class, in their order.
-pub fn class_members(table: &Table, id: ClassId) -> &[ClassId]
-    ensures { result.now ≡ members_of table.now id }
-{
-    match table.classes.get(id.0 as usize) {
-        Some(class) => class.members.slice(),
-        None => &[],
-    }
-}
-
 /// The modifiers of a class.
 pub fn class_modifiers(table: &Table, id: ClassId) -> Option<Modifiers>
     ensures { result ≡ class_modifiers_of table.now id }
 {
     match table.classes.get(id.0 as usize) {
         Some(class) => Some(class.modifiers),
-        None => None,
-    }
-}
-
-/// What a type declaration declares.
-pub fn class_kind(table: &Table, id: ClassId) -> Option<Kind>
-    ensures { result ≡ kind_of table.now id }
-{
-    match table.classes.get(id.0 as usize) {
-        Some(class) => Some(class.kind),
         None => None,
     }
 }
@@ -160,16 +121,6 @@ pub fn class_supers(table: &Table, id: ClassId) -> &[Ty]
     }
 }
 
-/// Where the direct supertypes of a class are written.
-pub fn class_super_places(table: &Table, id: ClassId) -> &[TypePlaces]
-    ensures { result.now ≡ super_places_of table.now id }
-{
-    match table.classes.get(id.0 as usize) {
-        Some(class) => class.supers.places.slice(),
-        None => &[],
-    }
-}
-
 /// The methods that a class declares, in their order.
 pub fn class_methods(table: &Table, id: ClassId) -> &[MethodId]
     ensures { result.now ≡ methods_of table.now id }
@@ -197,26 +148,6 @@ pub fn declared_bounds(table: &Table, var: VarId) -> &[Ty]
     match table.variables.get(var.0 as usize) {
         Some(variable) => variable.bounds.types.slice(),
         None => &[],
-    }
-}
-
-/// Where the declared bounds of a type variable are written.
-pub fn bound_places(table: &Table, id: VarId) -> &[TypePlaces]
-    ensures { result.now ≡ bound_places_of table.now id }
-{
-    match table.variables.get(id.0 as usize) {
-        Some(variable) => variable.bounds.places.slice(),
-        None => &[],
-    }
-}
-
-/// The class or method whose type parameter a variable is.
-pub fn variable_owner(table: &Table, id: VarId) -> Option<Owner>
-    ensures { result ≡ variable_owner_of table.now id }
-{
-    match table.variables.get(id.0 as usize) {
-        Some(variable) => Some(variable.owner),
-        None => None,
     }
 }
 
@@ -280,26 +211,6 @@ pub fn method_params(table: &Table, id: MethodId) -> &[Ty]
     }
 }
 
-/// Where the types of a method's parameters are written.
-pub fn method_param_places(table: &Table, id: MethodId) -> &[TypePlaces]
-    ensures { result.now ≡ param_places_of table.now id }
-{
-    match table.methods.get(id.0 as usize) {
-        Some(method) => method.params.places.slice(),
-        None => &[],
-    }
-}
-
-/// The names of a method's parameters.
-pub fn method_param_names(table: &Table, id: MethodId) -> &[ParamName]
-    ensures { result.now ≡ param_names_of table.now id }
-{
-    match table.methods.get(id.0 as usize) {
-        Some(method) => method.param_names.slice(),
-        None => &[],
-    }
-}
-
 /// The result of a method. None for `void`, for a constructor and for a static initialiser.
 pub fn method_result(table: &Table, id: MethodId) -> Option<&Ty>
     ensures { option_copied result ≡ result_of table.now id }
@@ -319,16 +230,6 @@ pub fn method_thrown(table: &Table, id: MethodId) -> &[Ty]
 {
     match table.methods.get(id.0 as usize) {
         Some(method) => method.thrown.types.slice(),
-        None => &[],
-    }
-}
-
-/// Where the types that a method throws are written.
-pub fn method_thrown_places(table: &Table, id: MethodId) -> &[TypePlaces]
-    ensures { result.now ≡ thrown_places_of table.now id }
-{
-    match table.methods.get(id.0 as usize) {
-        Some(method) => method.thrown.places.slice(),
         None => &[],
     }
 }
@@ -360,16 +261,6 @@ pub fn field_owner(table: &Table, id: FieldId) -> Option<ClassId>
     match table.fields.get(id.0 as usize) {
         Some(field) => Some(field.class),
         None => None,
-    }
-}
-
-/// The name of a field.
-pub fn field_name(table: &Table, id: FieldId) -> &str
-    ensures { result.now ≡ field_name_of table.now id }
-{
-    match table.fields.get(id.0 as usize) {
-        Some(field) => field.name.str(),
-        None => "",
     }
 }
 

@@ -48,13 +48,6 @@ impl Names {
         count(&self.entries_by_name)
     }
 
-    /// The name that was added at this turn, counted from 0.
-    pub fn name_at(&self, turn: usize) -> Option<&str>
-        ensures { option_copied result ≡ option_map (λ e. e.0) (slice_get self.now turn) }
-    {
-        key_at(&self.entries_by_name, turn)
-    }
-
     /// The place of the name that was added at this turn, counted from 0.
     pub fn place_at(&self, turn: usize) -> Option<u64>
         ensures { result ≡ option_map (λ e. e.1) (slice_get self.now turn) }

@@ -2,6 +2,7 @@
 use Rattle.std.proofs.Common.{◌≡◌, ℕ, Bool, true, false, List, [], ◌∷◌, map, refl, ap, ◌∙◌, subst, ⊎_elim}
 use Rattle.std.proofs.lemmas.Bool.{false≢true, and_from, and_left, and_right, or_cases}
 use Rattle.std.specs.Prelude.{Some, not, ◌&&◌, ◌||◌, ◌==◌}
+use Rattle.jc_rules.proofs.Truths.{not_false}
 use Rattle.jc_lexer.specs.declared.token.Key.TheVariants as key_of
 use Rattle.jc_lexer.specs.declared.token.Token.{Token}
 use Rattle.jc_tree.specs.declared.types.BaseTree.{BaseTree, BaseTree-F, out-BaseTree, map-BaseTree}
@@ -48,21 +49,17 @@ no_call code (d ∷ list) = not (kind_code d.kind == code) || not_paren list
 abbrev pub no_calls : List Told → Bool
 no_calls list = no_call (key_code key_of.This) list && no_call (key_code key_of.Super) list
 
-not_true : (b : Bool) → not b ≡ true → b ≡ false
-not_true true e = absurd (false≢true e)
-not_true false e = refl
-
 pub takes_apart : (code : ℕ) (b : Bool) (list : List Told) (ts r : List Token) → no_call code list ≡ true → Takes b list ts r → second_is code paren_codes ts ≡ false
 takes_apart code b [] ts r e s = absurd (false≢true e)
 takes_apart code b (d ∷ list) [] r e s = absurd s
 takes_apart code b (d ∷ list) (t ∷ ts) r e s =
-    ⊎_elim (λ n. and_left (kind_code t.kind == code) (one_of paren_codes ts) (ap (λ k. kind_code k == code) s.0.0 ∙ not_true (kind_code d.kind == code) n))
+    ⊎_elim (λ n. and_left (kind_code t.kind == code) (one_of paren_codes ts) (ap (λ k. kind_code k == code) s.0.0 ∙ not_false (kind_code d.kind == code) n))
     (λ n. and_right (kind_code t.kind == code) (one_of paren_codes ts) (second _ list ts n s.1)) (or_cases (not (kind_code d.kind == code)) (not_paren list) e)
   where
     second : (c : Bool) (list : List Told) (ts : List Token) → not_paren list ≡ true → Takes c list ts r → one_of paren_codes ts ≡ false
     second c [] ts n s = absurd (false≢true n)
     second c (d ∷ list) [] n s = absurd s
-    second c (d ∷ list) (t ∷ ts) n s = ap (λ k. is_in paren_codes (kind_code k)) s.0.0 ∙ not_true (is_in paren_codes (kind_code d.kind)) n
+    second c (d ∷ list) (t ∷ ts) n s = ap (λ k. is_in paren_codes (kind_code k)) s.0.0 ∙ not_false (is_in paren_codes (kind_code d.kind)) n
 
 -- types
 

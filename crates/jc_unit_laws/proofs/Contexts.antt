@@ -5,6 +5,7 @@ use Rattle.std.proofs.Math.Path.{fun_ext}
 use Rattle.std.proofs.lemmas.Bool.{false≢true, or_cases, cond-true, cond-false}
 use Rattle.std.proofs.lemmas.Grind.{common_steps}
 use Rattle.std.specs.Prelude.{not, ◌&&◌, ◌||◌, nat_le}
+use Rattle.jc_rules.proofs.Truths.{or_none}
 use Rattle.jc_lexer.specs.declared.token.Key.TheVariants as key_of
 use Rattle.jc_lexer.specs.declared.token.Sign.TheVariants as sign_of
 use Rattle.jc_lexer.specs.declared.token.Token.{Token}
@@ -59,10 +60,6 @@ is_simple _ = false
 
 abbrev any_simple : Layer → Bool → Bool
 any_simple layer g = ((is_block layer && g) || ((is_empty layer && g) || ((is_while layer && g) || ((is_do layer && g) || ((is_for layer && g) || ((is_switch layer && g) || ((is_return layer && g) || ((is_break layer && g) || ((is_continue layer && g) || ((is_throw layer && g) || (is_try layer && g)))))))))))
-
-or_none : (g : Bool) → (g || false) ≡ g
-or_none true = refl
-or_none false = refl
 
 pub simple_is : (layer : Layer) (g : Bool) → any_simple layer g ≡ (is_simple layer && g)
 simple_is (Stmt-F.Local vars) g = refl

@@ -51,7 +51,7 @@ abbrev pub NoWholeStands : List Token → Stop ParseFault → Type 0
 NoWholeStands tokens (stop_of.Refused fault) = NoWholeFault tokens fault
 NoWholeStands tokens stop_of.WantOfMemory = Unit {0}
 
--- the grammar is unambiguous, and each list of tokens is that of a file or has a place where that shows
+-- no two files of at most 200 heights have the same tokens, and each list of tokens is that of one or has a place where that shows
 pub record FilesAreTold : Type 0 where
   pub one_file : (tokens : List Token) (file other : SourceFile) → FileStands tokens file → FileStands tokens other → file ≡ other
   pub decided : (tokens : List Token) → ((file : SourceFile) × FileStands tokens file) ⊎ ((place : ℕ) × NoFileStands tokens place)

@@ -1,5 +1,5 @@
 //! New objects and arrays in a heap.
-ghost use Rattle.std.specs.Prelude.{◌≡◌, [], IfOk};
+ghost use Rattle.std.specs.Prelude.{◌≡◌, []};
 ghost use Rattle.jc_heaps.specs.Making.{address_of, given, make, make_plain};
 ghost use Rattle.jc_meaning.specs.Kept.{typed_keeping};
 ghost use Rattle.jc_values.specs.Doing.{Does};

@@ -1,5 +1,5 @@
 //! Variables, fields and elements by their places.
-ghost use Rattle.std.specs.Prelude.{◌≡◌, slice_set, slice_get, IfOk, Ok};
+ghost use Rattle.std.specs.Prelude.{◌≡◌, slice_set, slice_get, Ok};
 ghost use Rattle.jc_running.specs.Outcomes.{Val, bind};
 ghost use Rattle.jc_heaps.specs.States.{local, set_local, set_part, object_at, some_or_wrong};
 ghost use Rattle.jc_values.specs.Doing.{Does};

@@ -1,5 +1,5 @@
 //! Strings, and those of literals (JLS 3.10.5).
-ghost use Rattle.std.specs.Prelude.{◌≡◌, ◌<◌, map, IfOk, IfSome, MatchOption, None, Some};
+ghost use Rattle.std.specs.Prelude.{◌≡◌, ◌<◌, map, IfOk, None, Some};
 ghost use Rattle.jc_heaps.specs.Making.{char_value, constant_string, interned_in, make_string};
 ghost use Rattle.jc_meaning.specs.Kept.{typed_keeping};
 ghost use Rattle.jc_values.specs.Doing.{Does};

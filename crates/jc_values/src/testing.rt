@@ -1,6 +1,6 @@
 //! Tests of the classes of references.
 ghost use Rattle.std.specs.Prelude.{◌≡◌};
-ghost use Rattle.jc_heaps.specs.Making.{checked, passes, if_passes, fail};
+ghost use Rattle.jc_heaps.specs.Making.{checked, passes, fail};
 ghost use Rattle.jc_meaning.specs.Kept.{typed_keeping};
 ghost use Rattle.jc_values.specs.Doing.{Does};
 

@@ -6,8 +6,6 @@ mod job;
 mod line;
 mod sort;
 mod steps;
-#[cfg(test)]
-mod tests;
 
 pub use fault::UsageFault;
 pub use job::{Job, read_words};

@@ -1,10 +1,9 @@
 //! The first broken rule of the names in a written type.
-ghost use Rattle.std.specs.Prelude.{◌≡◌, ◌∷◌, map, IfOk, OnOk};
+ghost use Rattle.std.specs.Prelude.{◌≡◌, ◌∷◌, IfOk};
 ghost use Rattle.jc_types.specs.Breaks.{least};
 ghost use Rattle.jc_declares.specs.Heads.{owner_of, path_of_class};
-ghost use Rattle.jc_declares.specs.Looking.{look_up, is_own, all_accessible};
-ghost use Rattle.jc_declares.specs.Knowing.{passed_all};
-ghost use Rattle.jc_declares.specs.Writing.{is_empty, last_args, early_args, variable_broken, meaning_broken, if_accessible, name_broken, part_broken, arg_broken, wrote_type, wrote_base, wrote_class, wrote_part, wrote_arg};
+ghost use Rattle.jc_declares.specs.Looking.{is_own};
+ghost use Rattle.jc_declares.specs.Writing.{is_empty, last_args, name_broken, arg_broken, wrote_type, wrote_base, wrote_class, wrote_arg};
 ghost use Rattle.jc_tree.specs.declared.types.ClassTree.{out-ClassTree};
 ghost use Rattle.jc_written.specs.Trees.{last_in, early_in, args_rules, parts_rules, name_rules, sight_rules};
 ghost use Rattle.jc_declares.specs.Breaks.{in_file};

@@ -1,13 +1,11 @@
 //! What the names of a program are looked up in, made once of its units.
 ghost use Rattle.std.specs.Prelude.{◌≡◌, IfOk};
-ghost use Rattle.jc_declares.specs.Heads.{heads_of};
-ghost use Rattle.jc_declares.specs.Sites.{sites_of};
 ghost use Rattle.jc_written_in.specs.Namings.{IsNaming, IsNamingOf};
 
 use jc_declares::{Heads, SourceUnit};
 use jc_heads::heads;
 use jc_imports::{Imports, imports_of};
-use jc_looking::{Inherited, Scene};
+use jc_looking::Inherited;
 use jc_name_index::{Index, Indexed, index_of};
 use jc_rules::{Items, WantOfMemory};
 use jc_settling::settle;

@@ -1,7 +1,7 @@
-use Rattle.std.proofs.Common.{◌≡◌, ◌<◌, ℕ, List, [], length, map, drop, subst, sym, arith}
+use Rattle.std.proofs.Common.{◌≡◌, ◌<◌, ℕ, [], length, arith}
 use Rattle.std.proofs.lemmas.Result.{err_from_is_err_and}
 use Rattle.jc_prelude.specs.Texts.{texts}
-use Rattle.jc_front.proofs.LibraryTurns.{Goes, goes, goes_next, stops_here, ends}
+use Rattle.jc_front.proofs.LibraryTurns.{goes_next, stops_here, ends}
 use Rattle.jc_front.proofs.texts.library_units.Goals as goal
 
 pub returns-in_err-unit-clause-refused : goal.returns-in_err-unit-clause-refused

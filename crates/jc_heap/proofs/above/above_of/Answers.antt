@@ -1,5 +1,5 @@
-use Rattle.std.proofs.Common.{arith, length, ◌<◌, ◌≤◌, ◌≡◌, [], ℕ, List, Bool, slice_index_or, ap, subst, sym, ◌∙◌}
-use Rattle.jc_heap.specs.Above.{Added, AreAbove, IsIn, Put, Searching}
+use Rattle.std.proofs.Common.{arith, length, ◌<◌, ◌≤◌, ◌≡◌, [], ℕ, List, slice_index_or, ap, subst, sym, ◌∙◌}
+use Rattle.jc_heap.specs.Above.{Added, AreAbove, IsIn, Put}
 use Rattle.jc_heap.specs.Supers.{supers_at}
 use Rattle.jc_heap.proofs.Walks.{begun, found, found_within, turn_at}
 use Rattle.jc_heap.proofs.above.above_of.Goals as goal

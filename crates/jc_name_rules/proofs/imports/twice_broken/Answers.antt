@@ -1,4 +1,4 @@
-use Rattle.std.proofs.Common.{List, Bool, take, arith, ap, ◌∙◌}
+use Rattle.std.proofs.Common.{take, arith, ap, ◌∙◌}
 use Rattle.std.specs.Prelude.{not}
 use Rattle.jc_types.specs.Breaks.{least}
 use Rattle.jc_declares.specs.HeadBreaks.{unless, broken_at}

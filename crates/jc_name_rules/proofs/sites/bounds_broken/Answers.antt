@@ -3,7 +3,7 @@ use Rattle.jc_tree.specs.declared.statement.TypeParam.{TypeParam}
 use Rattle.jc_tree.specs.declared.types.ClassTree.{ClassTree}
 use Rattle.jc_types.specs.Breaks.{least}
 use Rattle.jc_declares.specs.Breaks.{in_file, bounds_broken, class_trees_broken}
-use Rattle.jc_declares.specs.Writing.{Reading, wrote_class, wrote_type}
+use Rattle.jc_declares.specs.Writing.{Reading}
 use Rattle.jc_looking.specs.Members.{known_in}
 use Rattle.jc_written.specs.At.{reading_at}
 use Rattle.jc_written.proofs.Counting.{turn, in_file-append}

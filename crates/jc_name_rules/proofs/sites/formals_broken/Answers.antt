@@ -1,7 +1,7 @@
-use Rattle.std.proofs.Common.{List, ap, ◌∙◌}
+use Rattle.std.proofs.Common.{List, ◌∙◌}
 use Rattle.jc_tree.specs.declared.statement.Formal.{Formal}
 use Rattle.jc_declares.specs.Breaks.{in_file, formals_broken}
-use Rattle.jc_declares.specs.Writing.{Reading, wrote_class, wrote_type}
+use Rattle.jc_declares.specs.Writing.{Reading, wrote_type}
 use Rattle.jc_looking.specs.Members.{known_in}
 use Rattle.jc_written.specs.At.{reading_at}
 use Rattle.jc_written.proofs.Counting.{turn, in_file-append}

@@ -1,6 +1,5 @@
 use Rattle.std.proofs.Common.{◌≡◌, ◌-◌, ◌++◌, length}
 use Rattle.jc_jvm.specs.Objects.{arrays_within, cells_of, nest}
-use Rattle.jc_jvm.specs.Types.{shallower}
 use Rattle.jc_nests.proofs.nests.+make_nest.Given as goal
 
 abbrev pub decreases-make_nest : goal.decreases-make_nest

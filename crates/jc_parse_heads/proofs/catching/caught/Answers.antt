@@ -1,4 +1,5 @@
 use Rattle.std.proofs.Common.{map, sym, subst, arith, rules}
+use Rattle.jc_parse_parts.proofs.PartInsides.{class_inside}
 use Rattle.jc_lexer.specs.declared.token.Key.TheVariants as key_of
 use Rattle.jc_lexer.specs.declared.token.Sign.TheVariants as sign_of
 use Rattle.jc_reading.specs.Giving.{Gives}
@@ -8,7 +9,6 @@ use Rattle.jc_parse_heads.proofs.Joinings.{two_gives}
 use Rattle.jc_parse_nodes.specs.declared.head_parts.Caught.{Caught}
 use Rattle.jc_parse_heads.specs.HeadCode.{closed_name_run}
 use Rattle.jc_parse_heads.proofs.CatchForms.{caught_is, caught_node}
-use Rattle.jc_parse_heads.proofs.HeadInsides.{class_inside}
 use Rattle.jc_parse_heads.proofs.catching.caught.Goals as goal
 
 pub each-requires : goal.each-requires

@@ -1,6 +1,6 @@
 use Rattle.std.proofs.Common.{◌-◌, ◌+◌, ◌∙◌, ℕ, List, length, position, sym, ap, arith}
 use Rattle.std.specs.declared.option.Option.{Option}
-use Rattle.jc_selecting.specs.Found.{found_on, is_number, own_of}
+use Rattle.jc_selecting.specs.Found.{found_on, is_number}
 use Rattle.jc_selecting.proofs.Lines.{walk_end, walk_found, walk_more, walk_over}
 use Rattle.jc_selecting.proofs.walk.walk.Goals as goal
 

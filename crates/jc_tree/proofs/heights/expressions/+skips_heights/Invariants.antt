@@ -1,5 +1,5 @@
 use Rattle.std.proofs.Common.{◌≡◌, drop, map, max}
-use Rattle.jc_tree.specs.Heights.{capped, most, skip_part_height, skip_height}
+use Rattle.jc_tree.specs.Heights.{capped, most, skip_part_height}
 use Rattle.jc_tree.proofs.heights.expressions.+skips_heights.Given as goal
 
 abbrev pub invariant-skip_parts_height-loop-node : goal.invariant-skip_parts_height-loop-node

@@ -1,5 +1,5 @@
 use Rattle.std.proofs.Common.{◌≡◌, drop, map, max}
-use Rattle.jc_tree.specs.Heights.{capped, most, class_height, part_height, arg_height}
+use Rattle.jc_tree.specs.Heights.{capped, most, part_height, arg_height}
 use Rattle.jc_tree.proofs.heights.types.+types_heights.Given as goal
 
 abbrev pub invariant-parts_height-loop-node : goal.invariant-parts_height-loop-node

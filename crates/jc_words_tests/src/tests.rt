@@ -1,6 +1,6 @@
 //! Command lines, and what they ask for.
-use crate::{Job, UsageFault, read_words};
 use jc_rules::Stop;
+use jc_words::{Job, UsageFault, read_words};
 use std::alloc::{AllocError, Global};
 use std::process::Abort;
 use std::test::Fail;

@@ -1,0 +1,5 @@
+//! Tests of `jc_words`, apart from it: a crate with tests is proved twice.
+#![tactic(auto)]
+
+#[cfg(test)]
+mod tests;
