@@ -16,6 +16,7 @@ use jc_rules::{Items, Place, Refusal, Rule, Stop, Text, WantOfMemory};
 use jc_small::compile;
 use jc_words::Job;
 use std::alloc::Global;
+use std::mem::forget;
 
 /// The class of a job's one source. None where the job isn't small.
 #[tactic(auto, using(crate::proofs::Stages::one_reading))]
@@ -28,10 +29,13 @@ fn job_class(
     ensures refused { IfErr result (λ stop. IsBreak texts.now stop) }
 {
     let lists = tokens_of(alloc, texts)?;
-    match lists.slice() {
-        [tokens] if job.arguments.is_empty() => Ok(compile(alloc, tokens.slice())?),
+    let class = match lists.slice() {
+        [tokens] if job.arguments.is_empty() => compile(alloc, tokens.slice()),
         _ => Ok(None),
-    }
+    };
+    // The tokens stand until the program ends: to free those of a large source takes time.
+    forget(lists);
+    Ok(class?)
 }
 
 /// Whether the job names a class to run that isn't `Main`.
@@ -93,7 +97,7 @@ fn run_main<K: Keys, O: Paper>(
 {
     let mut classes = Items::new(alloc);
     classes.push(class)?;
-    let main = Text::of(String::from_str(alloc, "Main")?);
+    let main = Text::copied(alloc, "Main")?;
     match Machine::load(alloc, classes, &main, &[]) {
         Ok(mut machine) => machine.run_for(steps, keys, out),
         Err(Stop::Refused(_)) => unreachable!(),

@@ -19,7 +19,7 @@ pub fn member_words(
     name: &str,
 ) -> Read<String> {
     let ty = read_type(alloc, scope, ty)?;
-    let name = Text::of(String::from_str(alloc, name)?);
+    let name = Text::copied(alloc, name)?;
     let index = method_index(alloc, table)?;
     let found = members(alloc, table, &index, &ty, &name)?;
     let mut out = String::new(alloc);

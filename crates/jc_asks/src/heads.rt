@@ -171,7 +171,7 @@ pub fn add_variable(
     let bounds = read_bounds(alloc, scope, bound.unwrap_or("Object"))?;
     let variable = VariableDecl {
         place: NOWHERE,
-        name: Text::of(String::from_str(alloc, name)?),
+        name: Text::copied(alloc, name)?,
         owner,
         bounds: implied(alloc, bounds)?,
     };
@@ -214,7 +214,7 @@ fn only_scope(alloc: Global) -> jc_types::Scope {
         outer: None,
         of: ScopeOf::Unit {
             own: Names::new(alloc),
-            package: Text::of(String::new(alloc)),
+            package: Text::empty(),
             demands: Items::new(alloc),
         },
     }
@@ -231,9 +231,9 @@ fn class_decl(
 ) -> Result<ClassDecl, WantOfMemory> {
     Ok(ClassDecl {
         place: NOWHERE,
-        name: Text::of(String::from_str(alloc, name)?),
-        binary: Text::of(String::from_str(alloc, name)?),
-        package: Text::of(String::new(alloc)),
+        name: Text::copied(alloc, name)?,
+        binary: Text::copied(alloc, name)?,
+        package: Text::empty(),
         outer: None,
         members: Items::new(alloc),
         scope: ScopeId(0),

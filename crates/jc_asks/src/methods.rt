@@ -110,7 +110,7 @@ pub fn method_decl(alloc: Global, class: ClassId, name: &str) -> Result<MethodDe
     Ok(MethodDecl {
         place: NOWHERE,
         class,
-        name: Text::of(String::from_str(alloc, name)?),
+        name: Text::copied(alloc, name)?,
         kind: MethodKind::Method,
         modifiers: MODIFIERS,
         scope: ScopeId(0),

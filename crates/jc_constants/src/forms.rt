@@ -175,7 +175,7 @@ fn constant_expr(
             more,
             operand,
         } => {
-            let ops = prefix_operators(alloc, *first, more.slice())?;
+            let ops = prefix_operators(alloc, *first, more.get().slice())?;
             let operand = constant_expr(alloc, scene, reading, file, operand.get())?;
             prefixed(alloc, ops, operand)
         }

@@ -244,7 +244,7 @@ fn implied_constructor(
 ) -> Result<MethodDecl, WantOfMemory>
     ensures { (K : Knowledge) (m : ℕ) → IfOk result (λ it. it ≡ method_decl heads.now K m (record { class = at.class; scope = at.scope; form = site.ImpliedConstructor })) }
 {
-    let name = Text::of(String::from_str(alloc, class_name(heads, at.class))?);
+    let name = Text::copied(alloc, class_name(heads, at.class))?;
     let modifiers = implied_constructor_modifiers(access_of(heads, at.class));
     let kind = MethodKind::ImpliedConstructor;
     Ok(implied_method(alloc, heads, at, name, kind, modifiers))
@@ -258,7 +258,7 @@ fn static_initialiser(
 ) -> Result<MethodDecl, WantOfMemory>
     ensures { (K : Knowledge) (m : ℕ) → IfOk result (λ it. it ≡ method_decl heads.now K m (record { class = at.class; scope = at.scope; form = site.StaticInitialiser })) }
 {
-    let name = Text::of(String::from_str(alloc, "<clinit>")?);
+    let name = Text::copied(alloc, "<clinit>")?;
     let modifiers = static_initialiser_modifiers();
     let kind = MethodKind::StaticInitialiser;
     Ok(implied_method(alloc, heads, at, name, kind, modifiers))

@@ -76,7 +76,7 @@ fn written(alloc: Global, word: &str) -> Result<Written, WantOfMemory> {
 }
 
 fn text(alloc: Global, word: &str) -> Result<Text, WantOfMemory> {
-    Ok(Text::of(String::from_str(alloc, word)?))
+    Text::copied(alloc, word)
 }
 
 // The variables from a number on.

@@ -9,7 +9,6 @@ ghost use Rattle.jc_grammar.specs.Worked.{WorkedTrees};
 ghost use Rattle.jc_grammar.specs.Before.{TokensComeFirst};
 ghost use Rattle.jc_grammar.specs.Firsts.{FirstsAreTold};
 ghost use Rattle.jc_grammar.specs.Laws.{TypesAreTold, ExpressionsAreTold, StatementsAreTold};
-ghost use Rattle.jc_grammar.specs.Spelling.{SpellsType, BeginsType, NoTypeBegins, SpellsExpr, BeginsExpr, NoExprBegins, SpellsFile, BeginsFile, NoFileBegins};
 
 use jc_lexer::Key;
 use jc_tree::{BinaryOp, PrimitiveWord};

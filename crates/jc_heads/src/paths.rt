@@ -60,7 +60,7 @@ fn pointed(alloc: Global, declared: &Package) -> Result<Text, WantOfMemory>
         name.push_str(".")?;
         name.push_str(part.text.str())?;
     }
-    Ok(Text::of(name))
+    Text::copied(alloc, name.as_str())
 }
 
 /// The name of a package with points, empty for the unnamed one.
@@ -68,7 +68,7 @@ pub fn package_name(alloc: Global, declared: &Option<Package>) -> Result<Text, W
     ensures { IfOk result (λ name. name ≡ package_name declared.now) }
 {
     match declared {
-        None => Ok(Text::of(String::new(alloc))),
+        None => Ok(Text::empty()),
         Some(declared) => pointed(alloc, declared),
     }
 }

@@ -24,7 +24,7 @@ fn longer(alloc: Global, package: &Text, name: &Text) -> Result<Text, WantOfMemo
     let mut text = String::from_str(alloc, package.str())?;
     text.push_str(".")?;
     text.push_str(name.str())?;
-    Ok(Text::of(text))
+    Text::copied(alloc, text.as_str())
 }
 
 fn next_in_package(
@@ -71,8 +71,7 @@ pub fn imported(
     requires { IsIndex declared.now.heads.now declared.now.index.now }
     ensures { IfOk result (λ it. found_of it ≡ imported declared.now.heads.now import.now) }
 {
-    let first = String::from_str(alloc, import.path.first.str())?;
-    let mut found = Found::InPackage(Text::of(first));
+    let mut found = Found::InPackage(Text::copied(alloc, import.path.first.str())?);
     for name in import.path.more.slice() {
         found = next_found(alloc, declared, &found, name)?;
     }

@@ -71,10 +71,7 @@ fn copy_found(alloc: Global, found: &Found) -> Result<Found, WantOfMemory>
     ensures { IfOk result (λ copy. found_of copy ≡ found_of found.now) }
 {
     match found {
-        Found::InPackage(package) => Ok(Found::InPackage(Text::of(String::from_str(
-            alloc,
-            package.str(),
-        )?))),
+        Found::InPackage(package) => Ok(Found::InPackage(Text::copied(alloc, package.str())?)),
         Found::AtClass(class) => Ok(Found::AtClass(*class)),
         Found::Nowhere => Ok(Found::Nowhere),
     }

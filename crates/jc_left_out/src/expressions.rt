@@ -28,7 +28,9 @@ pub fn in_expr(node: &Expr) -> Option<u32>
         Expr::Cast { operand, .. } => in_expr(operand.get()),
         Expr::Postfix { of, .. } => in_expr(of.get()),
         Expr::Field { of, .. } => in_expr(of.get()),
-        Expr::Call { of, actuals, .. } => earlier(in_expr(of.get()), in_exprs(actuals.slice())),
+        Expr::Call { of, actuals, .. } => {
+            earlier(in_expr(of.get()), in_exprs(actuals.get().slice()))
+        }
         Expr::Index { of, index } => earlier(in_expr(of.get()), in_expr(index.get())),
         Expr::InnerNew { of, creation } => earlier(
             Some(first_offset_of_expr(of.get())),
@@ -37,10 +39,10 @@ pub fn in_expr(node: &Expr) -> Option<u32>
         Expr::Literal { .. } => None,
         Expr::This { .. } => None,
         Expr::SuperField { .. } => None,
-        Expr::SuperCall { actuals, .. } => in_exprs(actuals.slice()),
+        Expr::SuperCall { actuals, .. } => in_exprs(actuals.get().slice()),
         Expr::Paren { inner, .. } => in_expr(inner.get()),
         Expr::Name(_) => None,
-        Expr::Invoke { actuals, .. } => in_exprs(actuals.slice()),
+        Expr::Invoke { actuals, .. } => in_exprs(actuals.get().slice()),
         Expr::New { creation, .. } => in_creation(creation.get()),
         Expr::ClassLiteral { ty } => Some(first_offset_of_type(ty.get())),
         Expr::VoidLiteral { at } => Some(*at),

@@ -1,5 +1,5 @@
 //! The first piece of a text: white space, a comment or a token (JLS 3.5).
-ghost use Rattle.std.specs.Prelude.{◌≡◌, ◌+◌, ◌<◌, ◌≤◌, length, IfOk, IfSome, string_bytes};
+ghost use Rattle.std.specs.Prelude.{◌≡◌, ◌+◌, ◌<◌, ◌≤◌, length, IfOk, IfSome};
 ghost use Rattle.jc_lexer.specs.Lexemes.{torn, is_ended, closes_at, closing, comment, word_step, word, numeric, character, string_step, flawed, sign, lexeme, first, IsProgress, begins_lexeme};
 ghost use Rattle.jc_lexer.specs.Numbers.{number};
 
@@ -13,7 +13,7 @@ use crate::symbol::{
     is_space, run_length, word_part, word_start,
 };
 use crate::token::TokenKind;
-use jc_rules::{Text, WantOfMemory};
+use jc_rules::{Boxed, Text, WantOfMemory};
 use std::alloc::Global;
 
 /// What a text begins with.
@@ -90,31 +90,36 @@ fn comment(text: &[Symbol]) -> Step
 }
 
 #[tactic(auto, unfolding(crate::specs::Words::word_kind))]
-fn word_step(text: String, len: usize) -> Step
-    ensures { result ≡ word_step (string_bytes text) len }
+fn word_step(alloc: Global, text: &str, len: usize) -> Result<Step, WantOfMemory>
+    ensures { IfOk result (λ step. step ≡ word_step text.now len) }
 {
-    let kind = match key_of(text.as_str()) {
+    let kind = match key_of(text) {
         Some(key) => TokenKind::Key(key),
-        None => TokenKind::Word(Text::of(text)),
+        None => TokenKind::Word(Text::copied(alloc, text)?),
     };
-    Step::Lexeme { kind, len }
+    Ok(Step::Lexeme { kind, len })
 }
 
-/// The keyword or the identifier whose first letter stands before the text.
+/// The keyword or the identifier whose first letter stands before the text. What `letters` held is lost.
 #[tactic(auto, unfolding(crate::specs::Lexemes::word))]
-fn word(alloc: Global, letter: char, text: &[Symbol]) -> Result<Step, WantOfMemory>
+fn word(
+    alloc: Global,
+    letters: &mut String,
+    letter: char,
+    text: &[Symbol],
+) -> Result<Step, WantOfMemory>
     ensures value { IfOk result (λ step. step ≡ word letter text.now) }
     ensures progress { IfOk result (λ step. IsProgress step) }
 {
-    let mut word = String::new(alloc);
-    word.push(letter)?;
+    letters.clear();
+    letters.push(letter)?;
     for (n, symbol) in text.iter().enumerate() {
         match word_part(symbol.code) {
-            Some(part) => word.push(part)?,
-            None => return Ok(word_step(word, n + 1)),
+            Some(part) => letters.push(part)?,
+            None => return word_step(alloc, letters.as_str(), n + 1),
         }
     }
-    Ok(word_step(word, text.len() + 1))
+    word_step(alloc, letters.as_str(), text.len() + 1)
 }
 
 /// The literal of a text that begins with a digit.
@@ -188,7 +193,7 @@ fn string(alloc: Global, text: &[Symbol]) -> Result<Step, WantOfMemory>
 {
     match string_body(alloc, behind(text, 1))? {
         StringBody::Closed { units, len } => Ok(Step::Lexeme {
-            kind: TokenKind::StringLit(units),
+            kind: TokenKind::StringLit(Boxed::new(alloc, units)?),
             len: len + 1,
         }),
         StringBody::Broken(flaw) => Ok(flawed(flaw, text)),
@@ -219,13 +224,13 @@ fn sign(text: &[Symbol]) -> Step
 
 /// The lexeme that a text begins with, where it begins with no white space or comment and doesn't end.
 #[tactic(auto, unfolding(crate::specs::Lexemes::lexeme))]
-fn lexeme(alloc: Global, text: &[Symbol]) -> Result<Step, WantOfMemory>
+fn lexeme(alloc: Global, letters: &mut String, text: &[Symbol]) -> Result<Step, WantOfMemory>
     ensures value { IfOk result (λ step. step ≡ lexeme text.now) }
     ensures progress { IfOk result (λ step. IsProgress step) }
 {
     let code = code_at(text, 0);
     if let Some(letter) = word_start(code) {
-        return word(alloc, letter, behind(text, 1));
+        return word(alloc, letters, letter, behind(text, 1));
     }
     if is_decimal(code) {
         return Ok(numeric(text));
@@ -244,9 +249,9 @@ fn lexeme(alloc: Global, text: &[Symbol]) -> Result<Step, WantOfMemory>
     Ok(sign(text))
 }
 
-/// What a text begins with.
+/// What a text begins with. The string is for the letters of a word, so that a short one takes no memory.
 #[tactic(auto, unfolding(crate::specs::Lexemes::first))]
-pub fn first(alloc: Global, text: &[Symbol]) -> Result<Step, WantOfMemory>
+pub fn first(alloc: Global, letters: &mut String, text: &[Symbol]) -> Result<Step, WantOfMemory>
     ensures value { IfOk result (λ step. step ≡ first text.now) }
     ensures progress { IfOk result (λ step. IsProgress step) }
 {
@@ -266,7 +271,7 @@ pub fn first(alloc: Global, text: &[Symbol]) -> Result<Step, WantOfMemory>
     if is(code, b'/') && is(code_at(text, 1), b'*') {
         return Ok(comment(text));
     }
-    lexeme(alloc, text)
+    lexeme(alloc, letters, text)
 }
 
 /// Whether a text begins with a lexeme: it doesn't end, and begins with no white space or comment.

@@ -16,9 +16,10 @@ fn lexed_text(alloc: Global, text: &[Symbol]) -> Result<Items<Token>, Stop<LexFa
     ensures fault { IfErr result (λ stop. IsTextFault text.now stop) }
 {
     let mut list = Items::new(alloc);
+    let mut letters = String::new(alloc);
     let mut rest = text;
     while !rest.is_empty() {
-        match first(alloc, rest)? {
+        match first(alloc, &mut letters, rest)? {
             Step::Gap(len) => rest = behind(rest, len),
             Step::Lexeme { kind, len } => {
                 let next = behind(rest, len);

@@ -1,5 +1,5 @@
 //! Tokens: keywords, signs, identifiers and literals.
-use jc_rules::{Items, Text};
+use jc_rules::{Boxed, Items, Text};
 
 /// A keyword (JLS 3.9), or one of the literals `true`, `false` and `null` (JLS 3.10.3, 3.10.7), which are no identifiers.
 #[derive(Clone, Copy, Debug, PartialEq, Eq, Hash)]
@@ -166,7 +166,7 @@ pub enum TokenKind {
     /// A character literal: its UTF-16 unit (JLS 3.10.4).
     CharLit(u16),
     /// A string literal: its UTF-16 units (JLS 3.10.5).
-    StringLit(Items<u16>),
+    StringLit(Boxed<Items<u16>>),
     Sign(Sign),
 }
 

@@ -42,7 +42,7 @@ fn told_kind(alloc: Global, kind: &TokenKind) -> Result<String, Fail> {
             if *decimal { "" } else { "#" }
         )?,
         TokenKind::CharLit(unit) => format!(in alloc; "'{unit}'")?,
-        TokenKind::StringLit(units) => format!(in alloc; "{:?}", units.slice())?,
+        TokenKind::StringLit(units) => format!(in alloc; "{:?}", units.get().slice())?,
         TokenKind::Sign(sign) => format!(in alloc; "{sign:?}")?,
     })
 }

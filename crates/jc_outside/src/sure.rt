@@ -81,7 +81,7 @@ impl ClassShelf for SureClasses {
     ghost faults = { λ _. 0 };
 
     fn put(&mut self, name: &str, bytes: &[u8]) -> Result<(), OutsideError> {
-        let name = Text::of(String::from_str(self.alloc, name)?);
+        let name = Text::copied(self.alloc, name)?;
         let bytes = Items::of(bytes.to_vec(self.alloc)?);
         self.files.push(FileEntry { name, bytes })?;
         Ok(())

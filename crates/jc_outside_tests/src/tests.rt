@@ -1,13 +1,13 @@
 //! What no clause says of `jc_outside`.
 use jc_outside::*;
-use jc_rules::{Items, Text};
-use std::alloc::{AllocError, Global};
+use jc_rules::{Items, Text, WantOfMemory};
+use std::alloc::Global;
 use std::io::{ErrorKind, Read, Write};
 use std::test::Fail as TestFail;
 use std::{fs, io};
 
-fn entry(alloc: Global, name: &str, bytes: &[u8]) -> Result<FileEntry, AllocError> {
-    let name = Text::of(String::from_str(alloc, name)?);
+fn entry(alloc: Global, name: &str, bytes: &[u8]) -> Result<FileEntry, WantOfMemory> {
+    let name = Text::copied(alloc, name)?;
     let bytes = Items::of(bytes.to_vec(alloc)?);
     Ok(FileEntry { name, bytes })
 }

@@ -35,7 +35,7 @@ pub fn ends_open(operand: &Operand) -> bool
 {
     match operand {
         Operand::Binary { .. } => false,
-        Operand::InstanceOf { ty } => takes_args(ty),
+        Operand::InstanceOf { ty } => takes_args(ty.get()),
     }
 }
 
@@ -82,7 +82,7 @@ pub fn instance(
 {
     let found = type_within(alloc, tokens, height)?;
     Ok(Found {
-        value: instance_node(found.value),
+        value: instance_node(alloc, found.value)?,
         rest: found.rest,
         left: found.left,
     })

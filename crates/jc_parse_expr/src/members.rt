@@ -66,7 +66,7 @@ fn called(
     match identifier(alloc, tokens) {
         Ok(name) => {
             let actuals = actuals(alloc, name.rest, height);
-            called_with(type_args, name, actuals)
+            called_with(alloc, type_args, name, actuals)
         }
         Err(Halt::Stopped(left)) => Err(Halt::Stopped(left)),
         Err(Halt::WantOfMemory) => Err(Halt::WantOfMemory),
@@ -109,7 +109,7 @@ pub fn started_name(
     match identifier(alloc, tokens) {
         Ok(name) => {
             let actuals = actuals(alloc, name.rest, height);
-            started_with(name, actuals)
+            started_with(alloc, name, actuals)
         }
         Err(Halt::Stopped(left)) => Err(Halt::Stopped(left)),
         Err(Halt::WantOfMemory) => Err(Halt::WantOfMemory),

@@ -7,7 +7,7 @@ ghost use Rattle.jc_parse_expr.specs.Nodes.{assign_node, binary_node, cast_node,
 
 use crate::measured::Measured;
 use jc_reading::{boxed_beside, three_boxed, two_boxed, without};
-use jc_rules::{Items, WantOfMemory};
+use jc_rules::{Boxed, Items, WantOfMemory};
 use jc_tree::{AssignOp, BinaryOp, Expr, Operand, PrefixOp, TypeTree, type_height};
 use std::alloc::Global;
 
@@ -78,7 +78,7 @@ pub fn prefix_node(
     ensures { IfOk result (λ node. node ≡ prefix_node first more operand) }
 {
     let height = operand.height.saturating_add(1);
-    let (operand, more) = boxed_beside(alloc, operand.tree, more)?;
+    let (operand, more) = two_boxed(alloc, operand.tree, more)?;
     Ok(Measured {
         tree: Expr::Prefix {
             first,
@@ -121,12 +121,14 @@ pub fn binary_node(op: BinaryOp, right: Measured<Expr>) -> Measured<Operand>
 
 /// `instanceof` with the type on its right (JLS 15.20.2).
 #[tactic(auto, using(crate::proofs::NodeHeights::height_of_instance))]
-pub fn instance_node(ty: TypeTree) -> Measured<Operand>
-    ensures { result ≡ measured_operand (operand_of.InstanceOf ty) }
+pub fn instance_node(alloc: Global, ty: TypeTree) -> Result<Measured<Operand>, WantOfMemory>
+    ensures { IfOk result (λ r. r ≡ measured_operand (operand_of.InstanceOf ty)) }
 {
     let height = type_height(&ty);
-    Measured {
-        tree: Operand::InstanceOf { ty },
+    Ok(Measured {
+        tree: Operand::InstanceOf {
+            ty: Boxed::new(alloc, ty)?,
+        },
         height,
-    }
+    })
 }

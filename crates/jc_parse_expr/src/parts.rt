@@ -1,5 +1,5 @@
 //! Parts of expressions whose operands aren't built yet.
-use jc_rules::Items;
+use jc_rules::{Boxed, Items};
 use jc_tree::{Creation, Expr, Ident, Init, TypeArg};
 
 /// A name with what calls it: behind a point, behind `super` or as a start.
@@ -7,9 +7,9 @@ use jc_tree::{Creation, Expr, Ident, Init, TypeArg};
 pub enum MemberTree {
     Field(Ident),
     Call {
-        type_args: Items<TypeArg>,
-        name: Ident,
-        actuals: Items<Expr>,
+        type_args: Boxed<Items<TypeArg>>,
+        name: Boxed<Ident>,
+        actuals: Boxed<Items<Expr>>,
     },
 }
 

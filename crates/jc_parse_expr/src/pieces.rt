@@ -97,7 +97,10 @@ fn literal_of(alloc: Global, kind: &TokenKind) -> Result<Option<Literal>, WantOf
             decimal: *decimal,
         })),
         TokenKind::CharLit(unit) => Ok(Some(Literal::Char(*unit))),
-        TokenKind::StringLit(units) => Ok(Some(Literal::String(copy_units(alloc, units.slice())?))),
+        TokenKind::StringLit(units) => {
+            let units = copy_units(alloc, units.get().slice())?;
+            Ok(Some(Literal::String(units)))
+        }
         TokenKind::Key(Key::True) => Ok(Some(Literal::Boolean(true))),
         TokenKind::Key(Key::False) => Ok(Some(Literal::Boolean(false))),
         TokenKind::Key(Key::Null) => Ok(Some(Literal::Null)),

@@ -146,6 +146,7 @@ fn object_of<'a>(
 #[tactic(auto, using(crate::proofs::JointCode::called_reads, crate::proofs::JointCode::called_stops))]
 #[inline(never)]
 pub fn called_with<'a>(
+    alloc: Global,
     type_args: Items<TypeArg>,
     name: Found<'_, Ident>,
     actuals: Result<Found<'a, Measured<Items<Expr>>>, Halt>,
@@ -156,11 +157,10 @@ pub fn called_with<'a>(
         Ok(actuals) => {
             let left = name.left.min(actuals.left);
             let rest = actuals.rest;
-            Ok(Found {
-                value: call_part(type_args, name.value, actuals.value),
-                rest,
-                left,
-            })
+            match call_part(alloc, type_args, name.value, actuals.value) {
+                Ok(value) => Ok(Found { value, rest, left }),
+                Err(WantOfMemory) => Err(Halt::WantOfMemory),
+            }
         }
         Err(Halt::Stopped(left)) => {
             let left = name.left.min(left);
@@ -184,11 +184,10 @@ pub fn named_with<'a>(
         Ok(actuals) => {
             let left = name.left.min(actuals.left);
             let rest = actuals.rest;
-            Ok(Found {
-                value: call_part(Items::new(alloc), name.value, actuals.value),
-                rest,
-                left,
-            })
+            match call_part(alloc, Items::new(alloc), name.value, actuals.value) {
+                Ok(value) => Ok(Found { value, rest, left }),
+                Err(WantOfMemory) => Err(Halt::WantOfMemory),
+            }
         }
         Err(Halt::Stopped(left)) => Ok(Found {
             value: field_part(name.value),
@@ -203,6 +202,7 @@ pub fn named_with<'a>(
 #[tactic(auto, using(crate::proofs::JointCode::started_reads, crate::proofs::JointCode::started_alone))]
 #[inline(never)]
 pub fn started_with<'a>(
+    alloc: Global,
     name: Found<'a, Ident>,
     actuals: Result<Found<'a, Measured<Items<Expr>>>, Halt>,
 ) -> Result<Found<'a, Measured<Expr>>, Halt>
@@ -212,11 +212,10 @@ pub fn started_with<'a>(
         Ok(actuals) => {
             let left = name.left.min(actuals.left);
             let rest = actuals.rest;
-            Ok(Found {
-                value: invoke_node(name.value, actuals.value),
-                rest,
-                left,
-            })
+            match invoke_node(alloc, name.value, actuals.value) {
+                Ok(value) => Ok(Found { value, rest, left }),
+                Err(WantOfMemory) => Err(Halt::WantOfMemory),
+            }
         }
         Err(Halt::Stopped(left)) => Ok(Found {
             value: name_node(name.value),

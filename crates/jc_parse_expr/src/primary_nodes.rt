@@ -12,7 +12,7 @@ ghost use Rattle.jc_parse_expr.specs.declared.parts.SelectorTree.TheVariants as 
 
 use crate::measured::Measured;
 use crate::parts::{MemberTree, Row, SelectorTree};
-use jc_reading::boxed_beside;
+use jc_reading::{boxed_beside, three_boxed};
 use jc_rules::{Boxed, Items, WantOfMemory};
 use jc_tree::{
     ArrayInit, BaseTree, ClassTree, Creation, Expr, Ident, Init, PostfixOp, Skip, TypeArg,
@@ -69,13 +69,18 @@ pub fn class_node(alloc: Global, ty: TypeTree) -> Result<Measured<Expr>, WantOfM
 
 /// `this` of a class around.
 #[tactic(auto, using(crate::proofs::HeightSteps::primes))]
-pub fn outer_node(first: Ident, more: Items<Ident>) -> Measured<Expr>
-    ensures { (result.tree ≡ expr_of.OuterThis first more) × IsMeasured expr_height result }
+pub fn outer_node(
+    alloc: Global,
+    first: Ident,
+    more: Items<Ident>,
+) -> Result<Measured<Expr>, WantOfMemory>
+    ensures { IfOk result (λ r. (r.tree ≡ expr_of.OuterThis first more) × IsMeasured expr_height r) }
 {
-    Measured {
+    let (more, first) = boxed_beside(alloc, more, first)?;
+    Ok(Measured {
         tree: Expr::OuterThis { first, more },
         height: 1,
-    }
+    })
 }
 
 /// An expression in parentheses.
@@ -118,17 +123,20 @@ pub fn changed_node(
 
 /// A call of a method by its name alone.
 #[tactic(auto, using(crate::proofs::HeightSteps::primes))]
-pub fn invoke_node(name: Ident, actuals: Measured<Items<Expr>>) -> Measured<Expr>
-    ensures tree { result.tree ≡ expr_of.Invoke name actuals.tree }
-    ensures height { IsMeasured exprs_height actuals → IsMeasured expr_height result }
+pub fn invoke_node(
+    alloc: Global,
+    name: Ident,
+    actuals: Measured<Items<Expr>>,
+) -> Result<Measured<Expr>, WantOfMemory>
+    ensures tree { IfOk result (λ r. r.tree ≡ expr_of.Invoke name actuals.tree) }
+    ensures height { IsMeasured exprs_height actuals → IfOk result (λ r. IsMeasured expr_height r) }
 {
-    Measured {
-        tree: Expr::Invoke {
-            name,
-            actuals: actuals.tree,
-        },
-        height: actuals.height.saturating_add(1),
-    }
+    let height = actuals.height.saturating_add(1);
+    let (actuals, name) = boxed_beside(alloc, actuals.tree, name)?;
+    Ok(Measured {
+        tree: Expr::Invoke { name, actuals },
+        height,
+    })
 }
 
 /// A member behind `super`.
@@ -301,22 +309,24 @@ pub fn field_part(name: Ident) -> Measured<MemberTree>
 
 /// A call behind a point.
 pub fn call_part(
+    alloc: Global,
     type_args: Items<TypeArg>,
     name: Ident,
     actuals: Measured<Items<Expr>>,
-) -> Measured<MemberTree>
-    ensures tree { result.tree ≡ member_of.Call type_args name actuals.tree }
-    ensures height { IsMeasured exprs_height actuals → IsMeasured member_height result }
+) -> Result<Measured<MemberTree>, WantOfMemory>
+    ensures tree { IfOk result (λ r. r.tree ≡ member_of.Call type_args name actuals.tree) }
+    ensures height { IsMeasured exprs_height actuals → IfOk result (λ r. IsMeasured member_height r) }
 {
     let height = args_height(type_args.slice()).max(actuals.height);
-    Measured {
+    let (type_args, name, actuals) = three_boxed(alloc, type_args, name, actuals.tree)?;
+    Ok(Measured {
         tree: MemberTree::Call {
             type_args,
             name,
-            actuals: actuals.tree,
+            actuals,
         },
         height,
-    }
+    })
 }
 
 /// An index as a selector.

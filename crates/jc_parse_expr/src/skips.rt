@@ -12,7 +12,7 @@ use crate::measured::Measured;
 use crate::pieces::{copy_units, is_at};
 use jc_lexer::{Sign, Token, TokenKind};
 use jc_reading::{Found, Halt, behind_sign, pushed, without};
-use jc_rules::{Items, WantOfMemory};
+use jc_rules::{Boxed, Items, WantOfMemory};
 use jc_tree::{Skip, SkipPart, copy_text};
 use std::alloc::Global;
 
@@ -45,7 +45,8 @@ fn copy_kind(alloc: Global, kind: &TokenKind) -> Result<TokenKind, WantOfMemory>
         }),
         TokenKind::CharLit(unit) => Ok(TokenKind::CharLit(*unit)),
         TokenKind::StringLit(units) => {
-            Ok(TokenKind::StringLit(copy_units(alloc, units.slice())?))
+            let units = Boxed::new(alloc, copy_units(alloc, units.get().slice())?)?;
+            Ok(TokenKind::StringLit(units))
         }
         TokenKind::Sign(sign) => Ok(TokenKind::Sign(*sign)),
     }

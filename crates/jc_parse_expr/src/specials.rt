@@ -233,7 +233,7 @@ fn named_node(
     ensures { IfOk result (λ r. (r.tree ≡ of_tail first more tail) × IsMeasured expr_height r) }
 {
     match tail {
-        NamesTail::This => Ok(outer_node(first, more)),
+        NamesTail::This => outer_node(alloc, first, more),
         NamesTail::Class(dims) => class_node(
             alloc,
             TypeTree {

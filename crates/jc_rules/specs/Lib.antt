@@ -1,3 +1,4 @@
 pub mod formers
 pub mod Lines
 pub mod Rules
+pub mod Texts

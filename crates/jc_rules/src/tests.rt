@@ -1,6 +1,6 @@
 //! Lines, texts of rules, and trees of boxes and lists.
-use crate::{Boxed, Items, Rule, Stage, Text, line_of, text_of};
-use std::alloc::{AllocError, Global};
+use crate::{Boxed, Items, Rule, Stage, Text, WantOfMemory, line_of, text_of};
+use std::alloc::Global;
 use std::test::Fail;
 
 #[test]
@@ -60,8 +60,8 @@ fn leaves_of(crown: &Crown) -> u64 {
     sum
 }
 
-fn leaf(alloc: Global) -> Result<Branch, AllocError> {
-    Ok(Branch::Leaf(Text::of(String::from_str(alloc, "leaf")?)))
+fn leaf(alloc: Global) -> Result<Branch, WantOfMemory> {
+    Ok(Branch::Leaf(Text::copied(alloc, "leaf")?))
 }
 
 #[test]

@@ -23,17 +23,24 @@ struct Words {
     arguments: Vec<Text>,
 }
 
+fn text(alloc: Global, word: &str) -> Result<Text, AllocError> {
+    match Text::copied(alloc, word) {
+        Ok(text) => Ok(text),
+        Err(WantOfMemory) => Err(AllocError),
+    }
+}
+
 fn line(rt: &HostRuntime) -> Result<Words, io::Error> {
     let alloc = rt.alloc();
-    let mut main = Text::of(String::new(alloc));
+    let mut main = Text::empty();
     let mut files = Vec::new(alloc);
     let mut arguments = Vec::new(alloc);
     let mut behind = false;
     for (n, word) in env::args(rt)?.enumerate() {
         if behind {
-            arguments.push(Text::of(word))?;
+            arguments.push(text(alloc, word.as_str())?)?;
         } else if n == 1 {
-            main = Text::of(word);
+            main = text(alloc, word.as_str())?;
         } else if word.as_str() == "--" {
             behind = true;
         } else if n > 1 {

@@ -179,7 +179,7 @@ fn one_type(alloc: Global, text: &[u8]) -> Result<WrittenTypes, WantOfMemory> {
 fn named(alloc: Global, letter: u8) -> Result<Text, WantOfMemory> {
     let mut name = String::new(alloc);
     name.push(letter as char)?;
-    Ok(Text::of(name))
+    Text::copied(alloc, name.as_str())
 }
 
 fn class(alloc: Global, letter: u8) -> Result<ClassDecl, WantOfMemory> {
@@ -196,7 +196,7 @@ fn class(alloc: Global, letter: u8) -> Result<ClassDecl, WantOfMemory> {
         place: NOWHERE,
         name: named(alloc, letter)?,
         binary: named(alloc, letter)?,
-        package: Text::of(String::new(alloc)),
+        package: Text::empty(),
         outer: None,
         members: Items::new(alloc),
         scope: ScopeId(0),
@@ -223,7 +223,7 @@ fn scope(alloc: Global) -> Scope {
         outer: None,
         of: ScopeOf::Unit {
             own: Names::new(alloc),
-            package: Text::of(String::new(alloc)),
+            package: Text::empty(),
             demands: Items::new(alloc),
         },
     }
@@ -239,7 +239,7 @@ pub fn library(alloc: Global) -> Result<Table, WantOfMemory> {
     for bound in BOUNDS {
         let variable = VariableDecl {
             place: NOWHERE,
-            name: Text::of(String::new(alloc)),
+            name: Text::empty(),
             owner: Owner::Class(ClassId(0)),
             bounds: one_type(alloc, bound)?,
         };

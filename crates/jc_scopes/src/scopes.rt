@@ -40,7 +40,7 @@ fn unit_scope(
     let imports = imports_of(&scene.declared, unit);
     Ok(ScopeOf::Unit {
         own: own_names(alloc, &scene.declared, members, unit)?,
-        package: Text::of(String::from_str(alloc, unit_package(heads, unit))?),
+        package: Text::copied(alloc, unit_package(heads, unit))?,
         demands: demands(alloc, &scene.declared, unit_file(heads, unit), imports)?,
     })
 }
@@ -66,7 +66,7 @@ fn inherited_members(
     let mut list = Items::new(alloc);
     for member in members {
         list.push(Inherited {
-            name: Text::of(String::from_str(alloc, member.0.str())?),
+            name: Text::copied(alloc, member.0.str())?,
             class: ClassId(member.1),
         })?;
     }

@@ -142,8 +142,8 @@ pub fn push_expr<'a>(
             ..
         } => {
             push_expr(uses, spot, of.get())?;
-            push_args(uses, spot, type_args.slice())?;
-            push_exprs(uses, spot, actuals.slice())
+            push_args(uses, spot, type_args.get().slice())?;
+            push_exprs(uses, spot, actuals.get().slice())
         }
         Expr::Index { of, index } => {
             push_expr(uses, spot, of.get())?;
@@ -158,11 +158,11 @@ pub fn push_expr<'a>(
             actuals,
             ..
         } => {
-            push_args(uses, spot, type_args.slice())?;
-            push_exprs(uses, spot, actuals.slice())
+            push_args(uses, spot, type_args.get().slice())?;
+            push_exprs(uses, spot, actuals.get().slice())
         }
         Expr::Paren { inner, .. } => push_expr(uses, spot, inner.get()),
-        Expr::Invoke { actuals, .. } => push_exprs(uses, spot, actuals.slice()),
+        Expr::Invoke { actuals, .. } => push_exprs(uses, spot, actuals.get().slice()),
         Expr::New { creation, .. } => push_creation(uses, spot, creation.get()),
         Expr::Literal { .. } => Ok(()),
         Expr::This { .. } => Ok(()),
@@ -216,7 +216,7 @@ fn push_operand<'a>(
 {
     match node {
         Operand::Binary { right, .. } => push_expr(uses, spot, right),
-        Operand::InstanceOf { ty } => push_part(uses, spot, BodyPart::Type(ty)),
+        Operand::InstanceOf { ty } => push_part(uses, spot, BodyPart::Type(ty.get())),
     }
 }
 

@@ -3,7 +3,7 @@ ghost use Rattle.std.specs.Prelude.{◌≡◌, ◌==◌, ℕ, ◌++◌, ◌∷�
 ghost use Rattle.jc_types.specs.declared.ids.FieldId.{FieldId};
 ghost use Rattle.jc_types.specs.declared.ids.MethodId.{MethodId};
 ghost use Rattle.jc_tree.specs.Offsets.{first_offset_of_head};
-ghost use Rattle.jc_declares.specs.Heads.{superclass_trees};
+ghost use Rattle.jc_declares.specs.Heads.{superclass_trees, binary_of};
 ghost use Rattle.jc_declares.specs.Making.{types, class_id, outer_id, or_object, written_classes, class_decl, numbered};
 ghost use Rattle.jc_declares.specs.Readings.{head_reading};
 ghost use Rattle.jc_declared.specs.Types.{with_types};
@@ -16,6 +16,7 @@ ghost use Rattle.jc_written.specs.At.{reading_at};
 use jc_declared::{
     no_types, push_classes as push_written_classes, push_object, push_written, variable_ids,
 };
+use jc_declares::Heads;
 use jc_groups::Members;
 use jc_heads::{
     head_at, interface_trees, is_interface_head, is_top, kind_of_head, modifiers_in_head,
@@ -157,7 +158,15 @@ fn super_types(
 fn text(alloc: Global, text: &str) -> Result<Text, WantOfMemory>
     ensures { IfOk result (λ it. it ≡ text.now) }
 {
-    Ok(Text::of(String::from_str(alloc, text)?))
+    Text::copied(alloc, text)
+}
+
+/// The binary name of a class with points.
+fn binary_text(alloc: Global, heads: &Heads, class: u64) -> Result<Text, WantOfMemory>
+    ensures { IfOk result (λ it. it ≡ binary_of heads.now class) }
+{
+    let name = binary_of(alloc, heads, class)?;
+    Text::copied(alloc, name.as_str())
 }
 
 /// Where a class of a number is declared: its file, the scope of its body, and whether it is a member of an interface.
@@ -192,7 +201,7 @@ fn class_at(
             at: head_at(head),
         },
         name: copy_text(alloc, &name_in_head(head).text)?,
-        binary: Text::of(binary_of(alloc, heads, number)?),
+        binary: binary_text(alloc, heads, number)?,
         package: text(alloc, package_of(heads, number))?,
         outer: outer_id(round),
         members: class_ids(alloc, members.types.group(number))?,

@@ -9,7 +9,7 @@ use std::alloc::Global;
 pub fn copy_text(alloc: Global, text: &Text) -> Result<Text, WantOfMemory>
     ensures { IfOk result (λ copy. copy ≡ text.now) }
 {
-    Ok(Text::of(String::from_str(alloc, text.str())?))
+    Text::copied(alloc, text.str())
 }
 
 /// A copy of an identifier.

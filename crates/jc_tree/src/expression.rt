@@ -83,7 +83,8 @@ pub enum PostfixOp {
     Decrement,
 }
 
-/// An expression (JLS 15). A chain of binary operators of one level is one node, and so is a chain of prefix operators.
+/// An expression (JLS 15). A chain of binary operators of one level is one node, and so is a chain of prefix operators. What
+/// rarer forms hold stands in boxes, so that a node takes 40 bytes.
 #[derive(Drop)]
 #[cycle(expressions)]
 pub enum Expr {
@@ -103,7 +104,7 @@ pub enum Expr {
     },
     Prefix {
         first: PrefixOp,
-        more: Items<PrefixOp>,
+        more: Boxed<Items<PrefixOp>>,
         operand: Boxed<Expr>,
     },
     Cast {
@@ -121,9 +122,9 @@ pub enum Expr {
     },
     Call {
         of: Boxed<Expr>,
-        type_args: Items<TypeArg>,
-        name: Ident,
-        actuals: Items<Expr>,
+        type_args: Boxed<Items<TypeArg>>,
+        name: Boxed<Ident>,
+        actuals: Boxed<Items<Expr>>,
     },
     Index {
         of: Boxed<Expr>,
@@ -147,9 +148,9 @@ pub enum Expr {
     },
     SuperCall {
         at: u32,
-        type_args: Items<TypeArg>,
-        name: Ident,
-        actuals: Items<Expr>,
+        type_args: Boxed<Items<TypeArg>>,
+        name: Boxed<Ident>,
+        actuals: Boxed<Items<Expr>>,
     },
     Paren {
         at: u32,
@@ -158,7 +159,7 @@ pub enum Expr {
     Name(Ident),
     Invoke {
         name: Ident,
-        actuals: Items<Expr>,
+        actuals: Boxed<Items<Expr>>,
     },
     New {
         at: u32,
@@ -175,7 +176,7 @@ pub enum Expr {
     /// `Name.this`, which javag has not.
     OuterThis {
         first: Ident,
-        more: Items<Ident>,
+        more: Boxed<Items<Ident>>,
     },
 }
 
@@ -184,7 +185,7 @@ pub enum Expr {
 #[cycle(expressions)]
 pub enum Operand {
     Binary { op: BinaryOp, right: Expr },
-    InstanceOf { ty: TypeTree },
+    InstanceOf { ty: Boxed<TypeTree> },
 }
 
 /// What stands behind `new` (JLS 15.9, 15.10).

@@ -59,7 +59,8 @@ pub fn copy_expr(alloc: Global, expr: &Expr) -> Result<Expr, WantOfMemory>
             operand,
         } => {
             let operand = boxed(alloc, copy_expr(alloc, operand.get()));
-            match both(copy_prefixes(alloc, more.slice()), operand) {
+            let more = boxed(alloc, copy_prefixes(alloc, more.get().slice()));
+            match both(more, operand) {
                 Ok((more, operand)) => Ok(Expr::Prefix {
                     first: *first,
                     more,
@@ -98,9 +99,10 @@ pub fn copy_expr(alloc: Global, expr: &Expr) -> Result<Expr, WantOfMemory>
             actuals,
         } => {
             let of = boxed(alloc, copy_expr(alloc, of.get()));
-            let name = copy_ident(alloc, name);
-            let named = both(copy_args(alloc, type_args.slice()), name);
-            match both(both(of, named), copy_exprs(alloc, actuals.slice())) {
+            let type_args = boxed(alloc, copy_args(alloc, type_args.get().slice()));
+            let named = both(type_args, boxed(alloc, copy_ident(alloc, name.get())));
+            let actuals = boxed(alloc, copy_exprs(alloc, actuals.get().slice()));
+            match both(both(of, named), actuals) {
                 Ok(((of, (type_args, name)), actuals)) => Ok(Expr::Call {
                     of,
                     type_args,
@@ -141,9 +143,10 @@ pub fn copy_expr(alloc: Global, expr: &Expr) -> Result<Expr, WantOfMemory>
             name,
             actuals,
         } => {
-            let name = copy_ident(alloc, name);
-            let named = both(copy_args(alloc, type_args.slice()), name);
-            match both(named, copy_exprs(alloc, actuals.slice())) {
+            let type_args = boxed(alloc, copy_args(alloc, type_args.get().slice()));
+            let named = both(type_args, boxed(alloc, copy_ident(alloc, name.get())));
+            let actuals = boxed(alloc, copy_exprs(alloc, actuals.get().slice()));
+            match both(named, actuals) {
                 Ok(((type_args, name), actuals)) => Ok(Expr::SuperCall {
                     at: *at,
                     type_args,
@@ -162,7 +165,8 @@ pub fn copy_expr(alloc: Global, expr: &Expr) -> Result<Expr, WantOfMemory>
             Err(fault) => Err(fault),
         },
         Expr::Invoke { name, actuals } => {
-            match both(copy_ident(alloc, name), copy_exprs(alloc, actuals.slice())) {
+            let actuals = boxed(alloc, copy_exprs(alloc, actuals.get().slice()));
+            match both(copy_ident(alloc, name), actuals) {
                 Ok((name, actuals)) => Ok(Expr::Invoke { name, actuals }),
                 Err(fault) => Err(fault),
             }
@@ -177,7 +181,8 @@ pub fn copy_expr(alloc: Global, expr: &Expr) -> Result<Expr, WantOfMemory>
         },
         Expr::VoidLiteral { at } => Ok(Expr::VoidLiteral { at: *at }),
         Expr::OuterThis { first, more } => {
-            match both(copy_ident(alloc, first), copy_idents(alloc, more.slice())) {
+            let more = boxed(alloc, copy_idents(alloc, more.get().slice()));
+            match both(copy_ident(alloc, first), more) {
                 Ok((first, more)) => Ok(Expr::OuterThis { first, more }),
                 Err(fault) => Err(fault),
             }
@@ -205,7 +210,7 @@ fn copy_operand(alloc: Global, operand: &Operand) -> Result<Operand, WantOfMemor
             Ok(right) => Ok(Operand::Binary { op: *op, right }),
             Err(fault) => Err(fault),
         },
-        Operand::InstanceOf { ty } => match copy_type(alloc, ty) {
+        Operand::InstanceOf { ty } => match boxed(alloc, copy_type(alloc, ty.get())) {
             Ok(ty) => Ok(Operand::InstanceOf { ty }),
             Err(fault) => Err(fault),
         },

@@ -1,7 +1,7 @@
 //! Literals, tokens, lists of names and of operators.
 ghost use Rattle.std.specs.Prelude.{◌≡◌, IfOk};
 
-use crate::together::added;
+use crate::together::{added, boxed};
 use jc_lexer::TokenKind;
 use jc_rules::{Items, WantOfMemory};
 use jc_tree::{Ident, Literal, PrefixOp, copy_ident, copy_text};
@@ -82,7 +82,10 @@ pub fn copy_token(alloc: Global, token: &TokenKind) -> Result<TokenKind, WantOfM
             decimal: *decimal,
         }),
         TokenKind::CharLit(unit) => Ok(TokenKind::CharLit(*unit)),
-        TokenKind::StringLit(units) => Ok(TokenKind::StringLit(copy_units(alloc, units.slice())?)),
+        TokenKind::StringLit(units) => {
+            let units = boxed(alloc, copy_units(alloc, units.get().slice()))?;
+            Ok(TokenKind::StringLit(units))
+        }
         TokenKind::Sign(sign) => Ok(TokenKind::Sign(*sign)),
     }
 }

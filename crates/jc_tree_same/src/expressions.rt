@@ -56,7 +56,7 @@ pub fn same_expr(a: &Expr, b: &Expr) -> bool
                 operand: other_operand,
             },
         ) => same_prefix(first, other_first)
-            && same_prefixes(more.slice(), other_more.slice())
+            && same_prefixes(more.get().slice(), other_more.get().slice())
             && same_expr(operand.get(), other_operand.get()),
         (
             Expr::Cast { at, ty, operand },
@@ -96,9 +96,9 @@ pub fn same_expr(a: &Expr, b: &Expr) -> bool
                 actuals: other_actuals,
             },
         ) => same_expr(of.get(), other_of.get())
-            && same_args(type_args.slice(), other_type_args.slice())
-            && same_ident(name, other_name)
-            && same_exprs(actuals.slice(), other_actuals.slice()),
+            && same_args(type_args.get().slice(), other_type_args.get().slice())
+            && same_ident(name.get(), other_name.get())
+            && same_exprs(actuals.get().slice(), other_actuals.get().slice()),
         (
             Expr::Index { of, index },
             Expr::Index {
@@ -145,9 +145,9 @@ pub fn same_expr(a: &Expr, b: &Expr) -> bool
                 actuals: other_actuals,
             },
         ) => at == other_at
-            && same_args(type_args.slice(), other_type_args.slice())
-            && same_ident(name, other_name)
-            && same_exprs(actuals.slice(), other_actuals.slice()),
+            && same_args(type_args.get().slice(), other_type_args.get().slice())
+            && same_ident(name.get(), other_name.get())
+            && same_exprs(actuals.get().slice(), other_actuals.get().slice()),
         (
             Expr::Paren { at, inner },
             Expr::Paren {
@@ -162,7 +162,8 @@ pub fn same_expr(a: &Expr, b: &Expr) -> bool
                 name: other_name,
                 actuals: other_actuals,
             },
-        ) => same_ident(name, other_name) && same_exprs(actuals.slice(), other_actuals.slice()),
+        ) => same_ident(name, other_name)
+            && same_exprs(actuals.get().slice(), other_actuals.get().slice()),
         (
             Expr::New { at, creation },
             Expr::New {
@@ -180,7 +181,8 @@ pub fn same_expr(a: &Expr, b: &Expr) -> bool
                 first: other_first,
                 more: other_more,
             },
-        ) => same_ident(first, other_first) && same_idents(more.slice(), other_more.slice()),
+        ) => same_ident(first, other_first)
+            && same_idents(more.get().slice(), other_more.get().slice()),
         _ => false,
     }
 }
@@ -212,7 +214,9 @@ fn same_operand(a: &Operand, b: &Operand) -> bool
                 right: other_right,
             },
         ) => op == other_op && same_expr(right, other_right),
-        (Operand::InstanceOf { ty }, Operand::InstanceOf { ty: other }) => same_type(ty, other),
+        (Operand::InstanceOf { ty }, Operand::InstanceOf { ty: other }) => {
+            same_type(ty.get(), other.get())
+        }
         _ => false,
     }
 }

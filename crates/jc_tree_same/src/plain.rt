@@ -104,7 +104,9 @@ pub fn same_token(a: &TokenKind, b: &TokenKind) -> bool
             },
         ) => value == other_value && long == other_long && decimal == other_decimal,
         (TokenKind::CharLit(it), TokenKind::CharLit(other)) => it == other,
-        (TokenKind::StringLit(it), TokenKind::StringLit(other)) => it.slice() == other.slice(),
+        (TokenKind::StringLit(it), TokenKind::StringLit(other)) => {
+            it.get().slice() == other.get().slice()
+        }
         (TokenKind::Sign(it), TokenKind::Sign(other)) => it == other,
         _ => false,
     }

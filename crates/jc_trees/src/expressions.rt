@@ -45,7 +45,7 @@ pub fn put_expr(alloc: Global, out: &mut String, expr: &Expr) -> Result<(), Allo
             more,
             operand,
         } => {
-            put_signs(out, *first, more.slice())?;
+            put_signs(out, *first, more.get().slice())?;
             put_expr(alloc, out, operand.get())?;
             out.push_str(")")
         }
@@ -79,8 +79,8 @@ pub fn put_expr(alloc: Global, out: &mut String, expr: &Expr) -> Result<(), Allo
             out.push_str("(call ")?;
             put_expr(alloc, out, of.get())?;
             out.push_str(" ")?;
-            put_applied(alloc, out, name, type_args.slice())?;
-            put_exprs(alloc, out, actuals.slice())?;
+            put_applied(alloc, out, name.get(), type_args.get().slice())?;
+            put_exprs(alloc, out, actuals.get().slice())?;
             out.push_str(")")
         }
         Expr::Index { of, index } => {
@@ -111,8 +111,8 @@ pub fn put_expr(alloc: Global, out: &mut String, expr: &Expr) -> Result<(), Allo
             ..
         } => {
             out.push_str("(super-call ")?;
-            put_applied(alloc, out, name, type_args.slice())?;
-            put_exprs(alloc, out, actuals.slice())?;
+            put_applied(alloc, out, name.get(), type_args.get().slice())?;
+            put_exprs(alloc, out, actuals.get().slice())?;
             out.push_str(")")
         }
         Expr::Paren { inner, .. } => {
@@ -124,7 +124,7 @@ pub fn put_expr(alloc: Global, out: &mut String, expr: &Expr) -> Result<(), Allo
         Expr::Invoke { name, actuals } => {
             out.push_str("(invoke ")?;
             put_ident(out, name)?;
-            put_exprs(alloc, out, actuals.slice())?;
+            put_exprs(alloc, out, actuals.get().slice())?;
             out.push_str(")")
         }
         Expr::New { creation, .. } => {
@@ -141,7 +141,7 @@ pub fn put_expr(alloc: Global, out: &mut String, expr: &Expr) -> Result<(), Allo
         Expr::OuterThis { first, more } => {
             out.push_str("(outer-this ")?;
             put_ident(out, first)?;
-            for name in more.slice() {
+            for name in more.get().slice() {
                 out.push_str(" ")?;
                 put_ident(out, name)?;
             }
@@ -171,7 +171,7 @@ fn put_operand(alloc: Global, out: &mut String, operand: &Operand) -> Result<(),
         }
         Operand::InstanceOf { ty } => {
             out.push_str(" (instanceof ")?;
-            put_type(alloc, out, ty)?;
+            put_type(alloc, out, ty.get())?;
         }
     }
     out.push_str(")")

@@ -55,7 +55,7 @@ pub fn put_token(alloc: Global, out: &mut String, kind: &TokenKind) -> Result<()
         TokenKind::Key(key) => out.push_str(key_text(*key)),
         TokenKind::Number { value, long, .. } => put_whole(alloc, out, *value, *long),
         TokenKind::CharLit(unit) => put_char(alloc, out, *unit),
-        TokenKind::StringLit(units) => put_string(alloc, out, units.slice()),
+        TokenKind::StringLit(units) => put_string(alloc, out, units.get().slice()),
         TokenKind::Sign(sign) => out.push_str(sign_text(*sign)),
     }
 }

@@ -1,6 +1,5 @@
 //! Names and their places.
-ghost use Rattle.std.specs.Prelude.{◌≡◌, [], ◌++◌, ◌∷◌, None, OnOk, OnErr, length, slice_get, string_bytes};
-ghost use Rattle.std.specs.Option.{option_copied, option_map};
+ghost use Rattle.std.specs.Prelude.{◌≡◌, [], ◌++◌, ◌∷◌, None, OnOk, OnErr, length, string_bytes};
 ghost use Rattle.indexmap.specs.IndexMap.{get_by_text};
 ghost use Rattle.jc_types.specs.Names.{named};
 
@@ -48,13 +47,6 @@ impl Names {
         count(&self.entries_by_name)
     }
 
-    /// The place of the name that was added at this turn, counted from 0.
-    pub fn place_at(&self, turn: usize) -> Option<u64>
-        ensures { result ≡ option_map (λ e. e.1) (slice_get self.now turn) }
-    {
-        value_at(&self.entries_by_name, turn)
-    }
-
     /// Adds a name that isn't there yet.
     pub fn add(&mut self, name: String, place: u64) -> Result<(), WantOfMemory>
         requires { named (string_bytes name) self.old ≡ None }
@@ -75,24 +67,6 @@ fn count(entries: &IndexMap<String, u64>) -> usize
     ensures { result ≡ length entries.now.entries }
 {
     entries.len()
-}
-
-fn key_at(entries: &IndexMap<String, u64>, turn: usize) -> Option<&str>
-    ensures { option_copied result ≡ option_map (λ e. string_bytes e.0) (slice_get entries.now.entries turn) }
-{
-    match entries.get_index(turn) {
-        Some((name, _)) => Some(name.as_str()),
-        None => None,
-    }
-}
-
-fn value_at(entries: &IndexMap<String, u64>, turn: usize) -> Option<u64>
-    ensures { result ≡ option_map (λ e. e.1) (slice_get entries.now.entries turn) }
-{
-    match entries.get_index(turn) {
-        Some((_, place)) => Some(*place),
-        None => None,
-    }
 }
 
 #[tactic(auto, using(crate::proofs::Finds::new_entry))]

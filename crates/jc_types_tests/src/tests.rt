@@ -41,9 +41,9 @@ fn list_of(alloc: Global, arg: Arg) -> Result<Ty, WantOfMemory> {
 fn class(alloc: Global, name: &str, vars: Items<VarId>) -> Result<ClassDecl, WantOfMemory> {
     Ok(ClassDecl {
         place: NOWHERE,
-        name: Text::of(String::from_str(alloc, name)?),
-        binary: Text::of(String::from_str(alloc, name)?),
-        package: Text::of(String::new(alloc)),
+        name: Text::copied(alloc, name)?,
+        binary: Text::copied(alloc, name)?,
+        package: Text::empty(),
         outer: None,
         members: Items::new(alloc),
         scope: ScopeId(0),
@@ -68,7 +68,7 @@ fn class(alloc: Global, name: &str, vars: Items<VarId>) -> Result<ClassDecl, Wan
 fn variable(alloc: Global, bound: Ty) -> Result<VariableDecl, WantOfMemory> {
     Ok(VariableDecl {
         place: NOWHERE,
-        name: Text::of(String::from_str(alloc, "T")?),
+        name: Text::copied(alloc, "T")?,
         owner: Owner::Class(ClassId(1)),
         bounds: one_type(alloc, bound)?,
     })

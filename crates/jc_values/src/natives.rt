@@ -179,8 +179,8 @@ pub fn class_name(
                 &program.table,
                 closed_erasure(alloc, &program.table, &object.kept),
             )?;
-            Ok(Text::of(name))
+            Text::copied(alloc, name.as_str())
         }
-        None => Ok(Text::of(String::new(alloc))),
+        None => Ok(Text::empty()),
     }
 }

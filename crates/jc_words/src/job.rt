@@ -164,7 +164,7 @@ fn folder(
     match (out, run) {
         (Some(out), _) => Ok(Some(out)),
         (None, Some(_)) => Ok(None),
-        (None, None) => Ok(Some(Text::of(String::from_str(alloc, ".")?))),
+        (None, None) => Ok(Some(Text::copied(alloc, ".")?)),
     }
 }
 

@@ -34,7 +34,7 @@ pub struct Line {
 fn copy(alloc: Global, word: &str) -> Result<Text, WantOfMemory>
     ensures { IfOk result (λ text. text ≡ word.now) }
 {
-    Ok(Text::of(String::from_str(alloc, word)?))
+    Text::copied(alloc, word)
 }
 
 fn copies(alloc: Global, words: &[String]) -> Result<Items<Text>, WantOfMemory>

@@ -78,8 +78,8 @@ pub fn expr_height(node: &Expr) -> u32
             actuals,
             ..
         } => expr_height(of.get())
-            .max(args_height(type_args.slice()))
-            .max(exprs_height(actuals.slice()))
+            .max(args_height(type_args.get().slice()))
+            .max(exprs_height(actuals.get().slice()))
             .saturating_add(1),
         Expr::Index { of, index } => expr_height(of.get())
             .max(expr_height(index.get()))
@@ -94,12 +94,12 @@ pub fn expr_height(node: &Expr) -> u32
             type_args,
             actuals,
             ..
-        } => args_height(type_args.slice())
-            .max(exprs_height(actuals.slice()))
+        } => args_height(type_args.get().slice())
+            .max(exprs_height(actuals.get().slice()))
             .saturating_add(1),
         Expr::Paren { inner, .. } => expr_height(inner.get()).saturating_add(1),
         Expr::Name(_) => 1,
-        Expr::Invoke { actuals, .. } => exprs_height(actuals.slice()).saturating_add(1),
+        Expr::Invoke { actuals, .. } => exprs_height(actuals.get().slice()).saturating_add(1),
         Expr::New { creation, .. } => creation_height(creation.get()).saturating_add(1),
         Expr::ClassLiteral { ty } => type_height(ty.get()).saturating_add(1),
         Expr::VoidLiteral { .. } => 1,
@@ -158,7 +158,7 @@ pub fn operand_height(node: &Operand) -> u32
 {
     match node {
         Operand::Binary { right, .. } => expr_height(right),
-        Operand::InstanceOf { ty } => type_height(ty),
+        Operand::InstanceOf { ty } => type_height(ty.get()),
     }
 }
 

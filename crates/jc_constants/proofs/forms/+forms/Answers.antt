@@ -33,8 +33,8 @@ constant_expr-returns-in_ok-operand-in-Prefix t c =
     let H = c.args.scene.now.declared.heads.now in let K = known_in c.args.scene.now.known.now in let r : Reading = reading_at H K c.args.reading in
     let F : Expr → Option ConstantExpr = λ (e : Expr). (formed_expr H K c.args.file r e).constant in
     let told =
-    ap (λ (o : Option (List Op)). prefixed o c.in_ok-operand-in-Prefix.operand) (c.in_ok-ops-in-Prefix.ensures ∙ ap (λ (l : List PrefixOp). prefix_operators (c.in-Prefix.first ∷ l)) c.slice-in-Prefix.ensures)
-    ∙ ap (λ (a : Option ConstantExpr). prefixed (prefix_operators (c.in-Prefix.first ∷ c.in-Prefix.more)) a) (c.in_ok-operand-in-Prefix.ensures ∙ ap F c.get-in-Prefix.ensures)
+    ap (λ (o : Option (List Op)). prefixed o c.in_ok-operand-in-Prefix.operand) (c.in_ok-ops-in-Prefix.ensures ∙ ap (λ (l : List PrefixOp). prefix_operators (c.in-Prefix.first ∷ l)) (c.slice-in-Prefix.ensures ∙ c.get-in-Prefix.ensures))
+    ∙ ap (λ (a : Option ConstantExpr). prefixed (prefix_operators (c.in-Prefix.first ∷ c.in-Prefix.more)) a) (c.in_ok-operand-in-Prefix.ensures ∙ ap F c.get-in-Prefix-2.ensures)
     ∙ sym (ap F c.in-Prefix.is ∙ ap (λ (f : Formed). f.constant) (formed_expr-Prefix H K c.args.file r c.in-Prefix.first c.in-Prefix.more c.in-Prefix.operand)) in
     subst (λ (x : Option ConstantExpr). IfOk c.prefixed.result (λ it. it ≡ x)) told c.prefixed.ensures
 

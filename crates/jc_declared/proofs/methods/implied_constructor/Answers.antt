@@ -14,6 +14,6 @@ returns c =
     let H = c.args.heads.now in
     let s : site.MethodSite = record { class = c.args.at.class; scope = c.args.at.scope; form = site.ImpliedConstructor } in
     c.implied_method.ensures site.ImpliedConstructor
-    ∙ ap (λ (n : List ℕ). implied_method H s n method_kind.ImpliedConstructor c.implied_constructor_modifiers-modifiers.result) (c.of-name.ensures ∙ c.in_ok-from_str.ensures.ok ∙ c.class_name.ensures)
+    ∙ ap (λ (n : List ℕ). implied_method H s n method_kind.ImpliedConstructor c.implied_constructor_modifiers-modifiers.result) (c.in_ok-name.ensures.value ∙ c.class_name.ensures)
     ∙ ap (λ (ms : Modifiers). implied_method H s (name_of H c.args.at.class) method_kind.ImpliedConstructor ms)
     (c.implied_constructor_modifiers-modifiers.ensures ∙ ap (λ (a : Access). let ms : Modifiers = record (written_modifiers []) { access = a } in ms) c.access_of.ensures)

@@ -12,5 +12,5 @@ returns c =
     let H = c.args.heads.now in
     let s : site.MethodSite = record { class = c.args.at.class; scope = c.args.at.scope; form = site.StaticInitialiser } in
     c.implied_method.ensures site.StaticInitialiser
-    ∙ ap (λ (n : List ℕ). implied_method H s n method_kind.StaticInitialiser c.static_initialiser_modifiers-modifiers.result) (c.of-name.ensures ∙ c.in_ok-from_str.ensures.ok)
+    ∙ ap (λ (n : List ℕ). implied_method H s n method_kind.StaticInitialiser c.static_initialiser_modifiers-modifiers.result) c.in_ok-name.ensures.value
     ∙ ap (λ (ms : Modifiers). implied_method H s (codes "<clinit>") method_kind.StaticInitialiser ms) c.static_initialiser_modifiers-modifiers.ensures

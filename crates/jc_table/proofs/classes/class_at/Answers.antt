@@ -45,7 +45,7 @@ pub returns : goal.returns
 unfolding decl
 returns c =
     let number : ℕ = c.args.at.number in
-    same c.args.at.file c.args.at.scope c.head_at.ensures (c.in_ok-copy_text.ensures ∙ c.name_in_head.ensures) (c.of.ensures ∙ c.in_ok-binary_of.ensures) (c.in_ok-text.ensures ∙ c.package_of.ensures) c.outer_id.ensures
+    same c.args.at.file c.args.at.scope c.head_at.ensures (c.in_ok-copy_text.ensures ∙ c.name_in_head.ensures) c.in_ok-binary_text.ensures (c.in_ok-text.ensures ∙ c.package_of.ensures) c.outer_id.ensures
     (c.in_ok-class_ids.ensures ∙ ap (λ (l : List ℕ). map class_id l) (c.group.ensures ∙ c.requires.members.types number))
     (c.class_modifiers.ensures ∙ told_modifiers c.args.at.of_interface c.is_interface_head-is_interface.ensures c.is_top.ensures c.modifiers_in_head-modifiers.ensures)
     c.kind_of_head.ensures
