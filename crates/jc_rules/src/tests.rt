@@ -1,4 +1,4 @@
-//! Lines, texts of rules, and trees of boxes and lists.
+//! Lines, texts of rules, texts, and trees of boxes and lists.
 use crate::{Boxed, Items, Rule, Stage, Text, WantOfMemory, line_of, text_of};
 use std::alloc::Global;
 use std::test::Fail;
@@ -25,6 +25,17 @@ fn rules_know_their_texts_and_stages(rt: HostRuntime) -> Result<(), Fail> {
     assert!(rt; last.stage() == Stage::Limits);
     assert!(rt; Rule::from_number(627).is_none());
     assert_eq!(rt; Rule::known(900).number(), 900);
+    Ok(())
+}
+
+#[test]
+fn texts_are_copied_whole_beyond_what_the_value_holds(rt: HostRuntime) -> Result<(), Fail> {
+    let short = Text::copied(rt.alloc(), "SafeVarargs...")?;
+    let long = Text::copied(rt.alloc(), "java.lang.StringBuilder")?;
+    assert_eq!(rt; short.str(), "SafeVarargs...");
+    assert_eq!(rt; long.str(), "java.lang.StringBuilder");
+    assert_eq!(rt; long.clone()?.str(), "java.lang.StringBuilder");
+    assert_eq!(rt; Text::empty().str(), "");
     Ok(())
 }
 
