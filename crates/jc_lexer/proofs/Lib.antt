@@ -2,6 +2,7 @@ mod Bodies
 mod FileTurns
 mod Keywords
 mod LexemeTurns
+mod Plain
 mod Table
 mod Texts
 mod TokenTurns

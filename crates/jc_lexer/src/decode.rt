@@ -201,6 +201,15 @@ fn character(bytes: &[u8], odd: bool) -> Reading
     ensures value { result ≡ character bytes.now odd }
     ensures fits { Fits bytes.now result }
 {
+    // Nearly each byte of a source is a character of its own, which begins no escape.
+    let byte = byte(bytes, 0);
+    if byte < 0x80 && byte != b'\\' {
+        return Reading::Read {
+            code: u32::from(byte),
+            len: 1,
+            odd: false,
+        };
+    }
     let first = unit(bytes, odd);
     match first {
         Reading::Read { code, len, odd } if is_high(code) && len < bytes.len() => {

@@ -1,5 +1,6 @@
 //! The words that are keywords (JLS 3.9), `true`, `false` and `null` among them.
 ghost use Rattle.std.specs.Prelude.{◌≡◌, ℕ, List, length};
+ghost use Rattle.std.specs.Str.{bytes_eq};
 ghost use Rattle.jc_lexer.specs.Words.{spelling, key_in};
 ghost use Rattle.jc_lexer.specs.declared.keyword.TheConstants.{KEYS};
 
@@ -194,12 +195,23 @@ pub fn spelling(key: Key) -> &'static str
     }
 }
 
+/// Whether a text spells the keyword; where it doesn't, mostly the first letter tells.
+fn spells(text: &str, key: Key) -> bool
+    ensures { result ≡ bytes_eq (spelling key) text.now }
+{
+    let word = spelling(key);
+    match (word.as_bytes(), text.as_bytes()) {
+        ([first, ..], [letter, ..]) => first == letter && word == text,
+        _ => word == text,
+    }
+}
+
 /// The keyword of the list that the text spells.
 fn key_in(keys: &[Key], text: &str) -> Option<Key>
     ensures { result ≡ key_in keys.now text.now }
 {
     for key in keys {
-        if spelling(*key) == text {
+        if spells(text, *key) {
             return Some(*key);
         }
     }

@@ -1,5 +1,10 @@
 //! Separators and operators (JLS 3.11, 3.12): the longest one is read.
-ghost use Rattle.std.specs.Prelude.{◌≡◌, ◌<◌, IfSome};
+ghost use Rattle.std.specs.Prelude.{◌≡◌, ◌<◌, ◌≤◌, ◌==◌, not, List, take, IfSome, IsTrue};
+ghost use Rattle.std.specs.List.{list_all};
+ghost use Rattle.jc_lexer.specs.declared.signs.Spelling.{Spelling};
+ghost use Rattle.jc_lexer.specs.declared.signs.TheConstants.{SIGNS};
+ghost use Rattle.jc_lexer.specs.declared.symbol.Symbol.{Symbol};
+ghost use Rattle.jc_lexer.specs.Symbols.{code_at};
 ghost use Rattle.jc_lexer.specs.Signs.{begins, sign_in, sign_at, IsLongest};
 
 use crate::symbol::{Symbol, code_at, is};
@@ -15,7 +20,7 @@ pub struct Spelling {
     pub third: u8,
 }
 
-/// The separators and operators of JLS 3.11 and 3.12, with `@` and `...`: the longer ones first.
+/// The separators and operators of JLS 3.11 and 3.12, with `@` and `...`, by their first characters: of those with one, the longer ones first.
 const SIGNS: [Spelling; 43] = [
     Spelling {
         sign: Sign::Ellipsis,
@@ -25,6 +30,13 @@ const SIGNS: [Spelling; 43] = [
         third: b'.',
     },
     Spelling {
+        sign: Sign::Dot,
+        len: 1,
+        first: b'.',
+        second: 0,
+        third: 0,
+    },
+    Spelling {
         sign: Sign::ShiftLeftAssign,
         len: 3,
         first: b'<',
@@ -32,52 +44,10 @@ const SIGNS: [Spelling; 43] = [
         third: b'=',
     },
     Spelling {
-        sign: Sign::Equal,
-        len: 2,
-        first: b'=',
-        second: b'=',
-        third: 0,
-    },
-    Spelling {
         sign: Sign::LessEqual,
         len: 2,
         first: b'<',
         second: b'=',
-        third: 0,
-    },
-    Spelling {
-        sign: Sign::NotEqual,
-        len: 2,
-        first: b'!',
-        second: b'=',
-        third: 0,
-    },
-    Spelling {
-        sign: Sign::AndAnd,
-        len: 2,
-        first: b'&',
-        second: b'&',
-        third: 0,
-    },
-    Spelling {
-        sign: Sign::OrOr,
-        len: 2,
-        first: b'|',
-        second: b'|',
-        third: 0,
-    },
-    Spelling {
-        sign: Sign::Increment,
-        len: 2,
-        first: b'+',
-        second: b'+',
-        third: 0,
-    },
-    Spelling {
-        sign: Sign::Decrement,
-        len: 2,
-        first: b'-',
-        second: b'-',
         third: 0,
     },
     Spelling {
@@ -88,31 +58,45 @@ const SIGNS: [Spelling; 43] = [
         third: 0,
     },
     Spelling {
-        sign: Sign::PlusAssign,
+        sign: Sign::Less,
+        len: 1,
+        first: b'<',
+        second: 0,
+        third: 0,
+    },
+    Spelling {
+        sign: Sign::Equal,
         len: 2,
-        first: b'+',
+        first: b'=',
         second: b'=',
         third: 0,
     },
     Spelling {
-        sign: Sign::MinusAssign,
+        sign: Sign::Assign,
+        len: 1,
+        first: b'=',
+        second: 0,
+        third: 0,
+    },
+    Spelling {
+        sign: Sign::NotEqual,
         len: 2,
-        first: b'-',
+        first: b'!',
         second: b'=',
         third: 0,
     },
     Spelling {
-        sign: Sign::StarAssign,
-        len: 2,
-        first: b'*',
-        second: b'=',
+        sign: Sign::Not,
+        len: 1,
+        first: b'!',
+        second: 0,
         third: 0,
     },
     Spelling {
-        sign: Sign::SlashAssign,
+        sign: Sign::AndAnd,
         len: 2,
-        first: b'/',
-        second: b'=',
+        first: b'&',
+        second: b'&',
         third: 0,
     },
     Spelling {
@@ -123,10 +107,101 @@ const SIGNS: [Spelling; 43] = [
         third: 0,
     },
     Spelling {
+        sign: Sign::And,
+        len: 1,
+        first: b'&',
+        second: 0,
+        third: 0,
+    },
+    Spelling {
+        sign: Sign::OrOr,
+        len: 2,
+        first: b'|',
+        second: b'|',
+        third: 0,
+    },
+    Spelling {
         sign: Sign::OrAssign,
         len: 2,
         first: b'|',
         second: b'=',
+        third: 0,
+    },
+    Spelling {
+        sign: Sign::Or,
+        len: 1,
+        first: b'|',
+        second: 0,
+        third: 0,
+    },
+    Spelling {
+        sign: Sign::Increment,
+        len: 2,
+        first: b'+',
+        second: b'+',
+        third: 0,
+    },
+    Spelling {
+        sign: Sign::PlusAssign,
+        len: 2,
+        first: b'+',
+        second: b'=',
+        third: 0,
+    },
+    Spelling {
+        sign: Sign::Plus,
+        len: 1,
+        first: b'+',
+        second: 0,
+        third: 0,
+    },
+    Spelling {
+        sign: Sign::Decrement,
+        len: 2,
+        first: b'-',
+        second: b'-',
+        third: 0,
+    },
+    Spelling {
+        sign: Sign::MinusAssign,
+        len: 2,
+        first: b'-',
+        second: b'=',
+        third: 0,
+    },
+    Spelling {
+        sign: Sign::Minus,
+        len: 1,
+        first: b'-',
+        second: 0,
+        third: 0,
+    },
+    Spelling {
+        sign: Sign::StarAssign,
+        len: 2,
+        first: b'*',
+        second: b'=',
+        third: 0,
+    },
+    Spelling {
+        sign: Sign::Star,
+        len: 1,
+        first: b'*',
+        second: 0,
+        third: 0,
+    },
+    Spelling {
+        sign: Sign::SlashAssign,
+        len: 2,
+        first: b'/',
+        second: b'=',
+        third: 0,
+    },
+    Spelling {
+        sign: Sign::Slash,
+        len: 1,
+        first: b'/',
+        second: 0,
         third: 0,
     },
     Spelling {
@@ -137,6 +212,13 @@ const SIGNS: [Spelling; 43] = [
         third: 0,
     },
     Spelling {
+        sign: Sign::Caret,
+        len: 1,
+        first: b'^',
+        second: 0,
+        third: 0,
+    },
+    Spelling {
         sign: Sign::PercentAssign,
         len: 2,
         first: b'%',
@@ -144,9 +226,9 @@ const SIGNS: [Spelling; 43] = [
         third: 0,
     },
     Spelling {
-        sign: Sign::Dot,
+        sign: Sign::Percent,
         len: 1,
-        first: b'.',
+        first: b'%',
         second: 0,
         third: 0,
     },
@@ -193,13 +275,6 @@ const SIGNS: [Spelling; 43] = [
         third: 0,
     },
     Spelling {
-        sign: Sign::Assign,
-        len: 1,
-        first: b'=',
-        second: 0,
-        third: 0,
-    },
-    Spelling {
         sign: Sign::LeftBracket,
         len: 1,
         first: b'[',
@@ -214,65 +289,9 @@ const SIGNS: [Spelling; 43] = [
         third: 0,
     },
     Spelling {
-        sign: Sign::Less,
-        len: 1,
-        first: b'<',
-        second: 0,
-        third: 0,
-    },
-    Spelling {
         sign: Sign::Greater,
         len: 1,
         first: b'>',
-        second: 0,
-        third: 0,
-    },
-    Spelling {
-        sign: Sign::Plus,
-        len: 1,
-        first: b'+',
-        second: 0,
-        third: 0,
-    },
-    Spelling {
-        sign: Sign::Minus,
-        len: 1,
-        first: b'-',
-        second: 0,
-        third: 0,
-    },
-    Spelling {
-        sign: Sign::Star,
-        len: 1,
-        first: b'*',
-        second: 0,
-        third: 0,
-    },
-    Spelling {
-        sign: Sign::Slash,
-        len: 1,
-        first: b'/',
-        second: 0,
-        third: 0,
-    },
-    Spelling {
-        sign: Sign::Not,
-        len: 1,
-        first: b'!',
-        second: 0,
-        third: 0,
-    },
-    Spelling {
-        sign: Sign::And,
-        len: 1,
-        first: b'&',
-        second: 0,
-        third: 0,
-    },
-    Spelling {
-        sign: Sign::Or,
-        len: 1,
-        first: b'|',
         second: 0,
         third: 0,
     },
@@ -294,20 +313,6 @@ const SIGNS: [Spelling; 43] = [
         sign: Sign::At,
         len: 1,
         first: b'@',
-        second: 0,
-        third: 0,
-    },
-    Spelling {
-        sign: Sign::Percent,
-        len: 1,
-        first: b'%',
-        second: 0,
-        third: 0,
-    },
-    Spelling {
-        sign: Sign::Caret,
-        len: 1,
-        first: b'^',
         second: 0,
         third: 0,
     },
@@ -340,6 +345,47 @@ fn sign_in(signs: &[Spelling], text: &[Symbol]) -> Option<Spelling>
     None
 }
 
+/// How many signs of the table stand before the first one with this first character; 0 where none has it.
+fn place_of(code: u32) -> usize
+    ensures others { IsTrue (list_all (λ (d : Spelling). not (d.first == code)) (take result SIGNS)) }
+    ensures within { result ≤ 43 }
+{
+    match char::from_u32(code) {
+        Some('<') => 2,
+        Some('=') => 6,
+        Some('!') => 8,
+        Some('&') => 10,
+        Some('|') => 13,
+        Some('+') => 16,
+        Some('-') => 19,
+        Some('*') => 22,
+        Some('/') => 24,
+        Some('^') => 26,
+        Some('%') => 28,
+        Some(';') => 30,
+        Some('(') => 31,
+        Some(')') => 32,
+        Some(',') => 33,
+        Some('{') => 34,
+        Some('}') => 35,
+        Some('[') => 36,
+        Some(']') => 37,
+        Some('>') => 38,
+        Some('?') => 39,
+        Some(':') => 40,
+        Some('@') => 41,
+        Some('~') => 42,
+        _ => 0,
+    }
+}
+
+/// The signs of the table from the first one with this first character on.
+fn signs_of(code: u32) -> &'static [Spelling]
+    ensures { (text : List Symbol) → code_at text 0 ≡ code → sign_in result.now text ≡ sign_in SIGNS text }
+{
+    SIGNS.split_at(place_of(code)).1
+}
+
 /// The longest sign that the text begins with.
 #[tactic(auto, unfolding(crate::specs::Signs::sign_at))]
 pub fn sign_at(text: &[Symbol]) -> Option<Spelling>
@@ -347,5 +393,5 @@ pub fn sign_at(text: &[Symbol]) -> Option<Spelling>
     ensures longest { IsLongest text.now result }
     ensures some { IfSome result (λ found. 0 < found.len) }
 {
-    sign_in(&SIGNS, text)
+    sign_in(signs_of(code_at(text, 0)), text)
 }
