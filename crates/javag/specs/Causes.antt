@@ -91,10 +91,12 @@ pub record Untouched (work : Work) : Type 0 where
   pub no_class : Unchanged work.classes
   pub no_output : Unchanged work.out
 
+-- a source breaks a rule of a stage that is built, or the job is of a form that isn't built yet; nothing was put
 pub record IsRefused (job : Job) (texts : List (List ℕ)) (work : Work) (refusal : Refusal) : Type 0 where
   pub cause : Breaks texts refusal ⊎ (IsUnbuilt job texts × (refusal ≡ not_built))
   pub untouched : Untouched work
 
+-- a class is to run, and it isn't that of the program; nothing was put
 pub record IsNoMain (job : Job) (texts : List (List ℕ)) (work : Work) : Type 0 where
   pub program : Program
   pub small : IsSmall job texts program
@@ -103,6 +105,7 @@ pub record IsNoMain (job : Job) (texts : List (List ℕ)) (work : Work) : Type 0
   pub other : class ≢ codes "Main"
   pub untouched : Untouched work
 
+-- the first class file couldn't be put, so that none is written; nothing ran
 pub record IsClassFault (job : Job) (texts : List (List ℕ)) (work : Work) (written : ℕ) : Type 0 where
   pub made : Compiles job texts
   pub folder : List ℕ
@@ -130,6 +133,7 @@ pub record RanNothing (job : Job) (texts : List (List ℕ)) (work : Work) : Type
   pub run : job.run ≡ None
   pub no_output : Unchanged work.out
 
+-- the class files were put, the class ran, and out failed behind some first part of what the machine shows
 pub record IsOutFault (job : Job) (texts : List (List ℕ)) (work : Work) : Type 0 where
   pub wrote : Wrote job texts work
   pub class : List ℕ
@@ -162,7 +166,7 @@ Worked job texts work KeysFault = ⊥
 Worked job texts work ErrFault = ⊥
 Worked job texts work (Exited code) = ⊥
 
--- the outcome of a run that ended so; the machine has no other ending yet
+-- whether a run of the machine of small programs ends so; it has no other ending
 abbrev pub HasOutcome : Ran → Type 0
 HasOutcome RanEnded = ⊤
 HasOutcome RanSteps = ⊤
@@ -172,6 +176,7 @@ HasOutcome (RanExited code) = ⊥
 HasOutcome RanKeysFault = ⊥
 HasOutcome RanStuck = ⊥
 
+-- such a run's outcome; the one of a stuck machine is never asked for
 abbrev pub outcome_of : Ran → Outcome
 outcome_of RanEnded = Done
 outcome_of RanSteps = StepsReached
@@ -183,9 +188,11 @@ outcome_of RanStuck = Done
 
 -- ---- outcomes of a call
 
+-- what the call leaves of the class files and of the output
 abbrev pub work_of : Call → Work
 work_of call = record { classes = call.classes; out = call.out }
 
+-- the words are no job, this is their first fault, nothing was put, and the last line tells the usage
 pub record IsUsage (call : Call) (fault : UsageFault) : Type 0 where
   pub is_fault : IsFault call.words fault
   pub untouched : Untouched (work_of call)

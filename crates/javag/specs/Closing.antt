@@ -12,6 +12,7 @@ use Rattle.jc_words.specs.declared.job.Job.{Job}
 use Rattle.javag.specs.declared.outcome.Outcome.{Outcome}
 use Rattle.javag.specs.declared.outcome.Outcome.TheVariants.{Done, Threw, Usage, Refused, StepsReached, WantOfMemory, ShelfFault, ClassFault, OutFault, KeysFault, ErrFault, NoMain, Exited}
 
+-- the exit status of each outcome; of an exit's code, which is an int, the low eight bits
 abbrev pub status_of : Outcome → ℕ
 status_of Done = 0
 status_of (Threw class) = 1
@@ -31,12 +32,14 @@ status_of (Exited code) = cast_unsigned w32 code % 256
 abbrev pub line : List ℕ → List ℕ
 line text = text ++ 10 ∷ []
 
+-- the last lines of words that are no job, and of want of memory
 abbrev pub usage_line : List ℕ
 usage_line = line (codes "javag: usage: javag [--out DIR] [--run CLASS] [--steps N] FILE.java ... [ARGUMENT ...]")
 
 abbrev pub memory_line : List ℕ
 memory_line = line (codes "javag: out of memory")
 
+-- a text that isn't there is empty
 abbrev pub or_empty : Option (List ℕ) → List ℕ
 or_empty None = []
 or_empty (Some text) = text

@@ -23,6 +23,7 @@ Puts object more = Gets object.before more object.after
 abbrev pub PutsPart : {A : Type 0} → Object A → List A → Type 0
 PutsPart object more = GetsPart object.before more object.after
 
+-- a call failed: the count of faults rose, or stands at its type's end
 abbrev pub Failed : {A : Type 0} → Object A → Type 0
 Failed object = Rose object.faults_before object.faults_after
 

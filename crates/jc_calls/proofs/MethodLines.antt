@@ -1,25 +1,16 @@
 -- Methods along a line of classes.
-use Rattle.std.proofs.Common.{◌≡◌, ◌<◌, ◌+◌, ◌-◌, ℕ, zero, suc, Bool, List, [], ◌∷◌, position, refl, sym, ap, ◌∙◌, arith}
+use Rattle.std.proofs.Common.{◌≡◌, ◌<◌, ◌+◌, ◌-◌, ℕ, suc, Bool, List, ◌∷◌, position, refl, sym, ap, ◌∙◌, arith}
 use Rattle.std.specs.Option.{option_map}
 use Rattle.std.specs.declared.option.Option.{Option}
 use Rattle.std.specs.declared.option.Option.TheVariants.{Some, None}
 use Rattle.jc_class_out.specs.declared.model.ClassModel.{ClassModel}
 use Rattle.jc_class_out.specs.declared.model.MethodModel.{MethodModel}
 use Rattle.jc_jvm.specs.Classes.{line_on, super_of, or_else, methods_of, method_among}
+use Rattle.jc_heap.proofs.FieldLayouts.{line_on-none as line_end, line_on-zero as line_over}
 
 line_more : (classes : List ClassModel) (m n k : ℕ) → m ≡ suc n → line_on classes m (Some k) ≡ k ∷ line_on classes n (super_of classes k)
 unfolding line_on
 line_more classes m n k e = rw e refl
-
-line_end : (classes : List ClassModel) (n : ℕ) → line_on classes n None ≡ []
-unfolding line_on
-line_end classes zero = refl
-line_end classes (suc n) = refl
-
-line_over : (classes : List ClassModel) (here : Option ℕ) → line_on classes 0 here ≡ []
-unfolding line_on
-line_over classes None = refl
-line_over classes (Some k) = refl
 
 abbrev pub among_on : List ClassModel → (MethodModel → Bool) → ℕ → Option ℕ → Option (ℕ × ℕ)
 among_on classes test n here = method_among classes test (line_on classes n here)

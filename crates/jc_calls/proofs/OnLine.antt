@@ -1,25 +1,16 @@
 -- Whether a class is on a line of classes.
-use Rattle.std.proofs.Common.{◌≡◌, ◌≢◌, ◌<◌, ◌+◌, ◌-◌, ◌==◌, ◌||◌, ℕ, zero, suc, Bool, true, false, List, [], ◌∷◌, refl, sym, ap, ◌∙◌, arith}
+use Rattle.std.proofs.Common.{◌≡◌, ◌≢◌, ◌<◌, ◌+◌, ◌-◌, ◌==◌, ◌||◌, ℕ, suc, Bool, true, false, List, ◌∷◌, refl, sym, ap, ◌∙◌, arith}
 use Rattle.std.proofs.lemmas.Bool.Decides.{nat_tests}
 use Rattle.std.specs.List.{list_any}
 use Rattle.std.specs.declared.option.Option.{Option}
 use Rattle.std.specs.declared.option.Option.TheVariants.{Some, None}
 use Rattle.jc_class_out.specs.declared.model.ClassModel.{ClassModel}
 use Rattle.jc_jvm.specs.Classes.{line_on, super_of}
+use Rattle.jc_heap.proofs.FieldLayouts.{line_on-none as line_end, line_on-zero as line_over}
 
 line_more : (classes : List ClassModel) (m n k : ℕ) → m ≡ suc n → line_on classes m (Some k) ≡ k ∷ line_on classes n (super_of classes k)
 unfolding line_on
 line_more classes m n k e = rw e refl
-
-line_end : (classes : List ClassModel) (n : ℕ) → line_on classes n None ≡ []
-unfolding line_on
-line_end classes zero = refl
-line_end classes (suc n) = refl
-
-line_over : (classes : List ClassModel) (here : Option ℕ) → line_on classes 0 here ≡ []
-unfolding line_on
-line_over classes None = refl
-line_over classes (Some k) = refl
 
 abbrev pub is_on : List ClassModel → ℕ → ℕ → Option ℕ → Bool
 is_on classes wanted n here = list_any (λ k. k == wanted) (line_on classes n here)

@@ -35,6 +35,7 @@ is_member T k s = belongs T k s.id && not (is_replaced T k s)
 abbrev pub settles : Table → ClassId → Shape → MethodView → MethodView → Bool
 settles T k u a b = not (same_class (owner T a.id) k) && not (is_replaced T k u) && subsignature T b a && (not (with_body T a) || with_body T b)
 
+-- as the class has both, a's signature is no subsignature of b's, and b doesn't stand in a's place
 abbrev pub views_clash : Table → ClassId → Shape → Option MethodView → Option MethodView → Bool
 views_clash T k u (Some a) (Some b) = not (subsignature T a b) && not (settles T k u a b)
 views_clash T k u _ _ = false
@@ -53,20 +54,24 @@ abbrev pub beside_broken : Table → ClassId → Place → Shape → List Bool �
 beside_broken T k place s marks [] = []
 beside_broken T k place s marks (u ∷ us) = cond (first_mark marks) [] (pair_broken T k place s u) ++ beside_broken T k place s (behind_first marks) us
 
--- What a method overrides or hides doesn't clash with it in its own class.
+-- what a method overrides or hides doesn't clash with it in its own class
 abbrev pub passed_over : Table → ClassId → Shape → List Bool
 passed_over T k s = cond (same_class (owner T s.id) k) s.below []
 
+-- the clashes of a method with each of `all`, if it is a member of the class
 abbrev pub member_broken : Table → ClassId → Place → List Shape → Shape → List Refusal
 member_broken T k place all s = cond (is_member T k s) (beside_broken T k place s (passed_over T k s) all) []
 
+-- .. of each of these methods
 abbrev pub group_broken : Table → ClassId → Place → List Shape → List Shape → List Refusal
 group_broken T k place all [] = []
 group_broken T k place all (s ∷ ss) = member_broken T k place all s ++ group_broken T k place all ss
 
+-- .. of each group, which are the methods of one name
 abbrev pub groups_broken : Table → ClassId → Place → List (List Shape) → List Refusal
 groups_broken T k place [] = []
 groups_broken T k place (g ∷ gs) = group_broken T k place g g ++ groups_broken T k place gs
 
+-- .. in class i
 abbrev pub class_clashes : Table → List (List Shape) → ℕ → ClassDecl → List Refusal
 class_clashes T gs i c = groups_broken T (record { 0 = i }) c.place gs

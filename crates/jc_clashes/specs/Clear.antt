@@ -9,6 +9,7 @@ use Rattle.jc_overriding.specs.Overriding.{owner}
 use Rattle.jc_clashes.specs.declared.shapes.Shape.{Shape}
 use Rattle.jc_clashes.specs.Marks.{is_marked}
 
+-- a class is marked; where there is no class it isn't
 abbrev pub class_clear : List Bool → Option ClassId → Bool
 class_clear marks None = false
 class_clear marks (Some k) = is_marked marks k.0
@@ -32,6 +33,7 @@ abbrev pub none_clear : Table → List Bool → List Shape → Bool
 none_clear T marks [] = true
 none_clear T marks (s ∷ ss) = not (is_marked marks (owner T s.id).0) && none_clear T marks ss
 
+-- .. of each of these groups
 abbrev pub all_apart : Table → List Bool → List (List Shape) → Bool
 all_apart T marks [] = true
 all_apart T marks (g ∷ gs) = none_clear T marks g && all_apart T marks gs

@@ -7,10 +7,12 @@ use Rattle.jc_types.specs.Accessors.{supers_of}
 use Rattle.jc_judge.specs.Kinds.{class_of}
 use Rattle.jc_judge.specs.Supers.{numbered}
 
+-- y is one of these numbers
 abbrev pub IsNumberIn : ℕ → List ℕ → Type 0
 IsNumberIn y [] = ⊥
 IsNumberIn y (x ∷ xs) = (y ≡ x) ⊎ IsNumberIn y xs
 
+-- a class is one of these by its number; where there is no class it isn't
 abbrev pub ClassIn : List ℕ → Option ClassId → Type 0
 ClassIn cs None = ⊥
 ClassIn cs (Some k) = IsNumberIn k.0 cs

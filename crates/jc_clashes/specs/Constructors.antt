@@ -14,6 +14,7 @@ use Rattle.jc_overriding.specs.Signatures.{same_all}
 use Rattle.jc_header_rules.specs.Clashes.{erased_params, place_or}
 use Rattle.jc_header_rules.specs.Places.{broken_if, of_each}
 
+-- a constructor, declared or implied (JLS 8.8.9); what has no kind in the table is none
 abbrev pub is_constructor_kind : MethodKind → Bool
 is_constructor_kind method_kind.Constructor = true
 is_constructor_kind method_kind.ImpliedConstructor = true
@@ -40,6 +41,7 @@ constructors_from T place earlier [] = []
 constructors_from T place earlier (m ∷ ms) =
     broken_if (is_repeated T earlier m) 801 (place_or place (method_place_of T m)) ++ constructors_from T place (with_erasure T earlier m) ms
 
+-- the broken rules of class i, and of all classes of the table
 abbrev pub constructors_in : Table → ℕ → ClassDecl → List Refusal
 constructors_in T i c = constructors_from T c.place [] c.methods
 

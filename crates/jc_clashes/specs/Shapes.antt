@@ -27,6 +27,7 @@ above_at at [] belows = []
 above_at at (j ∷ js) [] = []
 above_at at (j ∷ js) (below ∷ belows) = cond (is_marked below at) (j ∷ []) [] ++ above_at at js belows
 
+-- the marks of a method, and its erasures; none where nothing is at its place
 abbrev pub row_in : Option (List Bool) → List Bool
 row_in None = []
 row_in (Some below) = below
@@ -35,6 +36,7 @@ abbrev pub set_in : Option (List (List Ty)) → List (List Ty)
 set_in None = []
 set_in (Some set) = set
 
+-- a method with marks for those of `all` that it overrides or hides, those that do so to it, and all erasures that it reaches
 abbrev pub shape_of : Table → List MethodId → MethodId → Shape
 shape_of T all m = record { id = m; below = below_in T all m; above = above_in T m all; erasures = erasures_within T all (length T.methods) m }
 

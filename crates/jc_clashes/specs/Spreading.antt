@@ -35,6 +35,7 @@ are_as_many (s ∷ ss) (t ∷ ts) = (length s == length t) && are_as_many ss ts
 abbrev pub below_in : Table → List MethodId → MethodId → List Bool
 below_in T all m = map (replaces T m) all
 
+-- .. for each of these methods
 abbrev pub belows_of : Table → List MethodId → List MethodId → List (List Bool)
 belows_of T all ms = map (below_in T all) ms
 

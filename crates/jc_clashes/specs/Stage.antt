@@ -12,6 +12,7 @@ use Rattle.jc_clashes.specs.Constructors.{constructors_breaks}
 abbrev pub all_clashes : Table → List Refusal
 all_clashes T = clashes_breaks T ++ constructors_breaks T
 
+-- no methods clash, and no constructors
 abbrev pub HasNoClash : Table → Type 0
 HasNoClash T = all_clashes T ≡ []
 
@@ -24,6 +25,7 @@ abbrev pub IsFirstClash : Table → Option Refusal → Type 0
 IsFirstClash T None = HasNoClash T
 IsFirstClash T (Some refused) = IsLeastClash T refused
 
+-- the stage stops with its least clash; that memory was wanting says nothing of the table
 abbrev pub IsClashesStop : Table → Stop Refusal → Type 0
 IsClashesStop T (stop_of.Refused refused) = IsLeastClash T refused
 IsClashesStop T stop_of.WantOfMemory = Unit {0}

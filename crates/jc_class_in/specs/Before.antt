@@ -11,6 +11,7 @@ use Rattle.jc_class_out.specs.Frames.{begins, place_of}
 abbrev pub same_at : List Bool → Option ℕ → List Item → ℕ → ℕ → List ℕ → Result (Frame × List ℕ) Flaw
 same_at marks before locals left delta bytes = wants (begins marks (place_of before delta)) left >>= λ _. Ok (record { at = place_of before delta; locals = locals; stack = [] }, bytes)
 
+-- the last of some frames and its place; None where there is no frame yet
 abbrev pub last_of : List Frame → Option Frame
 last_of frames = slice_get frames (length frames - 1)
 

@@ -13,6 +13,7 @@ use Rattle.jc_class_in.specs.declared.fault.ClassFault.TheVariants as fault
 abbrev pub place_in : ℕ → ℕ → ℕ
 place_in size left = min (size - left) (2 ^ 32 - 1)
 
+-- a flaw with its place from the file's start; the magic number and the version have fixed places, and what is too short ends at the file's end
 abbrev pub fault_in : ℕ → Flaw → ClassFault
 fault_in size flaw.Short = fault.Short (place_in size 0)
 fault_in size flaw.Magic = fault.Magic
@@ -23,6 +24,7 @@ fault_in size (flaw.Opcode left) = fault.Opcode (place_in size left)
 fault_in size (flaw.Trailing left) = fault.Trailing (place_in size left)
 fault_in size (flaw.Text left) = fault.Text (place_in size left)
 
+-- the class, or the fault with its place
 abbrev pub with_place : ℕ → Result ClassModel Flaw → Result ClassModel ClassFault
 with_place size (Ok class) = Ok class
 with_place size (Err flaw) = Err (fault_in size flaw)

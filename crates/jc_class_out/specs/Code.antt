@@ -48,6 +48,7 @@ unfoldable pub marks_from : ℕ → List Ins → List Bool
 marks_from at [] = []
 marks_from at (i ∷ is) = true ∷ (replicate (ins_size at i - 1) false ++ marks_from (at + ins_size at i) is)
 
+-- of the whole code, from place 0
 abbrev pub marks_of : List Ins → List Bool
 marks_of ins = marks_from 0 ins
 
@@ -56,6 +57,7 @@ unfoldable pub size_from : ℕ → List Ins → ℕ
 size_from at [] = 0
 size_from at (i ∷ is) = ins_size at i + size_from (at + ins_size at i) is
 
+-- `left` is counted from the first key on; each offset stands four bytes behind its key
 unfoldable pub cases_land : List Bool → ℕ → List SwitchCase → Result ℕ Flaw
 cases_land marks left [] = Ok 0
 cases_land marks left (c ∷ cs) = wants (begins marks c.at) (left - 4) >>= λ _. cases_land marks (left - 8) cs
@@ -66,6 +68,7 @@ lands marks left at (op.Jump to) = wants (begins marks to) (left - 1)
 lands marks left at (op.Switch otherwise cases) = wants (begins marks otherwise) (left - 1 - padding at) >>= λ _. cases_land marks (left - 9 - padding at) cases
 lands marks left at _ = Ok 0
 
+-- `left` is counted from the first of the instructions on, and `at` is its place
 unfoldable pub all_land : List Bool → ℕ → ℕ → List Ins → Result ℕ Flaw
 all_land marks left at [] = Ok 0
 all_land marks left at (i ∷ is) = lands marks left at i.operand >>= λ _. all_land marks (left - ins_size at i) (at + ins_size at i) is
@@ -85,6 +88,7 @@ body_at pool bytes = do
 abbrev pub ends : List Bool → ℕ → Bool
 ends marks to = begins marks to || (to == length marks)
 
+-- an entry of the exception table (JVMS 4.7.3): the covered part isn't empty, and class 0 catches all
 unfoldable pub handler_at : List Slot → List Bool → List ℕ → Result (Handler × List ℕ) Flaw
 handler_at pool marks bytes = do
   from ← number_at w16 bytes
@@ -106,6 +110,7 @@ frames_of_at pool marks entry bytes = do
   _ ← attribute_ends n.0 (length n.1) (length frames.1)
   Ok frames
 
+-- the attributes in Code: no other name is read
 unfoldable pub code_attributes_at : List Slot → List Bool → List Item → List ℕ → Result (List Frame × List ℕ) Flaw
 code_attributes_at pool marks entry bytes = do
   n ← number_at w16 bytes

@@ -25,6 +25,7 @@ type_end dims (u ∷ us) =
     if u == 76 then name_end true us else
     if u == 91 && nat_lt dims 255 then type_end (dims + 1) us else None
 
+-- the type is whole, and the text ends with it
 abbrev pub nothing_left : Option (List ℕ) → Bool
 nothing_left None = false
 nothing_left (Some []) = true
@@ -57,10 +58,12 @@ abbrev pub units_if : Option (ℕ × List ℕ) → Option ℕ
 units_if None = None
 units_if (Some p) = if is_result p.1 then Some p.0 else None
 
+-- from the `(` on
 unfoldable pub parameter_units : List ℕ → Option ℕ
 parameter_units [] = None
 parameter_units (u ∷ us) = if u == 40 then units_if (parameters_on (length us) 0 us) else None
 
+-- a descriptor of a method is one whose parameters have units, which a wrong one hasn't
 abbrev pub is_there : {A : Type 0} → Option A → Bool
 is_there None = false
 is_there (Some x) = true
@@ -68,6 +71,7 @@ is_there (Some x) = true
 abbrev pub is_method_descriptor : List ℕ → Bool
 is_method_descriptor d = is_there (parameter_units d)
 
+-- the number, or 0 where there is none
 abbrev pub or_zero : Option ℕ → ℕ
 or_zero None = 0
 or_zero (Some n) = n
@@ -82,6 +86,7 @@ item_of_type (u ∷ us) =
     if u == 76 then Object (take (length us - 1) us) else
     if u == 91 then Object (u ∷ us) else Integer
 
+-- the first type is what `rest` lacks of `us`
 abbrev pub items_by : List ℕ → (List ℕ → List Item) → Option (List ℕ) → List Item
 items_by us later None = []
 items_by us later (Some rest) = item_of_type (take (length us - length rest) us) ∷ later rest
@@ -95,6 +100,7 @@ items_on (suc n) us = items_by us (λ rest. items_on n rest) (type_end 0 us)
 abbrev pub parameter_items : List ℕ → List Item
 parameter_items d = items_on (length d) (drop 1 d)
 
+-- ACC_STATIC, 0x0008 (JVMS 4.6)
 abbrev pub is_static : ℕ → Bool
 is_static flags = flags / 8 % 2 == 1
 
@@ -102,5 +108,6 @@ is_static flags = flags / 8 % 2 == 1
 abbrev pub this_item : List ℕ → List ℕ → Item
 this_item class name = if bytes_eq name (codes "<init>") && not (bytes_eq class (codes "java/lang/Object")) then UninitializedThis else Object class
 
+-- of a method of this class with these flags, this name and this descriptor
 abbrev pub entry_locals : List ℕ → ℕ → List ℕ → List ℕ → List Item
 entry_locals class flags name descriptor = if is_static flags then parameter_items descriptor else this_item class name ∷ parameter_items descriptor

@@ -32,6 +32,7 @@ use Rattle.jc_class_out.specs.Spelling.{adds, loads_of, uses, distance, entry_of
 
 -- ---- numbers
 
+-- a number, without a sign, has room in one byte (u1), or in two (u2)
 abbrev pub is_u8 : ℕ → Bool
 is_u8 n = nat_lt n 256
 
@@ -43,17 +44,21 @@ abbrev pub magnitude : ℤ → ℕ
 magnitude (pos n) = n
 magnitude (negsuc n) = n
 
+-- `half` is half the range, so that it is 2^31 for an int
 abbrev pub is_signed : ℕ → ℤ → Bool
 is_signed half z = nat_lt (magnitude z) half
 
+-- the number of things in a list has room in two bytes
 abbrev pub is_count : {A : Type 0} → List A → Bool
 is_count xs = nat_lt (length xs) 65536
 
 -- ---- constants
 
+-- each unit is a char, and the bytes in modified UTF-8 are counted by a u2 (JVMS 4.4.7)
 unfoldable pub text_fits : List ℕ → Bool
 text_fits t = list_all is_u16 t && nat_lt (length (text_bytes t)) 65536
 
+-- numbers have room in their entries, and descriptors are of their members' sort; other entries name texts, which stand for themselves
 abbrev pub known_fits : Known → Bool
 known_fits (KnownText t) = text_fits t
 known_fits (KnownWhole n) = is_signed (2 ^ 31) n
@@ -72,14 +77,17 @@ places us = length (adds [] us)
 
 -- ---- operands
 
+-- an operand has to be of the sort that its instruction wants; here it is none
 abbrev pub is_nothing : Operand → Bool
 is_nothing op.Nothing = true
 is_nothing _ = false
 
+-- the numbers of bipush and sipush, which have one byte and two, with a sign
 abbrev pub is_number : ℕ → Operand → Bool
 is_number half (op.Number n) = is_signed half n
 is_number half _ = false
 
+-- the type of newarray, by its code
 abbrev pub is_array_number : ℤ → Bool
 is_array_number (pos n) = is_array_code n
 is_array_number (negsuc n) = false
@@ -88,6 +96,7 @@ abbrev pub is_array : Operand → Bool
 is_array (op.Number n) = is_array_number n
 is_array _ = false
 
+-- the number of a local, below 256 or behind `wide` below 65536; of iinc the number that it adds has room too
 abbrev pub is_local_below : ℕ → Operand → Bool
 is_local_below limit (op.Local n) = nat_lt n limit
 is_local_below limit _ = false
@@ -96,11 +105,13 @@ abbrev pub is_step_below : ℕ → ℕ → Operand → Bool
 is_step_below limit half (op.Step n by) = nat_lt n limit && is_signed half by
 is_step_below limit half _ = false
 
+-- ldc and ldc_w load ints and strings, ldc2_w loads longs
 abbrev pub is_loaded : Loaded → Bool
 is_loaded (loaded.Whole n) = true
 is_loaded (loaded.Text t) = true
 is_loaded (loaded.Long n) = false
 
+-- the operand of ldc and ldc_w, and that of ldc2_w
 abbrev pub is_load_of : Operand → Bool
 is_load_of (op.Load l) = is_loaded l
 is_load_of _ = false
@@ -109,6 +120,7 @@ abbrev pub is_load_long : Operand → Bool
 is_load_long (op.Load l) = not (is_loaded l)
 is_load_long _ = false
 
+-- the class, the name and the descriptor of a field or a method
 abbrev pub is_member : Operand → Bool
 is_member (op.Member c n d) = true
 is_member _ = false
@@ -118,6 +130,7 @@ abbrev pub is_interface_member : Operand → Bool
 is_interface_member (op.Member c n d) = nat_lt (or_zero (parameter_units d)) 255
 is_interface_member _ = false
 
+-- the name of a class, and of multianewarray the number of dimensions too, which is one byte and not 0
 abbrev pub is_class_operand : Operand → Bool
 is_class_operand (op.Class c) = true
 is_class_operand _ = false
@@ -131,14 +144,17 @@ abbrev pub is_jump_from : ℕ → Operand → Bool
 is_jump_from at (op.Jump to) = target at (distance at to) == to
 is_jump_from at _ = false
 
+-- the keys of lookupswitch are ints, each greater than the one before; None before the first (JVMS 6.5, lookupswitch)
 unfoldable pub cases_ascend : Option ℤ → List SwitchCase → Bool
 cases_ascend before [] = true
 cases_ascend before (c ∷ cs) = is_signed (2 ^ 31) c.key && is_above before c.key && cases_ascend (Some (c.key)) cs
 
+-- the number of cases has four bytes and a sign
 abbrev pub is_switch : Operand → Bool
 is_switch (op.Switch otherwise cases) = nat_lt (length cases) (2 ^ 31) && cases_ascend None cases
 is_switch _ = false
 
+-- the operand of an instruction at this place in the code is of the sort that its opcode wants; an unknown opcode has none
 unfoldable pub operand_fits : ℕ → Kind → Operand → Bool
 operand_fits at Plain o = is_nothing o
 operand_fits at Byte o = is_number (2 ^ 7) o
@@ -158,6 +174,7 @@ operand_fits at Class o = is_class_operand o
 operand_fits at Dims o = is_dims o
 operand_fits at Unknown o = false
 
+-- behind `wide` stand only loads, stores and iinc, with numbers of two bytes
 unfoldable pub wide_fits : Kind → Operand → Bool
 wide_fits Local o = is_local_below 65536 o
 wide_fits Step o = is_step_below 65536 (2 ^ 15) o
@@ -167,10 +184,12 @@ wide_fits _ o = false
 unfoldable pub ins_fits : ℕ → Ins → Bool
 ins_fits at i = if i.wide then (is_u8 i.code && wide_fits (kind_of i.code) i.operand) else (is_u8 i.code && (not (i.code == 0xc4) && operand_fits at (kind_of i.code) i.operand))
 
+-- each instruction fits at its place; the place of the first one comes first
 unfoldable pub all_fit : ℕ → List Ins → Bool
 all_fit at [] = true
 all_fit at (i ∷ is) = ins_fits at i && all_fit (at + ins_size at i) is
 
+-- a switch and a jump go to places where an instruction begins; `marks` tells which these are
 abbrev pub case_lands : List Bool → SwitchCase → Bool
 case_lands marks c = begins marks c.at
 
@@ -179,22 +198,27 @@ operand_lands marks (op.Jump to) = begins marks to
 operand_lands marks (op.Switch otherwise cases) = begins marks otherwise && list_all (case_lands marks) cases
 operand_lands marks _ = true
 
+-- wherever the instruction may go, an instruction begins
 abbrev pub ins_lands : List Bool → Ins → Bool
 ins_lands marks i = operand_lands marks i.operand
 
 -- ---- handlers and frames
 
+-- the covered part isn't empty, begins at an instruction and ends behind one, and the handler begins at one (JVMS 4.7.3)
 unfoldable pub handler_fits : List Bool → Handler → Bool
 handler_fits marks h = begins marks h.from && (ends marks h.to && (nat_lt h.from h.to && begins marks h.at))
 
+-- an uninitialized item tells the place of its `new`, which is an instruction (JVMS 4.7.4)
 abbrev pub item_fits : List Bool → Item → Bool
 item_fits marks (item.Uninitialized at) = begins marks at
 item_fits marks _ = true
 
+-- the places of frames ascend; None before the first
 abbrev pub is_behind : Option ℕ → ℕ → Bool
 is_behind None at = true
 is_behind (Some before) at = nat_lt before at
 
+-- the items are counted by a u2, and each fits
 unfoldable pub items_fit : List Bool → List Item → Bool
 items_fit marks items = is_count items && list_all (item_fits marks) items
 
@@ -202,25 +226,31 @@ items_fit marks items = is_count items && list_all (item_fits marks) items
 unfoldable pub form_fits : List Bool → Frame → Form → Bool
 form_fits marks f form = items_fit marks (written_locals f form) && items_fit marks (written_stack f form)
 
+-- a frame stands at an instruction, behind the frame before; `seen` is the locals of that frame, or at the method's entry
 unfoldable pub frame_fits : List Bool → Option ℕ → List Item → Frame → Bool
 frame_fits marks before seen f = begins marks f.at && (is_behind before f.at && form_fits marks f (form_of seen f))
 
+-- each frame fits behind the one before
 unfoldable pub frames_fit : List Bool → Option ℕ → List Item → List Frame → Bool
 frames_fit marks before seen [] = true
 frames_fit marks before seen (f ∷ fs) = frame_fits marks before seen f && frames_fit marks (Some (f.at)) f.locals fs
 
+-- the bytes of verification_type_info: its tag, and for two sorts an index or an offset (JVMS 4.7.4)
 abbrev pub item_length : Item → ℕ
 item_length (item.Object name) = 3
 item_length (item.Uninitialized at) = 3
 item_length _ = 1
 
+-- the sum over the items
 unfoldable pub items_length : List Item → ℕ
 items_length [] = 0
 items_length (i ∷ is) = item_length i + items_length is
 
+-- the bytes of a frame: its head, whose length is that of its form, and the items that stand in it
 unfoldable pub form_length : ℕ → Frame → Form → ℕ
 form_length delta f form = head_length delta form + (items_length (written_locals f form) + items_length (written_stack f form))
 
+-- the same from the frame before: by its place, or None, and by its locals
 unfoldable pub frame_length : Option ℕ → List Item → Frame → ℕ
 frame_length before seen f = form_length (delta_of before f.at) f (form_of seen f)
 
@@ -235,9 +265,11 @@ frames_within room before seen (f ∷ fs) = nat_le (frame_length before seen f) 
 abbrev pub frames_room : CodeModel → ℕ
 frames_room c = 2 ^ 32 - 1 - (20 + size_from 0 c.ins + 8 * length c.handlers)
 
+-- the code has at least one byte and less than 65536, its instructions fit, and they go to instructions only (JVMS 4.7.3)
 unfoldable pub ins_all_fit : List Ins → Bool
 ins_all_fit ins = nat_lt 0 (size_from 0 ins) && (nat_lt (size_from 0 ins) 65536 && (all_fit 0 ins && list_all (ins_lands (marks_of ins)) ins))
 
+-- handlers and frames are counted by a u2, each fits, and the frames have room in the attribute Code
 unfoldable pub tables_fit : List Bool → List Item → CodeModel → Bool
 tables_fit marks entry c = is_count c.handlers && (list_all (handler_fits marks) c.handlers && (is_count c.frames && (frames_fit marks None entry c.frames && frames_within (frames_room c) None entry c.frames)))
 
@@ -254,15 +286,19 @@ code_or_none_fits bodiless entry (Some c) = not bodiless && code_fits entry c
 unfoldable pub method_fits : List ℕ → MethodModel → Bool
 method_fits class m = is_u16 m.flags && (is_method_descriptor m.descriptor && code_or_none_fits (is_bodiless m.flags) (entry_of_method class m) m.code)
 
+-- the flags have two bytes, and the descriptor is one of a field
 unfoldable pub field_fits : FieldModel → Bool
 field_fits f = is_u16 f.flags && is_field_descriptor f.descriptor
 
+-- only the flags of a member type may lack room; its names are texts of the pool
 abbrev pub inner_fits : InnerModel → Bool
 inner_fits i = is_u16 i.flags
 
+-- interfaces, fields, methods and member types are counted by a u2 each
 unfoldable pub counts_fit : ClassModel → Bool
 counts_fit c = is_count c.interfaces && (is_count c.fields && (is_count c.methods && is_count c.inner))
 
+-- all that stands behind the pool fits
 unfoldable pub members_fit : ClassModel → Bool
 members_fit c = is_u16 c.flags && (counts_fit c && (list_all field_fits c.fields && (list_all (method_fits c.name) c.methods && list_all inner_fits c.inner)))
 
@@ -270,6 +306,7 @@ members_fit c = is_u16 c.flags && (counts_fit c && (list_all field_fits c.fields
 unfoldable pub pool_fits : ClassModel → Bool
 pool_fits c = list_all known_fits (uses c) && (nat_le (places (loads_of c)) 255 && nat_le (places (uses c)) 65534)
 
+-- the class can be spelled as a class file
 unfoldable pub fits_of : ClassModel → Bool
 fits_of c = members_fit c && pool_fits c
 
@@ -285,10 +322,12 @@ pub record ItemsTake (marks : List Bool) (items : List Item) (size : ℕ) : Type
   pub is : size ≡ items_length items
   pub small : size ≤ 3 * 65536
 
+-- the bytes of a frame in this form, where so much stands between it and the frame before
 pub record FormTakes (marks : List Bool) (delta : ℕ) (f : Frame) (form : Form) (size : ℕ) : Type 0 where
   pub fit : form_fits marks f form ≡ true
   pub is : size ≡ form_length delta f form
 
+-- the bytes of a frame behind the one at `before`, whose locals are `seen`
 pub record FrameTakes (marks : List Bool) (before : Option ℕ) (seen : List Item) (f : Frame) (size : ℕ) : Type 0 where
   pub fit : frame_fits marks before seen f ≡ true
   pub is : size ≡ frame_length before seen f

@@ -36,6 +36,7 @@ field_at pool bytes = do
 abbrev pub is_bodiless : ℕ → Bool
 is_bodiless flags = (flags / 0x100 % 2 == 1) || (flags / 0x400 % 2 == 1)
 
+-- the attribute Code, whose length has to be met
 unfoldable pub code_attribute_at : List Slot → List Item → List ℕ → Result (CodeModel × List ℕ) Flaw
 code_attribute_at pool entry bytes = do
   n ← attribute_at pool (codes "Code") bytes
@@ -52,6 +53,7 @@ with_code_at pool entry bytes = do
   more ← no_more_at pool (n.0 - 1) code.1
   Ok (Some code.0, more.1)
 
+-- no attribute at all
 unfoldable pub without_code_at : List Slot → List ℕ → Result (Option CodeModel × List ℕ) Flaw
 without_code_at pool bytes = do
   n ← number_at w16 bytes
@@ -69,6 +71,7 @@ method_at pool class bytes = do
 
 -- ---- InnerClasses (JVMS 4.7.6)
 
+-- a member type: its class, then the class around it and its name, each of which may be 0, and its flags
 unfoldable pub inner_at : List Slot → List ℕ → Result (InnerModel × List ℕ) Flaw
 inner_at pool bytes = do
   inner ← class_named_at pool bytes
@@ -101,6 +104,7 @@ head_at bytes = do
       (number_at w16 magic.1 >>= λ minor. if not (minor.0 == 0) then Err Version else
       (number_at w16 minor.1 >>= λ version. if not (version.0 == major) then Err Version else pool_at version.1))
 
+-- what stands behind the pool (JVMS 4.1)
 unfoldable pub members_at : List Slot → List ℕ → Result (ClassModel × List ℕ) Flaw
 members_at pool bytes = do
   flags ← number_at w16 bytes

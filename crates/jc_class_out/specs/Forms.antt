@@ -13,9 +13,11 @@ use Rattle.jc_class_out.specs.Descriptors.{entry_locals}
 
 -- ---- what stands before a frame: the method's entry, or a frame
 
+-- the locals at the entry, from the class, the flags, the name and the descriptor of the method
 abbrev pub start_locals : Start → List Item
 start_locals s = entry_locals s.class.now s.flags s.name.now s.descriptor.now
 
+-- the place and the locals of what stands before; the method's entry has no place
 abbrev pub place_before : Before → Option ℕ
 place_before (before.Entry s) = None
 place_before (before.Behind f) = Some (f.now.at)
@@ -26,6 +28,7 @@ locals_before (before.Behind f) = f.now.locals
 
 -- ---- which form it is
 
+-- two items are the same for the verifier, with the same name or place
 abbrev pub same_item : Item → Item → Bool
 same_item Top Top = true
 same_item Integer Integer = true
@@ -36,6 +39,7 @@ same_item (Object a) (Object b) = bytes_eq a b
 same_item (Uninitialized a) (Uninitialized b) = a == b
 same_item _ _ = false
 
+-- where the other list has ended, nothing differs
 abbrev pub first_alike : Item → List Item → Bool
 first_alike x [] = true
 first_alike x (y ∷ ys) = same_item x y
@@ -52,19 +56,23 @@ bare_form seen now =
     if nat_lt now seen then (if nat_le (seen - now) 3 then Chop (seen - now) else Full) else
     if nat_le (now - seen) 3 then Append (now - seen) else Full
 
+-- by how many locals stood before and stand now, which agree, and by how many items stand on the stack
 abbrev pub form_by : ℕ → ℕ → ℕ → Form
 form_by seen now stack =
     if stack == 0 then bare_form seen now else
     if stack == 1 && seen == now then SameItem else Full
 
+-- from the locals before; where they differ from the frame's, only the full form is left
 unfoldable pub form_of : List Item → Frame → Form
 form_of seen f = if alike seen f.locals then form_by (length seen) (length f.locals) (length f.stack) else Full
 
 -- ---- what stands in it
 
+-- the last k of some items; all of them where they are fewer
 abbrev pub last_of : ℕ → List Item → List Item
 last_of k items = drop (length items - k) items
 
+-- the locals, and the items on the stack, that stand in the frame of this form; the others are known from before
 abbrev pub written_locals : Frame → Form → List Item
 written_locals f (Append k) = last_of k f.locals
 written_locals f Full = f.locals

@@ -14,6 +14,7 @@ use Rattle.jc_class_out.specs.Pool.{class_named_at}
 abbrev pub begins : List Bool → ℕ → Bool
 begins marks to = get_or marks to false
 
+-- the item's place is that of an instruction, its `new`
 unfoldable pub offset_item_at : List Bool → List ℕ → Result (Item × List ℕ) Flaw
 offset_item_at marks bytes = do
   at ← number_at w16 bytes
@@ -49,6 +50,7 @@ place_at marks before bytes = do
 unfoldable pub same_item_at : List Slot → List Bool → List Item → ℕ → List ℕ → Result (Frame × List ℕ) Flaw
 same_item_at pool marks locals at bytes = item_at pool marks bytes >>= λ i. Ok (record { at = at; locals = locals; stack = i.0 ∷ [] }, i.1)
 
+-- 247: the same with a delta of two bytes
 unfoldable pub same_item_extended_at : List Slot → List Bool → Option ℕ → List Item → List ℕ → Result (Frame × List ℕ) Flaw
 same_item_extended_at pool marks before locals bytes = place_at marks before bytes >>= λ at. same_item_at pool marks locals at.0 at.1
 
@@ -103,5 +105,6 @@ frames_at pool marks (suc n) before locals bytes = do
   more ← frames_at pool marks n (Some (f.0.at)) f.0.locals f.1
   Ok (f.0 ∷ more.0, more.1)
 
+-- a u2 that says how many frames follow; `entry` is the locals at the method's entry
 unfoldable pub table_at : List Slot → List Bool → List Item → List ℕ → Result (List Frame × List ℕ) Flaw
 table_at pool marks entry bytes = number_at w16 bytes >>= λ n. frames_at pool marks n.0 None entry n.1

@@ -18,6 +18,7 @@ use Rattle.jc_class_out.specs.Pool.{Known, KnownWhole, KnownLong, KnownLiteral, 
 
 -- ---- opcodes
 
+-- both ends are within
 abbrev pub within : ℕ → ℕ → ℕ → Bool
 within low high code = nat_le low code && nat_le code high
 
@@ -45,6 +46,7 @@ is_conversion code = code == 0x85 || code == 0x88 || within 0x91 0x93 code
 abbrev pub is_return : ℕ → Bool
 is_return code = within 0xac 0xad code || within 0xb0 0xb1 code || code == 0xbf
 
+-- the instructions that have no operand
 abbrev pub is_plain : ℕ → Bool
 is_plain code = is_constant code || is_element code || is_stack code || is_arithmetic code || is_conversion code || is_return code
 
@@ -60,6 +62,7 @@ is_jump code = within 0x99 0xa7 code || within 0xc6 0xc7 code
 abbrev pub is_class : ℕ → Bool
 is_class code = code == 0xbb || code == 0xbd || within 0xc0 0xc1 code
 
+-- what stands behind an opcode that names something in the pool; Unknown for an opcode that the profile doesn't have
 unfoldable pub member_kind : ℕ → Kind
 member_kind code =
     if within 0xb2 0xb5 code then Field else
@@ -68,6 +71,7 @@ member_kind code =
     if is_class code then Class else
     if code == 0xc5 then Dims else Unknown
 
+-- the same of opcodes with a local or a place in the code, or else of those above
 unfoldable pub branch_kind : ℕ → Kind
 branch_kind code =
     if is_local code then Local else
@@ -75,6 +79,7 @@ branch_kind code =
     if is_jump code then Jump else
     if code == 0xab then Switch else member_kind code
 
+-- what stands behind any opcode; 0xc4, `wide`, is none by itself
 unfoldable pub kind_of : ℕ → Kind
 kind_of code =
     if is_plain code then Plain else
@@ -95,18 +100,22 @@ is_array_code n = within 4 5 n || within 8 11 n
 abbrev pub target : ℕ → ℕ → ℕ
 target at by = if nat_lt by 32768 then (at + by) % 2 ^ 32 else (at + by + (2 ^ 32 - 65536)) % 2 ^ 32
 
+-- the same by a number of four bytes, as lookupswitch has them
 abbrev pub wide_target : ℕ → ℕ → ℕ
 wide_target at by = (at + by) % 2 ^ 32
 
+-- the constant that ldc or ldc_w loads, an int or a string; any other entry is the given flaw
 abbrev pub loaded_by : Option Known → Flaw → Result Loaded Flaw
 loaded_by (Some (KnownWhole n)) e = Ok (LoadedWhole n)
 loaded_by (Some (KnownLiteral t)) e = Ok (LoadedText t)
 loaded_by _ e = Err e
 
+-- the constant of ldc2_w, which has to be a long; the profile has no doubles
 abbrev pub loaded_long_by : Option Known → Flaw → Result Loaded Flaw
 loaded_long_by (Some (KnownLong n)) e = Ok (LoadedLong n)
 loaded_long_by _ e = Err e
 
+-- the member that an entry of the right sort names; any other entry is the given flaw
 abbrev pub field_by : Option Known → Flaw → Result Operand Flaw
 field_by (Some (KnownField c n d)) e = Ok (op.Member c n d)
 field_by _ e = Err e
@@ -120,6 +129,7 @@ abbrev pub interface_by : Option Known → Flaw → Result (Operand × ℕ) Flaw
 interface_by (Some (KnownInterface c n d)) e = Ok (op.Member c n d, or_zero (parameter_units d))
 interface_by _ e = Err e
 
+-- the operands that are indices into the pool: of one byte for ldc, and of two for all others; the flaw is at the index
 unfoldable pub load_op : List Slot → List ℕ → Result (Operand × List ℕ) Flaw
 load_op pool bytes = do
   i ← u8_at bytes
@@ -161,6 +171,7 @@ interface_op pool bytes = do
   _ ← wants (zeros.0 == 0) (length count.1)
   Ok (o.0, zeros.1)
 
+-- the name of a class, and behind it, for multianewarray, the number of dimensions, which isn't 0
 unfoldable pub class_op : List Slot → List ℕ → Result (Operand × List ℕ) Flaw
 class_op pool bytes = do
   c ← class_named_at pool bytes
@@ -173,6 +184,7 @@ dims_op pool bytes = do
   _ ← wants (not (n.0 == 0)) (length c.1)
   Ok (op.Dims c.0 n.0, n.1)
 
+-- the numbers of bipush and sipush, which have a sign, and the type of newarray; the flaw of the latter is at its byte
 unfoldable pub byte_op : List ℕ → Result (Operand × List ℕ) Flaw
 byte_op bytes = u8_at bytes >>= λ n. Ok (op.Number (cast_signed w8 n.0), n.1)
 
@@ -182,6 +194,7 @@ short_op bytes = number_at w16 bytes >>= λ n. Ok (op.Number (cast_signed w16 n.
 unfoldable pub array_op : List ℕ → Result (Operand × List ℕ) Flaw
 array_op bytes = u8_at bytes >>= λ n. if is_array_code n.0 then Ok (op.Number (pos n.0), n.1) else Err (Tag (length bytes))
 
+-- the number of a local, of one byte; for iinc the number to add follows, which has a sign
 unfoldable pub local_op : List ℕ → Result (Operand × List ℕ) Flaw
 local_op bytes = u8_at bytes >>= λ n. Ok (op.Local n.0, n.1)
 
@@ -191,6 +204,7 @@ step_op bytes = do
   by ← u8_at n.1
   Ok (op.Step n.0 (cast_signed w8 by.0), by.1)
 
+-- where a jump of two bytes goes, from its instruction's place
 unfoldable pub jump_op : ℕ → List ℕ → Result (Operand × List ℕ) Flaw
 jump_op at bytes = number_at w16 bytes >>= λ by. Ok (op.Jump (target at by.0), by.1)
 
@@ -200,6 +214,7 @@ jump_op at bytes = number_at w16 bytes >>= λ by. Ok (op.Jump (target at by.0), 
 abbrev pub padding : ℕ → ℕ
 padding at = 3 - at % 4
 
+-- so many zero bytes; another byte is the flaw
 unfoldable pub zeros_at : ℕ → List ℕ → Result (ℕ × List ℕ) Flaw
 zeros_at zero bytes = Ok (0, bytes)
 zeros_at (suc n) bytes = u8_at bytes >>= λ b. wants (b.0 == 0) (length bytes) >>= λ _. zeros_at n b.1
@@ -209,6 +224,7 @@ abbrev pub is_above : Option ℤ → ℤ → Bool
 is_above None key = true
 is_above (Some before) key = int_lt before key
 
+-- a key, greater than the one before, and where its case goes; both have four bytes
 unfoldable pub case_at : ℕ → Option ℤ → List ℕ → Result (SwitchCase × List ℕ) Flaw
 case_at at before bytes = do
   key ← number_at w32 bytes
@@ -216,6 +232,7 @@ case_at at before bytes = do
   by ← number_at w32 key.1
   Ok (record { key = cast_signed w32 key.0; at = wide_target at by.0 }, by.1)
 
+-- so many cases, each behind the one before
 unfoldable pub cases_at : ℕ → ℕ → Option ℤ → List ℕ → Result (List SwitchCase × List ℕ) Flaw
 cases_at zero at before bytes = Ok ([], bytes)
 cases_at (suc n) at before bytes = do
@@ -235,6 +252,7 @@ switch_op at bytes = do
 
 -- ---- instructions
 
+-- the operand that an opcode wants; `left` is how many bytes are left from the opcode on, and `at` is its place in the code
 unfoldable pub operand_at : List Slot → ℕ → ℕ → Kind → List ℕ → Result (Operand × List ℕ) Flaw
 operand_at pool left at Plain bytes = Ok (op.Nothing, bytes)
 operand_at pool left at Byte bytes = byte_op bytes
@@ -260,12 +278,14 @@ wide_operand_at left Local bytes = number_at w16 bytes >>= λ n. Ok (op.Local n.
 wide_operand_at left Step bytes = number_at w16 bytes >>= λ n. number_at w16 n.1 >>= λ by. Ok (op.Step n.0 (cast_signed w16 by.0), by.1)
 wide_operand_at left _ bytes = Err (Opcode left)
 
+-- the instruction behind `wide`, from its opcode on
 unfoldable pub wide_at : List ℕ → Result (Ins × List ℕ) Flaw
 wide_at bytes = do
   code ← u8_at bytes
   o ← wide_operand_at (length bytes) (kind_of code.0) code.1
   Ok (record { code = code.0; wide = true; operand = o.0 }, o.1)
 
+-- the instruction of this opcode without `wide`, from its operand on
 unfoldable pub narrow_at : List Slot → ℕ → ℕ → ℕ → List ℕ → Result (Ins × List ℕ) Flaw
 narrow_at pool left at code bytes = do
   o ← operand_at pool left at (kind_of code) bytes
@@ -279,6 +299,7 @@ ins_at pool at bytes = do
 
 -- ---- the size of an instruction at a place
 
+-- the bytes of the operand of this kind; lookupswitch has padding by its place, and eight bytes for each case
 unfoldable pub operand_size : ℕ → Kind → Operand → ℕ
 operand_size at Plain o = 0
 operand_size at Byte o = 1
@@ -299,9 +320,11 @@ operand_size at Class o = 2
 operand_size at Dims o = 3
 operand_size at Unknown o = 0
 
+-- behind `wide` a local has two bytes, and iinc two more
 abbrev pub wide_size : Operand → ℕ
 wide_size (op.Step local by) = 4
 wide_size _ = 2
 
+-- the bytes of the whole instruction, with its opcode and `wide`
 abbrev pub ins_size : ℕ → Ins → ℕ
 ins_size at i = if i.wide then 2 + wide_size i.operand else 1 + operand_size at (kind_of i.code) i.operand

@@ -28,17 +28,21 @@ pub data Known : Type 0 where
 
 -- ---- look-ups; the first entry has number 1
 
+-- number 0 and numbers behind the pool's end have no entry
 unfoldable pub entry_of : List Slot → ℕ → Option Entry
 entry_of pool zero = None
 entry_of pool (suc i) = option_and_then (λ (s : Slot). Some s.entry) (slice_get pool i)
 
+-- the units of the text that an entry is, or that the entry of a number is; other entries have none
 abbrev pub a_text : Entry → Option (List ℕ)
 a_text (Text units) = Some units
 a_text _ = None
 
+-- the units of the text at a number
 abbrev pub text_of : List Slot → ℕ → Option (List ℕ)
 text_of pool i = option_and_then a_text (entry_of pool i)
 
+-- the name of the class that an entry names, or that of the entry of a number
 abbrev pub a_class : List Slot → Entry → Option (List ℕ)
 a_class pool (Class name) = text_of pool name
 a_class pool _ = None
@@ -46,11 +50,13 @@ a_class pool _ = None
 abbrev pub class_of : List Slot → ℕ → Option (List ℕ)
 class_of pool i = option_and_then (a_class pool) (entry_of pool i)
 
+-- both, or None where one is missing
 abbrev pub both : {A B : Type 0} → Option A → Option B → Option (A × B)
 both None b = None
 both (Some a) None = None
 both (Some a) (Some b) = Some (a, b)
 
+-- the name and the descriptor of an entry NameAndType, and of the entry of a number (JVMS 4.4.6)
 abbrev pub a_pair : List Slot → Entry → Option (List ℕ × List ℕ)
 a_pair pool (Pair name descriptor) = both (text_of pool name) (text_of pool descriptor)
 a_pair pool _ = None
@@ -58,6 +64,7 @@ a_pair pool _ = None
 abbrev pub pair_of : List Slot → ℕ → Option (List ℕ × List ℕ)
 pair_of pool i = option_and_then (a_pair pool) (entry_of pool i)
 
+-- the meaning of an entry from its parts, three, one or two; None where a part is missing
 abbrev pub member_by : (List ℕ → List ℕ → List ℕ → Known) → Option (List ℕ × (List ℕ × List ℕ)) → Option Known
 member_by known None = None
 member_by known (Some m) = Some (known m.0 m.1.0 m.1.1)
@@ -70,6 +77,7 @@ abbrev pub two_by : (List ℕ → List ℕ → Known) → Option (List ℕ × Li
 two_by known None = None
 two_by known (Some p) = Some (known p.0 p.1)
 
+-- what an entry means; the second place of a long is no entry, and has no meaning (JVMS 4.4.5)
 unfoldable pub known_of_entry : List Slot → Entry → Option Known
 known_of_entry pool Behind = None
 known_of_entry pool (Text t) = Some (KnownText t)
@@ -86,6 +94,7 @@ known_of_entry pool (Pair name descriptor) = two_by KnownPair (both (text_of poo
 unfoldable pub known_of : List Slot → ℕ → Option Known
 known_of pool i = option_and_then (known_of_entry pool) (entry_of pool i)
 
+-- the tags of JVMS 4.4; the second place of a long has none, and neither has a number without an entry
 abbrev pub tag_of : Entry → ℕ
 tag_of Behind = 0
 tag_of (Text t) = 1
@@ -98,6 +107,7 @@ tag_of (Method c p) = 10
 tag_of (Interface c p) = 11
 tag_of (Pair n d) = 12
 
+-- the tag at a number, or 0
 abbrev pub tag_if : Option Entry → ℕ
 tag_if None = 0
 tag_if (Some e) = tag_of e
@@ -107,18 +117,21 @@ tag_at pool i = tag_if (entry_of pool i)
 
 -- ---- reading
 
+-- a u2 that says how many bytes follow, which have to be modified UTF-8 (JVMS 4.4.7)
 unfoldable pub text_at : List ℕ → Result (List ℕ × List ℕ) Flaw
 text_at bytes = do
   n ← number_at w16 bytes
   if nat_lt (length n.1) n.0 then Err Short else
       (or_flaw (text_of_bytes (take n.0 n.1)) (BadText (length n.1)) >>= λ t. Ok (t, drop n.0 n.1))
 
+-- two u2, one after the other
 unfoldable pub two_at : List ℕ → Result (ℕ × ℕ × List ℕ) Flaw
 two_at bytes = do
   a ← number_at w16 bytes
   b ← number_at w16 a.1
   Ok (a.0, b.0, b.1)
 
+-- the entry behind its tag; `left` is how many bytes are left from the tag on, where the flaw of an unknown tag is
 unfoldable pub entry_by : ℕ → ℕ → List ℕ → Result (Entry × List ℕ) Flaw
 entry_by left tag bytes =
     if tag == 1 then (text_at bytes >>= λ t. Ok (Text t.0, t.1)) else
@@ -131,6 +144,7 @@ entry_by left tag bytes =
     if tag == 11 then (two_at bytes >>= λ n. Ok (Interface n.0 n.1, n.2)) else
     if tag == 12 then (two_at bytes >>= λ n. Ok (Pair n.0 n.1, n.2)) else Err (Tag left)
 
+-- the entry with its tag
 unfoldable pub entry_at : List ℕ → Result (Entry × List ℕ) Flaw
 entry_at bytes = do
   tag ← u8_at bytes
@@ -141,12 +155,14 @@ abbrev pub pending_of : ℕ → Entry → Option ℕ
 pending_of left (Long n) = Some left
 pending_of left _ = None
 
+-- the next place of the pool, and the place pending behind it; a pending one takes no bytes
 unfoldable pub slot_at : Option ℕ → List ℕ → Result (Slot × Option ℕ × List ℕ) Flaw
 slot_at (Some left) bytes = Ok (record { left = left; entry = Behind }, None, bytes)
 slot_at None bytes = do
   e ← entry_at bytes
   Ok (record { left = length bytes; entry = e.0 }, pending_of (length bytes) e.0, e.1)
 
+-- so many places; a long in the last one has no second place, which is a flaw
 unfoldable pub slots_at : ℕ → Option ℕ → List ℕ → Result (List Slot × List ℕ) Flaw
 slots_at zero None bytes = Ok ([], bytes)
 slots_at zero (Some left) bytes = Err (Index left)
@@ -161,16 +177,20 @@ abbrev pub text_is : (List ℕ → Bool) → Option (List ℕ) → Bool
 text_is test None = false
 text_is test (Some t) = test t
 
+-- a pair that isn't whole passes here, since its tag and its own entry are tested besides
 abbrev pub pair_is : (List ℕ → Bool) → Option (List ℕ × List ℕ) → Bool
 pair_is test None = true
 pair_is test (Some p) = test p.1
 
+-- a name with descriptor may be of a field or of a method
 abbrev pub is_descriptor : List ℕ → Bool
 is_descriptor d = is_field_descriptor d || is_method_descriptor d
 
+-- the class and the pair of a member; `left` is counted from its tag on, so that they stand 1 and 3 bytes behind it
 abbrev pub check_member : List Slot → ℕ → (List ℕ → Bool) → ℕ → ℕ → Result ℕ Flaw
 check_member pool left test class pair = wants (tag_at pool class == 7) (left - 1) >>= λ _. wants (tag_at pool pair == 12 && pair_is test (pair_of pool pair)) (left - 3)
 
+-- the numbers in an entry go to entries of the right tags; entries without numbers pass
 abbrev pub check_entry : List Slot → ℕ → Entry → Result ℕ Flaw
 check_entry pool left (Class name) = wants (tag_at pool name == 1) (left - 1)
 check_entry pool left (Literal text) = wants (tag_at pool text == 1) (left - 1)
@@ -180,9 +200,11 @@ check_entry pool left (Interface class pair) = check_member pool left is_method_
 check_entry pool left (Pair name descriptor) = wants (tag_at pool name == 1) (left - 1) >>= λ _. wants (text_is is_descriptor (text_of pool descriptor)) (left - 3)
 check_entry pool left _ = Ok 0
 
+-- the entry of a place; each place of the list is checked in `pool`, from left to right
 unfoldable pub check_slot : List Slot → Slot → Result ℕ Flaw
 check_slot pool s = check_entry pool s.left s.entry
 
+-- place by place, up to the first flaw
 unfoldable pub checked : List Slot → List Slot → Result ℕ Flaw
 checked pool [] = Ok 0
 checked pool (s ∷ ss) = check_slot pool s >>= λ _. checked pool ss
@@ -196,6 +218,7 @@ pool_at bytes = do
 
 -- ---- indices into the pool
 
+-- the text of an index, and the name of the class of an index; there has to be one
 unfoldable pub named_at : List Slot → List ℕ → Result (List ℕ × List ℕ) Flaw
 named_at pool bytes = do
   i ← number_at w16 bytes

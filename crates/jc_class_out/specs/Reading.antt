@@ -5,6 +5,7 @@ use Rattle.std.specs.Int.{Width, w16, byte_len, from_be_bytes}
 use Rattle.jc_class_out.specs.declared.format.Flaw.{Flaw}
 use Rattle.jc_class_out.specs.declared.format.Flaw.TheVariants.{Short, Index}
 
+-- goes on with what was read, or keeps the first flaw
 infixl 10 ◌>>=◌
 abbrev pub ◌>>=◌ : {A B : Type 0} → Result A Flaw → (A → Result B Flaw) → Result B Flaw
 (Ok x) >>= f = f x

@@ -4,6 +4,7 @@ use Rattle.std.specs.Int.{w32, w64, cast_unsigned}
 use Rattle.jc_class_out.specs.Pool.{Known, KnownText, KnownWhole, KnownLong, KnownBehind, KnownClass, KnownLiteral, KnownField, KnownMethod, KnownInterface, KnownPair}
 use Rattle.jc_class_out.specs.Spelling.{add}
 
+-- a hash of the units, behind that of what came before
 unfoldable pub mix : ℕ → List ℕ → ℕ
 mix h [] = h
 mix h (u ∷ us) = mix ((h * 31 % 2 ^ 32 + u) % 2 ^ 32) us
@@ -30,6 +31,7 @@ is_of (Some bucket) k = spread k % 128 == bucket
 unfoldable pub sift : Option ℕ → List Known → Known → List Known
 sift bucket ks k = if is_of bucket k && nat_lt (length ks) 1024 then add ks k else ks
 
+-- one constant after the other
 unfoldable pub sifted : Option ℕ → List Known → List Known → List Known
 sifted bucket ks [] = ks
 sifted bucket ks (u ∷ us) = sifted bucket (sift bucket ks u) us

@@ -14,9 +14,11 @@ unit_bytes u =
 abbrev pub text_bytes : List ℕ → List ℕ
 text_bytes units = flat_map unit_bytes units
 
+-- a byte behind the first of a unit
 abbrev pub is_more : ℕ → Bool
 is_more b = nat_le 0x80 b && nat_lt b 0xC0
 
+-- a unit of two bytes, and one of three; a longer spelling than is needed is none, but that of NUL
 abbrev pub two : ℕ → List ℕ → Option (ℕ × List ℕ)
 two a [] = None
 two a (b ∷ rest) =

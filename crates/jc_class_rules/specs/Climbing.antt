@@ -13,6 +13,7 @@ abbrev pub met_as : List Ty → Ty → Option Ty
 met_as [] s = None
 met_as (v ∷ vs) s = if is_of_class (class_of s) v then Some v else met_as vs s
 
+-- a list of s, where none was met; else the empty list
 abbrev pub new_beside : Option Ty → Ty → List Ty
 new_beside None s = s ∷ []
 new_beside (Some v) s = []
@@ -21,6 +22,7 @@ new_beside (Some v) s = []
 abbrev pub if_new : List Ty → Ty → List Ty
 if_new met s = new_beside (met_as met s) s
 
+-- a type was met, and isn't the same as s
 abbrev pub differs : Option Ty → Ty → Bool
 differs None s = false
 differs (Some v) s = not (same s v)
@@ -34,6 +36,7 @@ abbrev pub all_new : List Ty → List Ty → List Ty
 all_new met [] = []
 all_new met (s ∷ ss) = if_new met s ++ all_new (met ++ if_new met s) ss
 
+-- one of these is of a class of which another type was met, among these too
 abbrev pub some_other : List Ty → List Ty → Bool
 some_other met [] = false
 some_other met (s ∷ ss) = is_other met s || some_other (met ++ if_new met s) ss

@@ -40,6 +40,7 @@ stands_at T k v w = cond (meets T k v w) (result_answer T v w) Yes
 unfoldable pub one_at : Table → ClassId → MethodView → List MethodView → MethodView → Answer
 one_at T k v all w = cond (meets T k v w) (stands_for_all T k w all) No
 
+-- the answer where something must not hold
 abbrev pub no_if : Bool → Answer
 no_if b = cond b No Yes
 
@@ -55,6 +56,7 @@ meets_with_body T k v w = meets T k v w && with_body T w
 abbrev pub disagrees_some : Table → ClassId → List MethodView → MethodView → Bool
 disagrees_some T k all v = list_any (meets_badly T k v) all
 
+-- a member disagrees with none of these that it meets, and a result stands for all (JLS 8.4.8.4)
 unfoldable pub fitting : Table → ClassId → List MethodView → MethodView → Answer
 fitting T k all v = both (no_if (disagrees_some T k all v)) (agreement T k all v)
 
@@ -76,6 +78,7 @@ ids_agree T k ids =
 unfoldable pub HasSeen : Table → ClassId → List (List MethodId) → Answer → (ℕ → Bool) → Type 0
 HasSeen T k groups answer seen = (g : ℕ) → seen g ≡ true → both answer (ids_agree T k (group_at groups (Some g))) ≡ answer
 
+-- a name's group was seen; a name without a group wasn't
 abbrev pub is_marked : (ℕ → Bool) → Option ℕ → Bool
 is_marked seen None = false
 is_marked seen (Some g) = seen g
@@ -100,6 +103,7 @@ own_replaces T k m w = same_class (owner T w) k && replaces T w m
 unfoldable pub is_covered : Table → ClassId → List MethodId → MethodId → Bool
 is_covered T k own m = same_class (owner T m) k || list_any (own_replaces T k m) own
 
+-- each of these methods is covered
 abbrev pub all_covered : Table → ClassId → List MethodId → List MethodId → Bool
 all_covered T k own [] = true
 all_covered T k own (m ∷ ms) = is_covered T k own m && all_covered T k own ms

@@ -3,6 +3,7 @@ use Rattle.std.specs.Prelude.{◌≡◌, ◌⊎◌, ◌<◌, ℕ, true, false, L
 use Rattle.jc_components.specs.declared.claims.Claim.{Claim}
 use Rattle.jc_components.specs.Reach.{IsIn, row}
 
+-- what is claimed of a vertex; where nothing is, it counts as one of part 0 that is on no cycle
 abbrev pub claim_in : Option Claim → Claim
 claim_in (Some c) = c
 claim_in None = record { part = 0; is_cyclic = false; root = 0; next = 0; next_left = 0; before = 0; before_left = 0 }
@@ -14,6 +15,7 @@ claim_of cs v = claim_in (slice_get cs v)
 abbrev pub LeadsOn : Claim → Claim → Type 0
 LeadsOn c d = (c.part < d.part) ⊎ ((c.part ≡ d.part) × (c.is_cyclic ≡ true))
 
+-- each edge to one of these vertices leads on
 abbrev pub LeadOn : List Claim → Claim → List ℕ → Type 0
 LeadOn cs c ws = (w : ℕ) → IsIn w ws → LeadsOn c (claim_of cs w)
 
@@ -34,17 +36,21 @@ pub record Onward (es : List (List ℕ)) (cs : List Claim) (v : ℕ) (c : Claim)
   pub beside : IsBeside cs c.next c.root
   pub nearer : (claim_of cs c.next).next_left < c.next_left
 
+-- an edge to v from a vertex beside the same root, from which fewer steps are left back to it
 pub record Back (es : List (List ℕ)) (cs : List Claim) (v : ℕ) (c : Claim) : Type 0 where
   pub edge : IsIn v (row es c.before)
   pub beside : IsBeside cs c.before c.root
   pub nearer : (claim_of cs c.before).before_left < c.before_left
 
+-- a vertex that lies on a cycle: it is a root that closes one, or has a step to its root and one from it
 abbrev pub Turns : List (List ℕ) → List Claim → ℕ → Claim → Type 0
 Turns es cs v c = Closes es cs v c ⊎ (Onward es cs v c × Back es cs v c)
 
+-- what is claimed of vertex v holds beside its neighbours' claims
 pub record Proper (es : List (List ℕ)) (cs : List Claim) (v : ℕ) : Type 0 where
   pub leads : LeadOn cs (claim_of cs v) (row es v)
   pub turns : (claim_of cs v).is_cyclic ≡ true → Turns es cs v (claim_of cs v)
 
+-- .. of each of the first k vertices
 abbrev pub AllProper : List (List ℕ) → List Claim → ℕ → Type 0
 AllProper es cs k = (v : ℕ) → v < k → Proper es cs v

@@ -2,6 +2,7 @@
 use Rattle.std.specs.Prelude.{◌≡◌, ◌<◌, ℕ, Bool, true, false, List, Option, Some, None, length, slice_get}
 use Rattle.jc_components.specs.Reach.{Reach}
 
+-- the mark of a vertex; one without a mark isn't marked
 abbrev pub or_false : Option Bool → Bool
 or_false None = false
 or_false (Some b) = b

@@ -12,6 +12,7 @@ use Rattle.jc_declares.specs.Looking.{Knowledge}
 use Rattle.jc_declares.specs.Writing.{Reading}
 use Rattle.jc_declares.specs.Constants.{Formed, Right, none_of_creation, expr_formed, none_of_init, operand_formed, none_of_array}
 
+-- creations and initialisers beside expressions: they have no constant form
 unfoldable pub formed_creation : Heads → Knowledge → ℕ → Reading → Creation → Formed
 formed_creation H K file r node = fold-Creation Formed Formed Formed Right Formed none_of_creation (expr_formed H K file r) none_of_init operand_formed none_of_array node
 
@@ -22,6 +23,7 @@ formed_init H K file r node = fold-Init Formed Formed Formed Right Formed none_o
 unfoldable pub formed_operand : Heads → Knowledge → ℕ → Reading → Operand → Right
 formed_operand H K file r node = fold-Operand Formed Formed Formed Right Formed none_of_creation (expr_formed H K file r) none_of_init operand_formed none_of_array node
 
+-- an array initialiser, which has no constant form
 unfoldable pub formed_array : Heads → Knowledge → ℕ → Reading → ArrayInit → Formed
 formed_array H K file r node = fold-ArrayInit Formed Formed Formed Right Formed none_of_creation (expr_formed H K file r) none_of_init operand_formed none_of_array node
 
@@ -30,13 +32,16 @@ abbrev pub named_at : ℕ → List (List ℕ) → Option Path
 named_at at [] = None
 named_at at (p ∷ ps) = Some (record { at = at; first = p; more = ps })
 
+-- the name that a form is of; None where it is of no name
 abbrev pub named_by : Formed → Option Path
 named_by f = named_at f.place f.name
 
+-- a name with one part more; what is no name stays none
 abbrev pub with_part : List ℕ → Option Path → Option Path
 with_part n None = None
 with_part n (Some p) = Some (record p { more = p.more ++ n ∷ [] })
 
+-- a name as a constant expression, at its offset in a file; what is no name is none
 abbrev pub path_expr : ℕ → Path → ConstantExpr
 path_expr file p = expr.Name (record { file = file; at = p.at }) (p.first ∷ p.more)
 

@@ -24,16 +24,19 @@ Implies = Standing → Ty → List Implied
 abbrev pub ArgImplies : Type 0
 ArgImplies = Standing → Arg → List Implied
 
+-- a type variable is one of the unknown parameters
 abbrev pub is_unknown : List VarId → VarId → Bool
 is_unknown [] v = false
 is_unknown (w ∷ ws) v = (w.0 == v.0) || is_unknown ws v
 
+-- one line for a variable, if the condition holds; else none
 abbrev pub implied_if : Bool → VarId → Standing → Ty → List Implied
 implied_if true v s t = record { variable = v; standing = s; ty = t } ∷ []
 implied_if false v s t = []
 
 -- ---- arrays
 
+-- a type unless it is primitive
 abbrev pub if_reference : Bool → Ty → Option Ty
 if_reference true t = None
 if_reference false t = Some t
@@ -45,6 +48,7 @@ reference t = if_reference (is_primitive t) t
 abbrev pub reference_element : Ty → Option Ty
 reference_element t = option_and_then reference (element t)
 
+-- of a type's outermost layer; other types than these have none
 abbrev pub bounds_at : Table → List Bounds → Layer → List Ty
 bounds_at T env (Ty-F.Variable v) = bounds_of T v
 bounds_at T env (Ty-F.Captured c) = uppers_of env c
@@ -55,6 +59,7 @@ bounds_at T env _ = []
 unfoldable pub bounds : Table → List Bounds → Ty → List Ty
 bounds T env t = bounds_at T env (out-Ty t)
 
+-- the type of the elements of a type, or of the first of its bounds that has some, in at most n steps
 abbrev pub up_element_within : Table → List Bounds → ℕ → Ty → Option Ty
 up_element_within T env zero t = None
 up_element_within T env (suc n) t = or_else (reference_element t) (first_of (up_element_within T env n) (bounds T env t))
@@ -74,12 +79,14 @@ abbrev pub down : (Ty → Option Ty) → ℕ → Option Ty → Option Ty
 down e zero o = o
 down e (suc n) o = down e n (option_and_then e o)
 
+-- what a type implies by its elements, if there are such
 abbrev pub on_element : Implies → Standing → Option Ty → List Implied
 on_element f s (Some t) = f s t
 on_element f s None = []
 
 -- ---- arguments
 
+-- the arguments of a view, if there is one
 abbrev pub args_in : Option Ty → List Arg
 args_in (Some t) = args_of t
 args_in None = []
@@ -94,10 +101,12 @@ args_for T env Below k a = args_in (up_view T env k a)
 args_for T env Same k a = own_args k a
 args_for T env Above k a = own_args k a
 
+-- what the types in two arguments imply, where both have one and it is said how they stand
 abbrev pub of_parts : Option Implies → Option Ty → Option Standing → List Implied
 of_parts (Some f) (Some t) (Some s) = f s t
 of_parts _ _ _ = []
 
+-- of two arguments, by the kinds of both
 abbrev pub arg_step : Arg-F ArgImplies Implies → ArgImplies
 arg_step l s a = of_parts (part_of l) (part_of (out-Arg a)) (standing_of s (kind_of l) (kind_of (out-Arg a)))
 
@@ -109,6 +118,7 @@ beside (f ∷ fs) s (a ∷ args) = f s a ++ beside fs s args
 
 -- ---- types
 
+-- of a formal type, where its parts' implications are known: other types than these three imply nothing
 abbrev pub type_step : Table → List Bounds → List VarId → Ty-F ArgImplies Implies → Implies
 type_step T env unknown (Ty-F.Variable v) s a = implied_if (is_unknown unknown v) v s a
 type_step T env unknown (Ty-F.Array f n) s a = on_element f s (down (element_for T env s) n (element_for T env s a))
@@ -119,5 +129,6 @@ type_step T env unknown _ s a = []
 unfoldable pub implied : Table → List Bounds → List VarId → Ty → Implies
 implied T env unknown formal = fold-Ty ArgImplies Implies arg_step (type_step T env unknown) formal
 
+-- the same of two arguments, where the types round them stand so
 unfoldable pub implied_by_arg : Table → List Bounds → List VarId → Arg → ArgImplies
 implied_by_arg T env unknown formal = fold-Arg ArgImplies Implies arg_step (type_step T env unknown) formal

@@ -6,6 +6,7 @@ use Rattle.jc_constraints.specs.declared.standing.ArgKind.TheVariants as kind
 use Rattle.jc_constraints.specs.declared.standing.Standing.{Standing}
 use Rattle.jc_constraints.specs.declared.standing.Standing.TheVariants.{Below, Same, Above}
 
+-- how an argument is written: a type, `?`, or a type behind `extends` or `super`
 abbrev pub kind_of : {A X : Type 0} → Arg-F A X → ArgKind
 kind_of (Arg-F.Exact t) = kind.Exact
 kind_of Arg-F.Any = kind.Any
@@ -19,6 +20,7 @@ part_of Arg-F.Any = None
 part_of (Arg-F.Extends t) = Some t
 part_of (Arg-F.Super t) = Some t
 
+-- the same for a type, and nothing for wildcards
 abbrev pub if_exact : ArgKind → Option Standing
 if_exact kind.Exact = Some Same
 if_exact _ = None

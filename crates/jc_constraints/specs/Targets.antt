@@ -24,6 +24,7 @@ Aims = Ty → List Implied
 abbrev pub ArgAims : Type 0
 ArgAims = Arg-F Arg Ty → List Implied
 
+-- the type of an argument that is a type; also one behind `extends` here, one behind `super` next, and of no wildcard last
 abbrev pub exact_or_upper : Arg-F Arg Ty → Option Ty
 exact_or_upper (Arg-F.Exact u) = Some u
 exact_or_upper (Arg-F.Extends u) = Some u
@@ -38,6 +39,7 @@ abbrev pub exact_only : Arg-F Arg Ty → Option Ty
 exact_only (Arg-F.Exact u) = Some u
 exact_only _ = None
 
+-- what a type implies, if there is one
 abbrev pub on_some : Aims → Option Ty → List Implied
 on_some f (Some u) = f u
 on_some f None = []
@@ -47,9 +49,11 @@ abbrev pub parameter_or : List VarId → Ty → List Implied → Layer → List 
 parameter_or unknown s rest (Ty-F.Variable v) = implied_if (is_unknown unknown v) v Above s
 parameter_or unknown s rest _ = rest
 
+-- what part w of a target implies where it stands above a formal type
 abbrev pub onto : List VarId → Ty × Aims → Ty → List Implied
 onto unknown w f = parameter_or unknown w.0 (w.1 f) (out-Ty f)
 
+-- an argument of the target beside one of the formal type: the same, above it behind `extends`, or below it behind `super`
 abbrev pub arg_aim : Table → List Bounds → List VarId → Arg-F (Arg × ArgAims) (Ty × Aims) → ArgAims
 arg_aim T env unknown (Arg-F.Exact w) u = on_some (λ f. implied T env unknown f Same w.0) (exact_only u)
 arg_aim T env unknown Arg-F.Any u = []
@@ -66,6 +70,7 @@ aims_beside (w ∷ ws) (u ∷ us) = w.1 (out-Arg u) ++ aims_beside ws us
 abbrev pub seen_as : Table → ClassId → Ty → List Arg
 seen_as T k f = if is_class k (class_of f) then args_of f else if are_exact (args_of f) then args_in (view T k f) else []
 
+-- nothing for arrays whose elements are primitive
 abbrev pub unless_primitive : Bool → List Implied → List Implied
 unless_primitive true l = []
 unless_primitive false l = l
@@ -77,17 +82,20 @@ array_aim unknown w n (Ty-F.Array u m) =
     unless_primitive (is_primitive w.0) (onto unknown w (lowered u (m - n)))
 array_aim unknown w n _ = []
 
+-- class types go by their arguments and arrays by their elements; other types imply nothing
 abbrev pub type_aim : Table → List Bounds → List VarId → Ty-F (Arg × ArgAims) (Ty × Aims) → Aims
 type_aim T env unknown (Ty-F.Class k ws) f = aims_beside ws (seen_as T k f)
 type_aim T env unknown (Ty-F.Array w n) f = array_aim unknown w n (out-Ty f)
 type_aim T env unknown _ f = []
 
+-- what a target implies of a formal type that isn't an unknown parameter itself; the same of arguments
 unfoldable pub aimed : Table → List Bounds → List VarId → Ty → Aims
 aimed T env unknown s = para-Ty ArgAims Aims (arg_aim T env unknown) (type_aim T env unknown) s
 
 unfoldable pub aimed_by_arg : Table → List Bounds → List VarId → Arg → ArgAims
 aimed_by_arg T env unknown a = para-Arg ArgAims Aims (arg_aim T env unknown) (type_aim T env unknown) a
 
+-- an argument with what it implies
 abbrev pub with_aim : Table → List Bounds → List VarId → Arg → Arg × ArgAims
 with_aim T env unknown a = (a, aimed_by_arg T env unknown a)
 

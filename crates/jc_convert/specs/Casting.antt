@@ -25,6 +25,7 @@ use Rattle.jc_convert.specs.Converting.{box, boxing_rows, unboxing, unboxed, con
 
 -- ---- legal casts of references
 
+-- the modifiers of a class have `final`; a class that the table doesn't have isn't final
 abbrev pub final_in : Option Modifiers → Bool
 final_in None = false
 final_in (Some m) = m.is_final
@@ -40,6 +41,7 @@ are_related T j k = is_some (view T k (Raw j)) || is_some (view T j (Raw k))
 abbrev pub may_share : Table → ClassId → ClassId → Bool
 may_share T j k = (is_interface T j && not (is_final T k)) || (is_interface T k && not (is_final T j))
 
+-- both views are there, and provably distinct (JLS 4.5.1)
 abbrev pub views_distinct : Table → List Bounds → Option Ty → Option Ty → Bool
 views_distinct T env None w = false
 views_distinct T env (Some v) None = false
@@ -68,27 +70,33 @@ Relation = Ty → Ty → Bool
 abbrev pub elements_legal : Relation → Ty → Ty → Bool
 elements_legal go u v = if is_primitive u || is_primitive v then same u v else go u v
 
+-- array types of n + 1 and m + 1 dimensions
 abbrev pub arrays_legal : Relation → Ty → ℕ → Ty → ℕ → Bool
 arrays_legal go u n v m =
     if n == m then elements_legal go u v
     else (if nat_lt n m then elements_legal go u (Array v (m - n - 1)) else elements_legal go (Array u (n - m - 1)) v)
 
+-- an array casts to arrays by their elements, and else to Object alone
 abbrev pub array_legal : Relation → Ty → ℕ → Ty → Layer → Bool
 array_legal go u n t (Ty-F.Array v m) = arrays_legal go u n v m
 array_legal go u n t _ = is_object t
 
+-- a class type casts to an array only from Object, and to a class type by their classes
 abbrev pub class_legal : Table → List Bounds → Ty → Ty → Layer → Bool
 class_legal T env s t (Ty-F.Array v m) = is_object s
 class_legal T env s t _ = classes_legal T env s t (class_of s) (class_of t)
 
+-- neither type is a variable or an intersection
 abbrev pub settled_legal : Relation → Table → List Bounds → Ty → Ty → Layer → Layer → Bool
 settled_legal go T env s t (Ty-F.Array u n) l = array_legal go u n t l
 settled_legal go T env s t _ l = class_legal T env s t l
 
+-- S casts to each of these types
 abbrev pub all_legal : Relation → Ty → List Ty → Bool
 all_legal go s [] = true
 all_legal go s (t ∷ ts) = go s t && all_legal go s ts
 
+-- each of these types casts to T
 abbrev pub legal_from_all : Relation → List Ty → Ty → Bool
 legal_from_all go [] t = true
 legal_from_all go (s ∷ ss) t = go s t && legal_from_all go ss t
@@ -122,6 +130,7 @@ is_legal T env s t = legal_within T env (legal_steps T env) s t
 
 -- ---- the rows
 
+-- each primitive type but boolean
 abbrev pub is_numeric : Primitive → Bool
 is_numeric Boolean = false
 is_numeric _ = true
@@ -156,6 +165,7 @@ bound_at T env go t (Ty-F.Variable v) = go (as_one (bounds_of T v))
 bound_at T env go t (Ty-F.Captured c) = go (as_one (uppers_of env c))
 bound_at T env go t _ = t
 
+-- .. in at most n steps
 abbrev pub bound_within : Table → List Bounds → ℕ → Ty → Ty
 bound_within T env zero t = t
 bound_within T env (suc n) t = bound_at T env (bound_within T env n) t (out-Ty t)
@@ -174,6 +184,7 @@ unboxing_casts T env s None q = unboxing_check T env s q ∷ []
 unboxing_casts T env s (Some p) q =
     plain_row (primitive_below p q) (checked (unboxing T s p q)) ∷ unboxing_check T env s q ∷ []
 
+-- the rows, by which of S and T are primitive
 abbrev pub casts_from_primitive : Table → List Bounds → Primitive → Ty → Layer → List Row
 casts_from_primitive T env p t (Ty-F.Prim q) = primitive_casts p q
 casts_from_primitive T env p t _ = boxing_casts T env p t

@@ -22,6 +22,7 @@ use Rattle.jc_convert.specs.Rows.{Row, row, plain_row, checked, unchecked, first
 
 -- ---- unchecked conversion (JLS 5.1.9)
 
+-- there is a view, and it is raw or counts as raw (JLS 4.8)
 abbrev pub is_raw_view : Table → Option Ty → Bool
 is_raw_view T None = false
 is_raw_view T (Some v) = is_none (arguments T v)
@@ -31,10 +32,12 @@ abbrev pub unchecked_class : Table → List Bounds → Ty → Layer → Bool
 unchecked_class T env s (Ty-F.Class k args) = is_parameterized T k args && is_raw_view T (up_view T env k s)
 unchecked_class T env s _ = false
 
+-- the same of the elements of an array, beside those of another one
 abbrev pub unchecked_array : Table → List Bounds → Ty → Layer → Bool
 unchecked_array T env s (Ty-F.Array t m) = unchecked_class T env s (out-Ty t)
 unchecked_array T env s _ = false
 
+-- two arrays of as many dimensions
 abbrev pub same_further : Layer → Layer → Bool
 same_further (Ty-F.Array s n) (Ty-F.Array t m) = n == m
 same_further _ _ = false
@@ -53,6 +56,7 @@ converts_unchecked T env s t = unchecked_at T env s (out-Ty s) (out-Ty t)
 abbrev pub box : Table → Primitive → Ty
 box T p = Class (box_of T p) []
 
+-- a step from S up to T, or none where they are one type
 abbrev pub up_unless_same : Ty → Ty → List Step
 up_unless_same s t = if same s t then [] else Up t ∷ []
 
@@ -60,6 +64,7 @@ up_unless_same s t = if same s t then [] else Up t ∷ []
 abbrev pub unboxes : Table → List Bounds → Ty → Primitive → Bool
 unboxes T env t p = not ((box_of T p).0 == 0) && is_some (up_view T env (box_of T p) t)
 
+-- the first of these primitive types whose class is T's or above it
 abbrev pub first_unboxed : Table → List Bounds → Ty → List Primitive → Option Primitive
 first_unboxed T env t [] = None
 first_unboxed T env t (p ∷ ps) = if unboxes T env t p then Some p else first_unboxed T env t ps
@@ -76,6 +81,7 @@ unboxing T s p q =
 
 -- ---- constants
 
+-- the types whose constants may be narrowed (JLS 5.2)
 abbrev pub is_small : Primitive → Bool
 is_small Boolean = false
 is_small Byte = true
@@ -84,6 +90,7 @@ is_small Char = true
 is_small Int = true
 is_small Long = false
 
+-- n is neither less than low nor greater than high
 abbrev pub is_within : ℤ → ℤ → ℤ → Bool
 is_within low high n = int_le low n && int_le n high
 
@@ -94,6 +101,7 @@ is_value Short n = is_within (negsuc 32767) (pos 32767) n
 is_value Char n = is_within (pos 0) (pos 65535) n
 is_value _ n = false
 
+-- a constant is there, is a number, and is a value of q
 abbrev pub constant_fits : Option Constant → Primitive → Bool
 constant_fits None q = false
 constant_fits (Some (Whole n of)) q = is_value q n
@@ -103,6 +111,7 @@ constant_fits (Some (Text units)) q = false
 abbrev pub narrows : Option Constant → Primitive → Primitive → Bool
 narrows c p q = is_small p && constant_fits c q
 
+-- .. and T is the class of q
 abbrev pub narrows_to_box : Table → Option Constant → Primitive → Ty → Primitive → Bool
 narrows_to_box T c p t q = same t (box T q) && narrows c p q
 
@@ -144,6 +153,7 @@ abbrev pub unboxing_rows : Table → Ty → Option Primitive → Primitive → L
 unboxing_rows T s None q = []
 unboxing_rows T s (Some p) q = plain_row (primitive_below p q) (checked (unboxing T s p q)) ∷ []
 
+-- the rows, by which of S and T are primitive
 abbrev pub rows_from_primitive : Table → List Bounds → Option Constant → Primitive → Ty → Layer → List Row
 rows_from_primitive T env c p t (Ty-F.Prim q) = primitive_rows c p q
 rows_from_primitive T env c p t _ = boxing_rows T env c p t

@@ -12,12 +12,14 @@ pub record Row : Type 0 where
   pub premise : Answer
   pub gives : Conversion
 
+-- a conversion by these steps, with no unchecked conversion among them, or with one
 abbrev pub checked : List Step → Conversion
 checked steps = record { steps = steps; unchecked = false }
 
 abbrev pub unchecked : List Step → Conversion
 unchecked steps = record { steps = steps; unchecked = true }
 
+-- a row of an answer and a conversion
 abbrev pub row : Answer → Conversion → Row
 row a c = record { premise = a; gives = c }
 
@@ -30,11 +32,13 @@ truth false = No
 abbrev pub plain_row : Bool → Conversion → Row
 plain_row b c = row (truth b) c
 
+-- the row's conversion, or what the rows behind it give; Deep where it can't be told which
 abbrev pub decided : Answer → Conversion → Converts → Converts
 decided Yes c rest = converts.Yes c
 decided No c rest = rest
 decided Deep c rest = converts.Deep
 
+-- what a table of conversions gives: no conversion where each premise is refuted
 abbrev pub first_row : List Row → Converts
 first_row [] = converts.NoConversion
 first_row (r ∷ rs) = decided r.premise r.gives (first_row rs)

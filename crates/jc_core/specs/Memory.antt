@@ -11,6 +11,7 @@ use Rattle.jc_rows.specs.Laid.{row_at}
 use Rattle.jc_rows.specs.declared.row.Placed.{Placed}
 use Rattle.jc_stepping.specs.Makes.{row_step_makes}
 
+-- the same of the instruction at the frame's place; where there is none, the step makes nothing
 abbrev pub placed_makes : List ClassModel → World → Frame → List Waiting → Option Placed → Bool
 placed_makes classes world now waiting (Some placed) = row_step_makes classes world placed.next now waiting placed.row
 placed_makes classes world now waiting None = false

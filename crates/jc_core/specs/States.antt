@@ -11,9 +11,11 @@ use Rattle.jc_core.specs.declared.machine.Core.{Core}
 use Rattle.jc_core.specs.declared.machine.Stepped.{Stepped}
 use Rattle.jc_core.specs.declared.machine.Stepped.TheVariants as stepped
 
+-- the classes of the program that runs
 abbrev pub classes_of : Core → List ClassModel
 classes_of core = core.program
 
+-- the state that the machine's fields stand for
 abbrev pub state_in : Core → State
 state_in core = state_of core.on core.world core.frame core.waiting
 

@@ -19,6 +19,7 @@ use Rattle.jc_declares.specs.Modifiers.{method_modifiers, last_is_variable}
 use Rattle.jc_declares.specs.Writing.{Reading, wrote_type}
 use Rattle.jc_declared.specs.Types.{value_of}
 
+-- method m of class c, in scope s of a file, with its types read so
 abbrev pub method_in : Heads → Knowledge → Reading → ℕ → ℕ → ℕ → ℕ → MethodHead → Bool → MethodDecl
 method_in H K r file m c s head has_block =
     record {
@@ -37,6 +38,7 @@ method_in H K r file m c s head has_block =
       has_body = has_block;
     }
 
+-- a field of class c with these modifiers, one of the variables that are declared together, in scope s of a file
 abbrev pub field_in : Heads → Knowledge → Reading → ℕ → ℕ → ℕ → Modifiers → LocalVars → Var → FieldDecl
 field_in H K r file c s ms vars var =
     record {
@@ -48,6 +50,7 @@ field_in H K r file c s ms vars var =
       value = value_of H K file r s var.init ms.is_final;
     }
 
+-- a type parameter of an owner at a place, with Object where it writes no bound (JLS 4.4)
 abbrev pub variable_in : Heads → Knowledge → Reading → Place → Owner → TypeParam → VariableDecl
 variable_in H K r at owner param =
     record { place = at; name = param.name.text; owner = owner; bounds = types (or_object at.file at.at (written_classes H K at.file r param.bounds)) }

@@ -11,6 +11,7 @@ use Rattle.jc_declares.specs.Looking.{Knowledge}
 use Rattle.jc_declares.specs.Making.{types, constant_value}
 use Rattle.jc_declares.specs.Writing.{Reading}
 
+-- types and their places, with those of these behind them
 unfoldable pub with_types : WrittenTypes → List Written → WrittenTypes
 with_types l ws = record { types = l.types ++ (types ws).types; places = l.places ++ (types ws).places }
 

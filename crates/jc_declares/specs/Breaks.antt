@@ -20,12 +20,14 @@ use Rattle.jc_declares.specs.Writing.{Broken, Wrote, Reading, wrote_class, wrote
 use Rattle.jc_declares.specs.Readings.{head_reading, body_reading, method_reading, wrote_in_use}
 use Rattle.jc_declares.specs.HeadBreaks.{broken_at, unless, of_each, class_file, head_breaks, IsCycle}
 
+-- broken rules at offsets of a file, as refusals there
 abbrev pub in_file : ℕ → List Broken → List Refusal
 in_file file [] = []
 in_file file (b ∷ bs) = broken_at b.rule file b.at ++ in_file file bs
 
 -- ---- 309: modifiers
 
+-- a type, a field, formal parameters and the head of a method, and a local variable: one refusal at its offset where its modifiers don't fit
 abbrev pub class_modifier_breaks : ClassSite → List Refusal
 class_modifier_breaks s =
     unless (class_modifiers_fit (is_interface_head s.head) (not (is_top s.round)) s.of_interface (modifiers_in_head s.head)) (broken_at 309 s.file (first_offset_of_head s.head))
@@ -54,6 +56,7 @@ local_modifier_breaks file (OfElement t) = []
 
 -- ---- 302, 303, 310 and 311: the names of written types
 
+-- what these class types break, and the bounds of these type parameters, in a reading
 abbrev pub class_trees_broken : Heads → Knowledge → Reading → List ClassTree → List Broken
 class_trees_broken H K r [] = []
 class_trees_broken H K r (t ∷ ts) = (wrote_class H K r t).broken ++ class_trees_broken H K r ts
@@ -68,6 +71,7 @@ class_broken H K c s =
     let r : Reading = head_reading H K c in
     in_file s.file (bounds_broken H K r (params_of_head s.head) ++ class_trees_broken H K r (superclass_trees s.head) ++ class_trees_broken H K r (interface_trees s.head))
 
+-- what the types of formal parameters break, and the result; no result (of a constructor) and void break nothing
 abbrev pub formals_broken : Heads → Knowledge → Reading → List Formal → List Broken
 formals_broken H K r [] = []
 formals_broken H K r (f ∷ fs) = (wrote_type H K r f.ty).broken ++ formals_broken H K r fs
@@ -94,6 +98,7 @@ is_static_field H f = is_interface H f.class || says_static f.vars.modifiers
 abbrev pub field_broken : Heads → Knowledge → FieldSite → List Refusal
 field_broken H K f = in_file (class_file H f.class) (wrote_type H K (body_reading H K f.class (is_static_field H f)) f.vars.ty).broken
 
+-- what the types break that a part of a body writes, in the file of its class
 abbrev pub wrotes_broken : List Wrote → List Broken
 wrotes_broken [] = []
 wrotes_broken (w ∷ ws) = w.broken ++ wrotes_broken ws
@@ -103,6 +108,7 @@ use_broken H K u = in_file (class_file H u.class) (wrotes_broken (wrote_in_use H
 
 -- ---- all of them
 
+-- of each class, method, field and part of a body: what its modifiers break, and then what its types do; and all of these
 abbrev pub class_site_breaks : Heads → Knowledge → ℕ → ClassSite → List Refusal
 class_site_breaks H K c s = class_modifier_breaks s ++ class_broken H K c s
 

@@ -37,6 +37,7 @@ pub record Formed : Type 0 where
   pub place : ℕ
   pub name : List (List ℕ)
 
+-- what has no form of a constant expression and is no name; and an expression that is no name, with its form if it has one
 abbrev pub unformed : Formed
 unformed = record { constant = None; place = 0; name = [] }
 
@@ -53,10 +54,12 @@ literal_constant (literal.Boolean true) = Some (Whole (pos 1) primitive.Boolean)
 literal_constant (literal.Boolean false) = Some (Whole (pos 0) primitive.Boolean)
 literal_constant literal.Null = None
 
+-- a literal of a constant, or nothing for null
 abbrev pub as_expr : Option Constant → Option ConstantExpr
 as_expr None = None
 as_expr (Some c) = Some (expr.Literal c)
 
+-- the operators between two operands (JLS 15.17 to 15.24); instanceof isn't among them
 abbrev pub binary_operator : BinaryOp → Op
 binary_operator binary.OrElse = op.ConditionalOr
 binary_operator binary.AndAlso = op.ConditionalAnd
@@ -87,10 +90,12 @@ prefix_operator sign.Complement = Some op.Complement
 prefix_operator sign.Increment = None
 prefix_operator sign.Decrement = None
 
+-- from a value, if there is one; nothing otherwise
 abbrev pub and_then : {X Y : Type 0} → Option X → (X → Option Y) → Option Y
 and_then None f = None
 and_then (Some x) f = f x
 
+-- all of them, the outermost first, or nothing where one of them is ++ or --
 abbrev pub prefix_operators : List PrefixOp → Option (List Op)
 prefix_operators [] = Some []
 prefix_operators (p ∷ ps) = and_then (prefix_operator p.sign) (λ o. and_then (prefix_operators ps) (λ os. Some (o ∷ os)))
@@ -101,12 +106,15 @@ cast_at H (Ty-F.Prim p) = Some (to.Prim p)
 cast_at H (Ty-F.Class id args) = cond (bytes_eq (binary_of H id.0) (codes "java.lang.String")) (Some to.Text) None
 cast_at H _ = None
 
+-- the target of a cast, if a constant may be cast to it
 abbrev pub cast_to : Heads → Ty → Option ConstantType
 cast_to H t = cast_at H (out-Ty t)
 
+-- an operator with its right operand, if they have the forms of a constant expression; nothing for instanceof
 pub record Right : Type 0 where
   pub part : Option ConstantPart
 
+-- all parts of a chain, or nothing where one of them has no constant form
 abbrev pub all_parts : List Right → Option (List ConstantPart)
 all_parts [] = Some []
 all_parts (r ∷ rs) = and_then r.part (λ p. and_then (all_parts rs) (λ ps. Some (p ∷ ps)))
@@ -115,6 +123,7 @@ all_parts (r ∷ rs) = and_then r.part (λ p. and_then (all_parts rs) (λ ps. So
 abbrev pub of_name : ℕ → ℕ → List (List ℕ) → Formed
 of_name file at parts = record { constant = Some (expr.Name (record { file = file; at = at }) parts); place = at; name = parts }
 
+-- a name with one part more; what is no name (no parts) has no constant form behind a point
 abbrev pub longer_parts : ℕ → ℕ → List (List ℕ) → List ℕ → Formed
 longer_parts file at [] n = unformed
 longer_parts file at (p ∷ ps) n = of_name file at (p ∷ ps ++ n ∷ [])
@@ -122,6 +131,7 @@ longer_parts file at (p ∷ ps) n = of_name file at (p ∷ ps ++ n ∷ [])
 abbrev pub longer_name : ℕ → Formed → List ℕ → Formed
 longer_name file f n = longer_parts file f.place f.name n
 
+-- forms of operators, chains, conditionals and casts: nothing as soon as one operand has no constant form (JLS 15.28)
 abbrev pub prefixed : Option (List Op) → Option ConstantExpr → Option ConstantExpr
 prefixed ops operand = and_then ops (λ os. and_then operand (λ e. Some (expr.Prefix os e)))
 
@@ -134,6 +144,7 @@ conditional test a b = and_then test (λ t. and_then a (λ x. and_then b (λ y. 
 abbrev pub cast_formed : Option ConstantType → Option ConstantExpr → Option ConstantExpr
 cast_formed target operand = and_then target (λ t. and_then operand (λ e. Some (expr.Cast t e)))
 
+-- the step at an expression and at an operand; all forms that aren't listed, calls and assignments among them, are none of a constant
 abbrev pub expr_formed : Heads → Knowledge → ℕ → Reading → Expr-F Formed Formed Formed Right Formed → Formed
 expr_formed H K file r (Expr-F.Conditional test then_it else_it) = formed (conditional test.constant then_it.constant else_it.constant)
 expr_formed H K file r (Expr-F.Chain first rest) = formed (chained first.constant (all_parts rest))
@@ -150,6 +161,7 @@ operand_formed (Operand-F.Binary o right) =
     record { part = and_then right.constant (λ e. Some (record { op = binary_operator o; operand = e })) }
 operand_formed (Operand-F.InstanceOf ty) = record { part = None }
 
+-- creations, initialisers and array initialisers are no constant expressions
 abbrev pub none_of_creation : Creation-F Formed Formed Formed Right Formed → Formed
 none_of_creation node = unformed
 
@@ -159,10 +171,12 @@ none_of_init node = unformed
 abbrev pub none_of_array : ArrayInit-F Formed Formed Formed Right Formed → Formed
 none_of_array node = unformed
 
+-- an expression as a constant one, in a file and a reading, which tells the types of casts
 unfoldable pub formed_expr : Heads → Knowledge → ℕ → Reading → Expr → Formed
 formed_expr H K file r node =
     fold-Expr Formed Formed Formed Right Formed none_of_creation (expr_formed H K file r) none_of_init operand_formed none_of_array node
 
+-- an initialiser: the one of an array has no constant form
 abbrev pub constant_at : Heads → Knowledge → ℕ → Reading → Init-F Creation Expr Init Operand ArrayInit → Option ConstantExpr
 constant_at H K file r (Init-F.Value e) = (formed_expr H K file r e).constant
 constant_at H K file r (Init-F.Nested a) = None

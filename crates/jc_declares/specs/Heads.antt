@@ -35,6 +35,7 @@ use Rattle.jc_declares.specs.Sites.{Sites, UnitSite, ClassSite, MethodSite, Fiel
 
 -- ---- from trees
 
+-- the bytes of an identifier, and of the name in one part of a class type
 abbrev pub text_of : Ident → List ℕ
 text_of name = name.text
 
@@ -44,6 +45,7 @@ part_name_at node = node.name.text
 abbrev pub part_name : TypePart → List ℕ
 part_name p = part_name_at (out-TypePart p)
 
+-- a name of several parts at an offset; type arguments are left out
 abbrev pub path_at : ℕ → ClassTree-F BaseTree TypeArg ClassTree TypePart TypeTree → Path
 path_at at node = record { at = at; first = part_name node.first; more = map part_name node.more }
 
@@ -56,20 +58,25 @@ abbrev pub with_points : List ℕ → List (List ℕ) → List ℕ
 with_points first [] = first
 with_points first (part ∷ more) = with_points (first ++ codes "." ++ part) more
 
+-- the name of a package with points between its parts; empty where none is declared, which is the unnamed one (JLS 7.4.2)
 abbrev pub package_name : Option Package → List ℕ
 package_name None = []
 package_name (Some p) = with_points p.first.text (map text_of p.more)
 
+-- an import by its path, with whether it is on demand
 abbrev pub import_head : Import → ImportHead
 import_head i = record { at = i.at; path = record { at = i.first.at; first = i.first.text; more = map text_of i.more }; on_demand = i.on_demand }
 
+-- the offset of a package declaration; 0 where none is declared
 abbrev pub package_at : Option Package → ℕ
 package_at (Some p) = p.at
 package_at None = 0
 
+-- what the head of a unit keeps of it
 abbrev pub unit_head : UnitSite → UnitHead
 unit_head u = record { file = u.file; at = package_at u.«package»; «package» = package_name u.«package»; imports = map import_head u.imports }
 
+-- the simple name in a head, and its modifiers as they are written
 abbrev pub name_in_head : DeclarationHead → List ℕ
 name_in_head (head_of.Class modifiers at name params extends implements) = name.text
 name_in_head (head_of.Interface modifiers at name params extends) = name.text
@@ -80,6 +87,7 @@ modifiers_in_head (head_of.Class modifiers at name params extends implements) = 
 modifiers_in_head (head_of.Interface modifiers at name params extends) = modifiers
 modifiers_in_head (head_of.Annotation modifiers at name) = modifiers
 
+-- none or one, as a list
 abbrev pub listed : {X : Type 0} → Option X → List X
 listed None = []
 listed (Some x) = x ∷ []
@@ -95,9 +103,11 @@ interface_trees (head_of.Class modifiers at name params extends implements) = im
 interface_trees (head_of.Interface modifiers at name params extends) = extends
 interface_trees (head_of.Annotation modifiers at name) = []
 
+-- an annotation type is an interface too (JLS 9.6)
 abbrev pub kind_of_head : DeclarationHead → Kind
 kind_of_head head = cond (is_interface_head head) kind.Interface kind.Class
 
+-- the access that words say, and package access where none does (JLS 6.6)
 abbrev pub written_access : List Modifier → Access
 written_access ms = cond (says word_of.Public ms) access.Public (cond (says word_of.Protected ms) access.Protected (cond (says word_of.Private ms) access.Private access.Package))
 
@@ -116,6 +126,7 @@ abbrev pub access_of_type : Bool → Bool → List Modifier → Access
 access_of_type true of_interface ms = cond (says word_of.Public ms) access.Public access.Package
 access_of_type false of_interface ms = access_with of_interface ms
 
+-- what the heads keep of a class: its place, its name, its kind and access, and the paths of the supertypes that it writes
 abbrev pub class_head : ClassSite → ClassHead
 class_head c =
     record {
@@ -132,6 +143,7 @@ class_head c =
       interfaces = map path_of_class (interface_trees c.head);
     }
 
+-- what the heads keep of a method, a field and a type parameter
 abbrev pub method_place : MethodSite → MethodPlace
 method_place m = record { class = m.class; scope = m.scope }
 
@@ -141,6 +153,7 @@ field_head f = record { class = f.class; at = f.var.name.at; name = f.var.name.t
 abbrev pub variable_head : VariableSite → VariableHead
 variable_head v = record { owner = v.owner; at = v.param.name.at; name = v.param.name.text }
 
+-- the heads of all declarations, in their order, so that the numbers stay the same
 abbrev pub heads_of : Sites → Heads
 heads_of S =
     record {
@@ -154,11 +167,13 @@ heads_of S =
 
 -- ---- names and the numbers of what they name, in the order of the declarations
 
+-- pairs of a name and a number; where a name stands twice, look-ups take the first
 abbrev pub Named : Type 0
 Named = List (List ℕ × ℕ)
 
 -- ---- units
 
+-- the package of a unit, and below its imports; empty where there is no such unit
 abbrev pub package_in_unit : Option UnitHead → List ℕ
 package_in_unit (Some u) = u.«package»
 package_in_unit None = []
@@ -180,6 +195,7 @@ abbrev pub name_in : Option ClassHead → List ℕ
 name_in (Some c) = c.name
 name_in None = []
 
+-- the simple name of class c
 abbrev pub name_of : Heads → ℕ → List ℕ
 name_of H c = name_in (slice_get H.classes c)
 
@@ -187,9 +203,11 @@ abbrev pub unit_in : Option ClassHead → ℕ
 unit_in (Some c) = c.unit
 unit_in None = 0
 
+-- the unit in which class c is declared; 0 where there is no such class
 abbrev pub unit_of : Heads → ℕ → ℕ
 unit_of H c = unit_in (slice_get H.classes c)
 
+-- the package of the unit in which class c is declared
 abbrev pub package_of : Heads → ℕ → List ℕ
 package_of H c = unit_package H (unit_of H c)
 
@@ -201,6 +219,7 @@ round_in None = []
 abbrev pub round_of : Heads → ℕ → List ℕ
 round_of H c = round_in (slice_get H.classes c)
 
+-- the last of a list behind c, and c itself where the list is empty
 abbrev pub last_or : ℕ → List ℕ → ℕ
 last_or c [] = c
 last_or c (d ∷ ds) = last_or d ds
@@ -221,6 +240,7 @@ abbrev pub access_in : Option ClassHead → Access
 access_in (Some c) = c.access
 access_in None = access.Package
 
+-- the access of class c; package access where there is no such class
 abbrev pub access_of : Heads → ℕ → Access
 access_of H c = access_in (slice_get H.classes c)
 
@@ -228,6 +248,7 @@ abbrev pub final_in : Option ClassHead → Bool
 final_in (Some c) = c.is_final
 final_in None = false
 
+-- class c is declared final; false where there is no such class
 abbrev pub is_final : Heads → ℕ → Bool
 is_final H c = final_in (slice_get H.classes c)
 
@@ -235,6 +256,7 @@ abbrev pub interface_in : Option ClassHead → Bool
 interface_in (Some c) = is_interface_kind c.kind
 interface_in None = false
 
+-- class c is an interface; false where there is no such class
 abbrev pub is_interface : Heads → ℕ → Bool
 is_interface H c = interface_in (slice_get H.classes c)
 
@@ -256,10 +278,12 @@ declared_of H c = named_classes (λ (d : ClassHead). is_inside c d.round) 0 H.cl
 abbrev pub types_of_unit : Heads → ℕ → Named
 types_of_unit H u = named_classes (λ (c : ClassHead). is_top c.round && (u == c.unit)) 0 H.classes
 
+-- a unit is of the package of this name; no unit is of none
 abbrev pub is_of_package : Option UnitHead → List ℕ → Bool
 is_of_package None p = false
 is_of_package (Some u) p = bytes_eq u.«package» p
 
+-- the types of all units of a package, with their names
 abbrev pub types_of_package : Heads → List ℕ → Named
 types_of_package H p = named_classes (λ (c : ClassHead). is_top c.round && is_of_package (slice_get H.units c.unit) p) 0 H.classes
 
@@ -268,6 +292,7 @@ abbrev pub with_dollars : Heads → List ℕ → List ℕ
 with_dollars H [] = []
 with_dollars H (c ∷ round) = with_dollars H round ++ name_of H c ++ codes "$"
 
+-- a name behind that of its package and a point; the unnamed package adds nothing
 abbrev pub in_package : List ℕ → List ℕ → List ℕ
 in_package [] name = name
 in_package (b ∷ p) name = (b ∷ p) ++ codes "." ++ name
@@ -278,12 +303,14 @@ binary_of H c = in_package (package_of H c) (with_dollars H (round_of H c) ++ na
 
 -- ---- type parameters
 
+-- the same class or the same method; a class is never a method
 abbrev pub same_owner : Owner → Owner → Bool
 same_owner (owner.Class c) (owner.Class d) = c.0 == d.0
 same_owner (owner.Method m) (owner.Method n) = m.0 == n.0
 same_owner (owner.Class c) (owner.Method n) = false
 same_owner (owner.Method m) (owner.Class d) = false
 
+-- of these type parameters, counted from i, those of an owner, with their names
 abbrev pub named_variables : Owner → ℕ → List VariableHead → Named
 named_variables o i [] = []
 named_variables o i (v ∷ vs) = cond (same_owner o v.owner) ((v.name, i) ∷ []) [] ++ named_variables o (suc i) vs
@@ -292,9 +319,11 @@ named_variables o i (v ∷ vs) = cond (same_owner o v.owner) ((v.name, i) ∷ []
 abbrev pub class_variables : Heads → ℕ → Named
 class_variables H c = named_variables (owner.Class (record { 0 = c })) 0 H.variables
 
+-- the type parameters of method m
 abbrev pub method_variables : Heads → ℕ → Named
 method_variables H m = named_variables (owner.Method (record { 0 = m })) 0 H.variables
 
+-- the class or method that declares type variable v; nothing where there is no such variable
 abbrev pub owner_in : Option VariableHead → Option Owner
 owner_in (Some v) = Some v.owner
 owner_in None = None

@@ -11,10 +11,12 @@ use Rattle.jc_declares.specs.declared.heads.Heads.{Heads}
 use Rattle.jc_declares.specs.declared.heads.ImportHead.{ImportHead}
 use Rattle.jc_declares.specs.Heads.{Named, access_of, is_top, unit_package, imports_of, unit_of, package_of, round_of, top_of_class, declared_of, types_of_unit, types_of_package, class_variables}
 
+-- what a name of a type means: a class or interface, or a type variable, by its number
 pub data Meaning : Type 0 where
   AClass : ℕ → Meaning
   AVariable : ℕ → Meaning
 
+-- the candidates of the layer that decides: none where the name means nothing, several where it is ambiguous; None where it isn't known yet
 abbrev pub Look : Type 0
 Look = Option (List Meaning)
 
@@ -24,6 +26,7 @@ Knowledge = ℕ → Option Named
 
 -- ---- access (JLS 6.6)
 
+-- a member or type of that access is open to one in the same package or not, inside of the same type of a unit or not (JLS 6.6.1)
 abbrev pub is_open : Access → Bool → Bool → Bool
 is_open access.Public same_package same_top = true
 is_open access.Protected same_package same_top = same_package
@@ -35,6 +38,7 @@ pub record Asker : Type 0 where
   pub «package» : List ℕ
   pub top : Option ℕ
 
+-- it is this number; None is no number
 abbrev pub is_number : Option ℕ → ℕ → Bool
 is_number None n = false
 is_number (Some m) n = m == n
@@ -64,15 +68,18 @@ is_own None own = false
 
 -- ---- canonical names (JLS 6.7)
 
+-- what a canonical name names: a package (or a name that may begin one), a class by its number, or nothing
 pub data Found : Type 0 where
   InPackage : List ℕ → Found
   AtClass : ℕ → Found
   Nowhere : Found
 
+-- the class, if there is one, or the package p.n
 abbrev pub type_or_package : Option ℕ → List ℕ → List ℕ → Found
 type_or_package (Some c) p n = AtClass c
 type_or_package None p n = InPackage (p ++ codes "." ++ n)
 
+-- the class, if there is one, or nothing
 abbrev pub class_or_nowhere : Option ℕ → Found
 class_or_nowhere (Some c) = AtClass c
 class_or_nowhere None = Nowhere
@@ -83,6 +90,7 @@ next_part H (InPackage p) n = type_or_package (named n (types_of_package H p)) p
 next_part H (AtClass c) n = class_or_nowhere (named n (declared_of H c))
 next_part H Nowhere n = Nowhere
 
+-- all further parts, one after the other
 abbrev pub next_parts : Heads → Found → List (List ℕ) → Found
 next_parts H f [] = f
 next_parts H f (n ∷ ns) = next_parts H (next_part H f n) ns
@@ -93,10 +101,12 @@ imported H i = next_parts H (InPackage i.path.first) i.path.more
 
 -- ---- units
 
+-- the last part of a name
 abbrev pub last_part : List ℕ → List (List ℕ) → List ℕ
 last_part n [] = n
 last_part n (m ∷ ms) = last_part m ms
 
+-- the one type that a single import imports, by its simple name; nothing where it is on demand or names no class
 abbrev pub single_of : ImportHead → Found → Named
 single_of i (AtClass c) = cond i.on_demand [] ((last_part i.path.first i.path.more, c) ∷ [])
 single_of i (InPackage p) = []
@@ -118,10 +128,12 @@ demanded_by H a n i (InPackage p) = cond i.on_demand (open_class H a (named n (t
 demanded_by H a n i (AtClass c) = cond i.on_demand (open_class H a (named n (declared_of H c))) []
 demanded_by H a n i Nowhere = []
 
+-- the types of that name that these imports on demand import
 abbrev pub demanded : Heads → Asker → List ℕ → List ImportHead → List ℕ
 demanded H a n [] = []
 demanded H a n (i ∷ is) = demanded_by H a n i (imported H i) ++ demanded H a n is
 
+-- a number is in a list
 abbrev pub has : ℕ → List ℕ → Bool
 has c [] = false
 has c (d ∷ ds) = (c == d) || has c ds
@@ -131,6 +143,7 @@ abbrev pub once : List ℕ → List ℕ → List ℕ
 once found [] = found
 once found (c ∷ cs) = once (cond (has c found) found (found ++ c ∷ [])) cs
 
+-- classes and variables as candidates
 abbrev pub classes : List ℕ → List Meaning
 classes cs = map (λ c. AClass c) cs
 
@@ -158,6 +171,7 @@ in_unit H u n =
 
 -- ---- bodies and heads of types
 
+-- all numbers under a name, in their order
 abbrev pub all_named : List ℕ → Named → List ℕ
 all_named n [] = []
 all_named n (e ∷ es) = cond (bytes_eq n e.0) (e.1 ∷ []) [] ++ all_named n es
@@ -171,6 +185,7 @@ inherits n (Some es) rest = or_next (classes (all_named n es)) rest
 abbrev pub in_class : Heads → Knowledge → List ℕ → ℕ → Look → Look
 in_class H K n c rest = or_next (one_class (named n (declared_of H c))) (or_next (one_variable (named n (class_variables H c))) (inherits n (K c) rest))
 
+-- a simple name in the bodies of these classes, from the innermost outwards, and then in unit u
 abbrev pub in_classes : Heads → Knowledge → List ℕ → ℕ → List ℕ → Look
 in_classes H K n u [] = in_unit H u n
 in_classes H K n u (c ∷ cs) = in_class H K n c (in_classes H K n u cs)
@@ -198,6 +213,7 @@ with_parts H K (p ∷ ps) (Some (AClass c ∷ [])) = with_parts H K ps (member H
 with_parts H K (p ∷ ps) (Some (AVariable v ∷ [])) = Some []
 with_parts H K (p ∷ ps) (Some (m ∷ n ∷ ms)) = Some (m ∷ n ∷ ms)
 
+-- behind the class where there is one, and otherwise with a longer package name
 abbrev pub or_longer : (Look → Look) → Look → Option ℕ → Look
 or_longer behind longer (Some c) = behind (Some (AClass c ∷ []))
 or_longer behind longer None = longer

@@ -63,6 +63,7 @@ use Rattle.jc_declares.specs.Constants.{constant_of}
 use Rattle.jc_declares.specs.Breaks.{is_static_field}
 use Rattle.jc_declares.specs.HeadBreaks.{class_file, class_in, owner_file}
 
+-- places, classes and the numbers of names, as the table has them
 abbrev pub place_at : ℕ → ℕ → Place
 place_at file at = record { file = file; at = at }
 
@@ -75,6 +76,7 @@ numbers (e ∷ es) = e.1 ∷ numbers es
 
 -- ---- written types
 
+-- a type's first place, and those of the class types inside it, all in one file
 abbrev pub type_places : ℕ → ℕ → List ℕ → TypePlaces
 type_places file at offsets = record { first = place_at file at; classes = map (λ o. place_at file o) offsets }
 
@@ -82,6 +84,7 @@ type_places file at offsets = record { first = place_at file at; classes = map (
 abbrev pub written_at : ℕ → ℕ → ℕ → Wrote → Written
 written_at file at dims w = record { ty = with_dims dims w.ty; places = type_places file at w.places }
 
+-- the class of number 0, without arguments
 abbrev pub object : Ty
 object = Class (class_id 0) []
 
@@ -89,17 +92,20 @@ object = Class (class_id 0) []
 abbrev pub implied_object : ℕ → ℕ → Written
 implied_object file at = record { ty = object; places = type_places file at [] }
 
+-- written class types, with their places in a file
 abbrev pub written_class : Heads → Knowledge → ℕ → Reading → ClassTree → Written
 written_class H K file r t = written_at file (first_offset_of_class t) 0 (wrote_class H K r t)
 
 abbrev pub written_classes : Heads → Knowledge → ℕ → Reading → List ClassTree → List Written
 written_classes H K file r trees = map (λ t. written_class H K file r t) trees
 
+-- types beside their places, in the same order
 abbrev pub types : List Written → WrittenTypes
 types list = record { types = map (λ (w : Written). w.ty) list; places = map (λ (w : Written). w.places) list }
 
 -- ---- classes
 
+-- the class that a member type is a member of; None for a type of a unit
 abbrev pub outer_id : List ℕ → Option ClassId
 outer_id [] = None
 outer_id (c ∷ round) = Some (class_id c)
@@ -116,6 +122,7 @@ super_list H K c s =
     cond (c == 0) [] (or_object s.file (first_offset_of_head s.head) (written_classes H K s.file (head_reading H K c) (superclass_trees s.head)))
     ++ written_classes H K s.file (head_reading H K c) (interface_trees s.head)
 
+-- of these methods, and of these fields, counted from i, those of class c
 abbrev pub methods_from : ℕ → ℕ → List MethodPlace → List MethodId
 methods_from c i [] = []
 methods_from c i (m ∷ ms) = cond (m.class == c) (record { 0 = i } ∷ []) [] ++ methods_from c (suc i) ms
@@ -124,9 +131,11 @@ abbrev pub fields_from : ℕ → ℕ → List FieldHead → List FieldId
 fields_from c i [] = []
 fields_from c i (f ∷ fs) = cond (f.class == c) (record { 0 = i } ∷ []) [] ++ fields_from c (suc i) fs
 
+-- the numbers as those of type variables
 abbrev pub variable_ids : Named → List VarId
 variable_ids names = map (λ v. record { 0 = v }) (numbers names)
 
+-- class c of the table: what its head says and implies, with what it declares, in the order of the sources
 abbrev pub class_decl : Heads → Knowledge → ℕ → ClassSite → ClassDecl
 class_decl H K c s =
     record {
@@ -147,6 +156,7 @@ class_decl H K c s =
 
 -- ---- methods
 
+-- one where it holds, as a number
 abbrev pub one_more : Bool → ℕ
 one_more true = 1
 one_more false = 0
@@ -155,18 +165,22 @@ one_more false = 0
 abbrev pub written_formal : Heads → Knowledge → ℕ → Reading → Formal → Written
 written_formal H K file r f = written_at file (first_offset_of_type f.ty) (f.dims + one_more f.variable_arity) (wrote_type H K r f.ty)
 
+-- a formal parameter's name, its place, and whether it is final
 abbrev pub param_name : ℕ → Formal → ParamName
 param_name file f = record { place = place_at file f.name.at; name = f.name.text; is_final = says word_of.Final f.modifiers }
 
+-- the type of a result; None for void, and for a constructor, which has no result
 abbrev pub written_result : Heads → Knowledge → ℕ → Reading → Option ResultType → Option Written
 written_result H K file r None = None
 written_result H K file r (Some (result_of.Void at)) = None
 written_result H K file r (Some (result_of.Type t)) = Some (written_at file (first_offset_of_type t) 0 (wrote_type H K r t))
 
+-- what is written without a result is a constructor (JLS 8.8)
 abbrev pub kind_of_method : Option ResultType → MethodKind
 kind_of_method None = method_kind.Constructor
 kind_of_method (Some result) = method_kind.Method
 
+-- method m that is written with a head, and with a block or without one; its types are read with its own type parameters
 abbrev pub headed_method : Heads → Knowledge → ℕ → MethodSite → MethodHead → Bool → MethodDecl
 headed_method H K m s head has_block =
     let file : ℕ = class_file H s.class in let r : Reading = method_reading H K m s.class (says_static head.modifiers) in
@@ -191,6 +205,7 @@ abbrev pub class_at_in : Option ClassHead → ℕ
 class_at_in (Some c) = c.at
 class_at_in None = 0
 
+-- no types, and no places
 abbrev pub no_types : WrittenTypes
 no_types = record { types = []; places = [] }
 
@@ -220,11 +235,13 @@ method_decl_of H K m s ImpliedConstructor =
     implied_method H s (name_of H s.class) method_kind.ImpliedConstructor (record (written_modifiers []) { access = access_of H s.class })
 method_decl_of H K m s StaticInitialiser = implied_method H s (codes "<clinit>") method_kind.StaticInitialiser (record (written_modifiers []) { is_static = true })
 
+-- method m of the table, as it is written or implied
 abbrev pub method_decl : Heads → Knowledge → ℕ → MethodSite → MethodDecl
 method_decl H K m s = method_decl_of H K m s s.form
 
 -- ---- fields
 
+-- the initialiser with its scope, or unknown where it has no constant form
 abbrev pub constant_value : ℕ → Option ConstantExpr → FieldValue
 constant_value s None = Unknown
 constant_value s (Some e) = Initialiser (record { 0 = s }) e
@@ -235,6 +252,7 @@ field_value H K f true =
     constant_value f.scope (constant_of H K (class_file H f.class) (body_reading H K f.class (is_static_field H f)) f.var.init)
 field_value H K f false = Unknown
 
+-- field k of the table; the dimensions behind its name belong to its type (JLS 8.3)
 abbrev pub field_decl : Heads → Knowledge → ℕ → FieldSite → FieldDecl
 field_decl H K k f =
     let file : ℕ = class_file H f.class in let ms : Modifiers = field_modifiers (is_interface H f.class) f.vars.modifiers in
@@ -249,10 +267,12 @@ field_decl H K k f =
 
 -- ---- type variables, with Object where no bound is written (JLS 4.4)
 
+-- where the bounds of type parameters are read: in the head of their class, or in their method
 abbrev pub owner_reading : Heads → Knowledge → Owner → Reading
 owner_reading H K (owner.Class c) = head_reading H K c.0
 owner_reading H K (owner.Method m) = method_reading H K m.0 (class_in (slice_get H.methods m.0)) false
 
+-- type variable k of the table, with its bounds in their order
 abbrev pub variable_decl : Heads → Knowledge → ℕ → VariableSite → VariableDecl
 variable_decl H K k v =
     let file : ℕ = owner_file H v.owner in
@@ -270,6 +290,7 @@ abbrev pub first_names : Named → Named → Named
 first_names found [] = found
 first_names found (e ∷ es) = first_names (cond (is_some (named e.0 found)) found (found ++ e ∷ [])) es
 
+-- what an import on demand imports from, a package or a type; nothing for single imports and for those that name nothing
 abbrev pub demand_by : ℕ → ImportHead → Found → List Demand
 demand_by file i (InPackage p) = cond i.on_demand (demand.Package (place_at file i.at) p ∷ []) []
 demand_by file i (AtClass c) = cond i.on_demand (demand.Type (place_at file i.at) (class_id c) ∷ []) []
@@ -279,6 +300,7 @@ abbrev pub demands : Heads → ℕ → List ImportHead → List Demand
 demands H file [] = []
 demands H file (i ∷ is) = demand_by file i (imported H i) ++ demands H file is
 
+-- the file of unit u; 0 where there is no such unit
 abbrev pub file_in_unit : Option UnitHead → ℕ
 file_in_unit (Some u) = u.file
 file_in_unit None = 0
@@ -286,10 +308,12 @@ file_in_unit None = 0
 abbrev pub unit_file : Heads → ℕ → ℕ
 unit_file H u = file_in_unit (slice_get H.units u)
 
+-- the member types that are inherited, by name; none where they aren't known
 abbrev pub inherited_list : Option Named → List Inherited
 inherited_list None = []
 inherited_list (Some es) = map (λ (e : List ℕ × ℕ). record { name = e.0; class = class_id e.1 }) es
 
+-- what a unit, a class and a method bring into scope by simple names (JLS 6.3)
 abbrev pub scope_of_form : Heads → Knowledge → ScopeForm → ScopeOf
 scope_of_form H K (scope_of.Unit u) =
     scope.Unit (first_names [] (singles H (imports_of H u) ++ types_of_unit H u)) (unit_package H u) (demands H (unit_file H u) (imports_of H u))
@@ -297,15 +321,18 @@ scope_of_form H K (scope_of.Class c) =
     scope.Type (class_id c) (map class_id (round_of H c)) (first_names [] (class_variables H c)) (first_names [] (declared_of H c)) (inherited_list (K c))
 scope_of_form H K (scope_of.Method m) = scope.Method (record { 0 = m }) (first_names [] (method_variables H m))
 
+-- the scope round it; None for a unit's
 abbrev pub outer_scope : Option ℕ → Option ScopeId
 outer_scope None = None
 outer_scope (Some s) = Some (record { 0 = s })
 
+-- scope k of the table
 abbrev pub scope_decl : Heads → Knowledge → ℕ → ScopeHead → Scope
 scope_decl H K k s = record { outer = outer_scope s.outer; of = scope_of_form H K s.form }
 
 -- ---- the types that bodies write
 
+-- the offset at which a part of a body begins
 abbrev pub part_at : BodyPart → ℕ
 part_at (OfType t) = first_offset_of_type t
 part_at (OfClassType t) = first_offset_of_class t
@@ -313,10 +340,12 @@ part_at (OfDiamond t) = first_offset_of_class t
 part_at (OfElement t) = first_offset_of_base t
 part_at (OfVariable modifiers at) = at
 
+-- a class type before a diamond has a kind of its own, since its arguments are inferred (JLS 15.9.3)
 abbrev pub kind_of_part : BodyPart → UseKind
 kind_of_part (OfDiamond t) = use_kind.Diamond
 kind_of_part _ = use_kind.Type
 
+-- each written type of a part of a body, and of all parts in their order; declared variables' modifiers write none
 abbrev pub use_with : Heads → UseSite → List Wrote → List Use
 use_with H u [] = []
 use_with H u (w ∷ ws) =
@@ -334,10 +363,12 @@ use_decls H K (u ∷ us) = use_with H u (wrote_in_use H K u) ++ use_decls H K us
 
 -- ---- the whole
 
+-- each of a list by its number, counted from i
 abbrev pub numbered : {X Y : Type 0} → (ℕ → X → Y) → ℕ → List X → List Y
 numbered f i [] = []
 numbered f i (x ∷ xs) = f i x ∷ numbered f (suc i) xs
 
+-- the binary names of these classes, counted from i (JLS 13.1)
 abbrev pub binaries_from : Heads → ℕ → List ClassHead → Named
 binaries_from H i [] = []
 binaries_from H i (c ∷ cs) = (binary_of H i, i) ∷ binaries_from H (suc i) cs
@@ -355,5 +386,6 @@ table_with S H K =
       index = first_names [] (binaries_from H 0 H.classes);
     }
 
+-- the table of a program's declarations, with all that is known of its classes
 abbrev pub table_of : Sites → Table
 table_of S = table_with S (heads_of S) (known (heads_of S))

@@ -15,14 +15,17 @@ use Rattle.jc_types.specs.declared.declarations.Modifiers.{Modifiers}
 use Rattle.jc_declares.specs.Words.{same_word, says}
 use Rattle.jc_declares.specs.Heads.{written_access, access_with}
 
+-- the first part of an annotation's name is this; words are no annotations
 abbrev pub is_annotation : List ℕ → Modifier → Bool
 is_annotation name (modifier_of.Annotation a) = bytes_eq a.first.text name
 is_annotation name (modifier_of.Word at v) = false
 
+-- one of these modifiers is such an annotation
 abbrev pub annotated : List ℕ → List Modifier → Bool
 annotated name [] = false
 annotated name (m ∷ ms) = is_annotation name m || annotated name ms
 
+-- it is private access
 abbrev pub is_private : Access → Bool
 is_private access.Private = true
 is_private _ = false
@@ -65,6 +68,7 @@ method_modifiers of_interface ms =
 
 -- ---- modifiers that a declaration can't have
 
+-- a word is one of these
 abbrev pub word_in : ModifierWord → List ModifierWord → Bool
 word_in w [] = false
 word_in w (v ∷ vs) = same_word w v || word_in w vs
@@ -80,10 +84,12 @@ abbrev pub is_again : Modifier → List Modifier → Bool
 is_again (modifier_of.Annotation a) ms = annotated a.first.text ms
 is_again (modifier_of.Word at w) ms = says w ms
 
+-- one of them stands again behind itself
 abbrev pub repeats : List Modifier → Bool
 repeats [] = false
 repeats (m ∷ ms) = is_again m ms || repeats ms
 
+-- two words stand among the same modifiers
 abbrev pub both : ModifierWord → ModifierWord → List Modifier → Bool
 both v w ms = says v ms && says w ms
 
@@ -96,9 +102,11 @@ is_consistent ms =
 abbrev pub no_override : List Modifier → Bool
 no_override ms = not (annotated (codes "Override") ms)
 
+-- there is no `@SafeVarargs`
 abbrev pub no_safe_varargs : List Modifier → Bool
 no_safe_varargs ms = not (annotated (codes "SafeVarargs") ms)
 
+-- the words for access (JLS 6.6)
 abbrev pub access_words : List ModifierWord
 access_words = word_of.Public ∷ word_of.Protected ∷ word_of.Private ∷ []
 
@@ -108,6 +116,7 @@ place_words false of_interface = word_of.Public ∷ []
 place_words true false = word_of.Public ∷ word_of.Protected ∷ word_of.Private ∷ word_of.Static ∷ []
 place_words true true = word_of.Public ∷ word_of.Static ∷ []
 
+-- an interface may be abstract, a class abstract or final
 abbrev pub kind_words : Bool → List ModifierWord
 kind_words true = word_of.Abstract ∷ []
 kind_words false = word_of.Abstract ∷ word_of.Final ∷ []
@@ -123,6 +132,7 @@ abbrev pub field_words : Bool → List ModifierWord
 field_words true = word_of.Public ∷ word_of.Static ∷ word_of.Final ∷ []
 field_words false = word_of.Public ∷ word_of.Protected ∷ word_of.Private ∷ word_of.Static ∷ word_of.Final ∷ word_of.Transient ∷ word_of.Volatile ∷ []
 
+-- a field has words of fields alone, and isn't both final and volatile (JLS 8.3.1.4)
 abbrev pub field_modifiers_fit : Bool → List Modifier → Bool
 field_modifiers_fit of_interface ms =
     only_words (field_words of_interface) ms && is_consistent ms && not (both word_of.Final word_of.Volatile ms) && no_override ms && no_safe_varargs ms
@@ -137,6 +147,7 @@ abbrev pub abstract_alone : List Modifier → Bool
 abstract_alone ms =
     not (says word_of.Abstract ms) || not (says word_of.Private ms || says word_of.Static ms || says word_of.Final ms || says word_of.Native ms)
 
+-- the last formal parameter is one of variable arity; false where there is none
 abbrev pub last_is_variable : List Formal → Bool
 last_is_variable [] = false
 last_is_variable (f ∷ []) = f.variable_arity
@@ -147,6 +158,7 @@ abbrev pub safe_varargs_fits : Bool → MethodHead → Bool
 safe_varargs_fits constructs head =
     no_safe_varargs head.modifiers || (last_is_variable head.formals && (constructs || says word_of.Static head.modifiers || says word_of.Final head.modifiers))
 
+-- what has no result is a constructor
 abbrev pub is_constructor : Option ResultType → Bool
 is_constructor None = true
 is_constructor (Some result) = false
@@ -156,10 +168,12 @@ abbrev pub words_of_method : Bool → Bool → List ModifierWord
 words_of_method true of_interface = access_words
 words_of_method false of_interface = method_words of_interface
 
+-- a constructor has no `@Override`
 abbrev pub override_fits : Bool → List Modifier → Bool
 override_fits true ms = no_override ms
 override_fits false ms = true
 
+-- a method or constructor (JLS 8.4.3, 8.8.3, 9.4)
 abbrev pub method_modifiers_fit : Bool → MethodHead → Bool
 method_modifiers_fit of_interface head =
     let constructs : Bool = is_constructor head.result in

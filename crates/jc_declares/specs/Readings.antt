@@ -10,6 +10,7 @@ use Rattle.jc_declares.specs.Heads.{is_interface, unit_package, method_variables
 use Rattle.jc_declares.specs.Looking.{Knowledge, or_next, one_variable, in_unit, in_body, in_head, body_asker, head_asker}
 use Rattle.jc_declares.specs.Writing.{Reading, Wrote, wrote_type, wrote_class, wrote_base}
 
+-- the class whose type variables may be named: none in a static place (JLS 8.1.2)
 abbrev pub own_unless : Bool → ℕ → Option ℕ
 own_unless is_static c = cond is_static None (Some c)
 
@@ -26,6 +27,7 @@ abbrev pub method_reading : Heads → Knowledge → ℕ → ℕ → Bool → Rea
 method_reading H K m c is_static =
     record { find = λ n. or_next (one_variable (named n (method_variables H m))) (in_body H K c n); asker = body_asker H c; own = own_unless is_static c }
 
+-- the class of a method; 0 where there is no such method
 abbrev pub class_of_method : Option MethodPlace → ℕ
 class_of_method (Some m) = m.class
 class_of_method None = 0
@@ -34,6 +36,7 @@ class_of_method None = 0
 abbrev pub unit_reading : Heads → ℕ → Reading
 unit_reading H u = record { find = in_unit H u; asker = record { «package» = unit_package H u; top = None }; own = None }
 
+-- in a scope of a unit, a class or a method; without one, in unit 0
 abbrev pub reading_in : Heads → Knowledge → Option ScopeHead → Bool → Reading
 reading_in H K None is_static = unit_reading H 0
 reading_in H K (Some s) is_static =

@@ -66,6 +66,7 @@ pub data MethodForm : Type 0 where
   ImpliedConstructor : MethodForm
   StaticInitialiser : MethodForm
 
+-- a method of a class, with the scope of its own, and how it is written
 pub record MethodSite : Type 0 where
   pub class : ℕ
   pub scope : ℕ
@@ -99,6 +100,7 @@ pub record UseSite : Type 0 where
   pub is_static : Bool
   pub part : BodyPart
 
+-- all declarations of a program, in seven lists, and the types that bodies write
 pub record Sites : Type 0 where
   pub units : List UnitSite
   pub classes : List ClassSite
@@ -108,6 +110,7 @@ pub record Sites : Type 0 where
   pub scopes : List ScopeHead
   pub uses : List UseSite
 
+-- nothing declared
 abbrev pub no_sites : Sites
 no_sites = record { units = []; classes = []; methods = []; fields = []; variables = []; scopes = []; uses = [] }
 
@@ -130,11 +133,13 @@ pub record Counts : Type 0 where
   pub methods : ℕ
   pub scopes : ℕ
 
+-- how many there are behind these as well
 abbrev pub behind : Counts → Sites → Counts
 behind n s = record { classes = n.classes + length s.classes; methods = n.methods + length s.methods; scopes = n.scopes + length s.scopes }
 
 -- ---- the types that expressions and statements write, in their order
 
+-- one list behind the other; of a part that may be left out; and of each of a list
 abbrev pub uses_of_lists : List (List BodyPart) → List BodyPart
 uses_of_lists [] = []
 uses_of_lists (uses ∷ more) = uses ++ uses_of_lists more
@@ -146,6 +151,7 @@ uses_in_some f (Some x) = f x
 abbrev pub uses_in_each : {X : Type 0} → (X → List BodyPart) → List X → List BodyPart
 uses_in_each f list = uses_of_lists (map f list)
 
+-- the type in a type argument of a call; the wildcard without a bound writes none (JLS 4.5.1)
 abbrev pub use_at_arg : TypeArg-F BaseTree TypeArg ClassTree TypePart TypeTree → List BodyPart
 use_at_arg (TypeArg-F.Exact ty) = OfType ty ∷ []
 use_at_arg (TypeArg-F.Any at) = []
@@ -155,9 +161,11 @@ use_at_arg (TypeArg-F.Super at bound) = OfType bound ∷ []
 abbrev pub use_of_arg : TypeArg → List BodyPart
 use_of_arg a = use_at_arg (out-TypeArg a)
 
+-- the types that a part of a body writes, in their order
 abbrev pub Uses : Type 0
 Uses = List BodyPart
 
+-- a creation: the class or the element type first, then what the arguments or dimensions write; a diamond is told apart
 abbrev pub creation_uses : Creation-F Uses Uses Uses Uses Uses → Uses
 creation_uses (Creation-F.Object class true actuals body) = OfDiamond class ∷ uses_of_lists actuals
 creation_uses (Creation-F.Object class false actuals body) = OfClassType class ∷ uses_of_lists actuals
@@ -188,6 +196,7 @@ expr_uses (Expr-F.ClassLiteral ty) = []
 expr_uses (Expr-F.VoidLiteral at) = []
 expr_uses (Expr-F.OuterThis first more) = []
 
+-- the steps at initialisers, operands and array initialisers
 abbrev pub init_uses : Init-F Uses Uses Uses Uses Uses → Uses
 init_uses (Init-F.Value it) = it
 init_uses (Init-F.Nested it) = it
@@ -199,6 +208,7 @@ operand_uses (Operand-F.InstanceOf ty) = OfType ty ∷ []
 abbrev pub array_uses : ArrayInit-F Uses Uses Uses Uses Uses → Uses
 array_uses node = uses_of_lists node.inits
 
+-- the types that an expression writes, and its parts: initialisers, creations, operands and array initialisers
 unfoldable pub uses_of_expr : Expr → Uses
 uses_of_expr node = fold-Expr Uses Uses Uses Uses Uses creation_uses expr_uses init_uses operand_uses array_uses node
 
@@ -214,12 +224,14 @@ uses_of_operand node = fold-Operand Uses Uses Uses Uses Uses creation_uses expr_
 unfoldable pub uses_of_array : ArrayInit → Uses
 uses_of_array node = fold-ArrayInit Uses Uses Uses Uses Uses creation_uses expr_uses init_uses operand_uses array_uses node
 
+-- of variables that are declared together: their modifiers, their type, and then their initialisers
 abbrev pub uses_of_var : Var → Uses
 uses_of_var v = uses_in_some uses_of_init v.init
 
 abbrev pub uses_of_locals : LocalVars → Uses
 uses_of_locals vars = OfVariable vars.modifiers (first_offset_of_locals vars) ∷ OfType vars.ty ∷ uses_of_var vars.first ++ uses_in_each uses_of_var vars.more
 
+-- of the head of a for statement (JLS 14.14)
 abbrev pub uses_of_for_init : ForInit → Uses
 uses_of_for_init (init_of.Local vars) = uses_of_locals vars
 uses_of_for_init (init_of.Effects effects) = uses_in_each uses_of_expr effects
@@ -229,6 +241,7 @@ uses_of_for (for_of.Basic init test update) = uses_of_for_init init ++ uses_in_s
 uses_of_for (for_of.Enhanced modifiers ty name dims iterable) =
     OfVariable modifiers (modifiers_first modifiers (first_offset_of_type ty)) ∷ OfType ty ∷ uses_of_expr iterable
 
+-- of the head of a clause; a catch clause declares a variable and writes one type or several (JLS 14.20)
 abbrev pub uses_of_clause_head : ClauseHead → Uses
 uses_of_clause_head (clause_of.If test) = uses_of_expr test
 uses_of_clause_head (clause_of.Case label) = uses_of_expr label
@@ -243,20 +256,25 @@ uses_of_clause_head clause_of.Finally = []
 abbrev pub Walk : Type 0
 Walk = Standing → Counts → Sites
 
+-- what all these declare, each behind those before it
 abbrev pub walked : List Walk → Walk
 walked [] at n = no_sites
 walked (w ∷ ws) at n = let s : Sites = w at n in joined s (walked ws at (behind n s))
 
+-- the class in whose body it stands; 0 where there is none
 abbrev pub innermost : List ℕ → ℕ
 innermost [] = 0
 innermost (c ∷ round) = c
 
+-- these parts of a body, at a standing and in a scope
 abbrev pub used_at : Standing → ℕ → Bool → Uses → List UseSite
 used_at at scope is_static trees = map (λ t. record { class = innermost at.round; scope = scope; is_static = is_static; part = t }) trees
 
+-- nothing declared but these types of bodies
 abbrev pub only_uses : List UseSite → Sites
 only_uses uses = record { units = []; classes = []; methods = []; fields = []; variables = []; scopes = []; uses = uses }
 
+-- a site for each variable of a declaration of fields, with the types that their initialisers write
 abbrev pub field_sites : Standing → LocalVars → List Var → List FieldSite
 field_sites at vars list = map (λ v. record { class = innermost at.round; scope = at.scope; vars = vars; var = v }) list
 
@@ -272,13 +290,16 @@ field_walk is_static vars at n =
       uses = used_at at at.scope is_static (uses_in_each uses_of_var (vars.first ∷ vars.more));
     }
 
+-- a site for each type parameter of an owner
 abbrev pub variable_sites : Owner → List TypeParam → List VariableSite
 variable_sites o params = map (λ p. record { owner = o; param = p }) params
 
+-- the type parameters of a head; none where it writes none
 abbrev pub listed_params : Option TypeParams → List TypeParam
 listed_params None = []
 listed_params (Some params) = params.first ∷ params.more
 
+-- a method that is written: itself, its type parameters, its scope, and what its body writes, which is read in that scope
 abbrev pub method_walk : MethodHead → Bool → Uses → Walk
 method_walk head has_block trees at n =
     record {
@@ -298,6 +319,7 @@ pub record Membered : Type 0 where
   pub is_static_part : Bool
   pub is_field : Bool
 
+-- what is written without a result is a constructor (JLS 8.8)
 abbrev pub has_no_result : Option ResultType → Bool
 has_no_result None = true
 has_no_result (Some result) = false
@@ -314,6 +336,7 @@ member_sites (Member-F.Method head items) =
     record { walk = method_walk head true (uses_of_lists items); constructs = has_no_result head.result; is_static_part = false; is_field = false }
 member_sites (Member-F.Nested d) = record { walk = d; constructs = false; is_static_part = false; is_field = false }
 
+-- the step at a statement and at a clause: the types that they write, in their order; local classes aren't in the language
 abbrev pub stmt_uses : Stmt-F Membered Uses Uses Walk → Uses
 stmt_uses (Stmt-F.Local vars) = uses_of_locals vars
 stmt_uses (Stmt-F.Declared d) = []
@@ -339,16 +362,19 @@ clause_uses clause = uses_of_clause_head clause.head ++ uses_of_lists clause.ite
 
 -- ---- types
 
+-- an annotation type is an interface too (JLS 9.6)
 abbrev pub is_interface_head : DeclarationHead → Bool
 is_interface_head (head_of.Class modifiers at name params extends implements) = false
 is_interface_head (head_of.Interface modifiers at name params extends) = true
 is_interface_head (head_of.Annotation modifiers at name) = true
 
+-- the type parameters of a head; an annotation type has none
 abbrev pub params_of_head : DeclarationHead → List TypeParam
 params_of_head (head_of.Class modifiers at name params extends implements) = params
 params_of_head (head_of.Interface modifiers at name params extends) = params
 params_of_head (head_of.Annotation modifiers at name) = []
 
+-- one of the members passes a test
 abbrev pub some_of : (Membered → Bool) → List Membered → Bool
 some_of test [] = false
 some_of test (m ∷ members) = test m || some_of test members
@@ -367,6 +393,7 @@ abbrev pub implied_forms : DeclarationHead → List Membered → List MethodForm
 implied_forms head members =
     cond (is_static_initialiser_implied head members) (StaticInitialiser ∷ []) [] ++ cond (is_constructor_implied head members) (ImpliedConstructor ∷ []) []
 
+-- a method that no source writes, with its scope
 abbrev pub implied_sites : MethodForm → Walk
 implied_sites form at n =
     record {
@@ -379,6 +406,7 @@ implied_sites form at n =
       uses = [];
     }
 
+-- a class itself: with its type parameters, and the scope of its body
 abbrev pub class_sites : DeclarationHead → Walk
 class_sites head at n =
     record {
@@ -401,9 +429,11 @@ declaration_walk head members at n =
     let own : Sites = class_sites head at n in
     joined own (walked (map implied_sites (implied_forms head members) ++ map (λ (m : Membered). m.walk) members) (within head at n) (behind n own))
 
+-- the step at a declaration
 abbrev pub declaration_sites : Declaration-F Membered Uses Uses Walk → Walk
 declaration_sites node = declaration_walk node.head node.members
 
+-- the fold of each kind of node: a member, a statement, a clause and a declaration
 unfoldable pub membered : Member → Membered
 membered node = fold-Member Membered Uses Uses Walk member_sites stmt_uses clause_uses declaration_sites node
 
@@ -418,10 +448,12 @@ sites_of_declaration node = fold-Declaration Membered Uses Uses Walk member_site
 
 -- ---- sources
 
+-- what a declaration in a unit declares; a semicolon declares nothing (JLS 7.6)
 abbrev pub sites_of_top : TopLevel → Walk
 sites_of_top (top_of.Declaration d) = sites_of_declaration d
 sites_of_top (top_of.Semicolon at) = walked []
 
+-- a unit alone, and its scope alone, which is in no other one
 abbrev pub unit_site : SourceUnit → ℕ → Sites
 unit_site u scope =
     record {
@@ -448,6 +480,7 @@ sites_of_unit u unit n =
     let own : Sites = unit_front u unit n.scopes in
     joined own (walked (map sites_of_top u.unit.types) (record { file = u.file; unit = unit; round = []; of_interface = false; scope = n.scopes }) (behind n own))
 
+-- these sources, the units of which are counted from a number
 abbrev pub sites_from : List SourceUnit → ℕ → Counts → Sites
 sites_from [] unit n = no_sites
 sites_from (u ∷ units) unit n = let s : Sites = sites_of_unit u unit n in joined s (sites_from units (unit + 1) (behind n s))

@@ -38,15 +38,18 @@ pub record Wrote : Type 0 where
   pub places : List ℕ
   pub broken : List Broken
 
+-- a written type argument, with the offsets of the class types inside it, and the broken rules
 pub record WroteArg : Type 0 where
   pub arg : Arg
   pub places : List ℕ
   pub broken : List Broken
 
+-- one part of a class type: its name and its arguments, of which there may be none
 pub record WrotePart : Type 0 where
   pub name : Ident
   pub args : List WroteArg
 
+-- the primitive type of a word; the language has no float and no double
 abbrev pub primitive_of : PrimitiveWord → Primitive
 primitive_of word.Boolean = primitive.Boolean
 primitive_of word.Byte = primitive.Byte
@@ -55,12 +58,14 @@ primitive_of word.Char = primitive.Char
 primitive_of word.Int = primitive.Int
 primitive_of word.Long = primitive.Long
 
+-- there is nothing in the list
 abbrev pub is_empty : {X : Type 0} → List X → Bool
 is_empty [] = true
 is_empty (x ∷ xs) = false
 
 -- ---- a class type
 
+-- the name of a part, and the arguments of the last part behind p
 abbrev pub name_of_part : WrotePart → List ℕ
 name_of_part p = p.name.text
 
@@ -79,10 +84,12 @@ meant_type H (Some (AClass c ∷ [])) args = class_type H c args
 meant_type H (Some (AVariable v ∷ [])) args = Variable (record { 0 = v })
 meant_type H _ args = Class (record { 0 = 0 }) []
 
+-- the name counts as that of a class type: all but a type variable
 abbrev pub is_class_meant : Look → Bool
 is_class_meant (Some (AVariable v ∷ [])) = false
 is_class_meant _ = true
 
+-- the offsets and the broken rules of arguments, and the broken rules of the arguments of all parts
 abbrev pub arg_places : List WroteArg → List ℕ
 arg_places [] = []
 arg_places (a ∷ args) = a.places ++ arg_places args
@@ -100,6 +107,7 @@ abbrev pub early_args : WrotePart → List WrotePart → List Broken
 early_args p [] = []
 early_args p (q ∷ qs) = cond (is_empty p.args) [] (record { rule = 302; at = p.name.at } ∷ []) ++ early_args q qs
 
+-- a type variable that may be named or not, without arguments or with them; one with arguments is no generic class (302)
 abbrev pub variable_broken : Bool → Bool → ℕ → List Broken
 variable_broken true true at = []
 variable_broken true false at = record { rule = 302; at = at } ∷ []
@@ -119,6 +127,7 @@ abbrev pub if_accessible : Bool → List Broken → ℕ → List Broken
 if_accessible true broken at = broken
 if_accessible false broken at = record { rule = 310; at = at } ∷ []
 
+-- what the name of a class type breaks, and the arguments before its last part
 abbrev pub name_broken : Heads → Knowledge → Reading → WrotePart → List WrotePart → List Broken
 name_broken H K r first more =
     let look : Look = look_up H K r.find (name_of_part first) (map name_of_part more) in
@@ -127,9 +136,11 @@ name_broken H K r first more =
     first.name.at
     ++ early_args first more
 
+-- the types of these arguments
 abbrev pub args_in : List WroteArg → List Arg
 args_in args = map (λ (a : WroteArg). a.arg) args
 
+-- a class type of these parts; only the arguments of the last part are kept
 abbrev pub class_wrote : Heads → Knowledge → Reading → WrotePart → List WrotePart → Wrote
 class_wrote H K r first more =
     let look : Look = look_up H K r.find (name_of_part first) (map name_of_part more) in
@@ -141,10 +152,12 @@ class_wrote H K r first more =
 
 -- ---- types
 
+-- the step at what an array is over, or a type without brackets
 abbrev pub base_wrote : BaseTree-F Wrote WroteArg Wrote WrotePart Wrote → Wrote
 base_wrote (BaseTree-F.Primitive at w) = record { ty = Prim (primitive_of w); places = []; broken = [] }
 base_wrote (BaseTree-F.Class it) = it
 
+-- the steps at a type argument: exact, a wildcard, or one with a bound (JLS 4.5.1)
 abbrev pub arg_with : (Ty → Arg) → Wrote → WroteArg
 arg_with f w = record { arg = f w.ty; places = w.places; broken = w.broken }
 
@@ -154,6 +167,7 @@ arg_wrote (TypeArg-F.Any at) = record { arg = arg.Any; places = []; broken = [] 
 arg_wrote (TypeArg-F.Extends at w) = arg_with (λ t. arg.Extends t) w
 arg_wrote (TypeArg-F.Super at w) = arg_with (λ t. arg.Super t) w
 
+-- the steps at a class type and at its parts
 abbrev pub class_tree_wrote : Heads → Knowledge → Reading → ClassTree-F Wrote WroteArg Wrote WrotePart Wrote → Wrote
 class_tree_wrote H K r node = class_wrote H K r node.first node.more
 
@@ -165,12 +179,14 @@ abbrev pub with_dims : ℕ → Ty → Ty
 with_dims zero t = t
 with_dims (suc n) t = array_over n t
 
+-- the same with so many dimensions more; and the step at a type, which is its base with its dimensions
 abbrev pub with_more_dims : ℕ → Wrote → Wrote
 with_more_dims n w = record w { ty = with_dims n w.ty }
 
 abbrev pub type_wrote : TypeTree-F Wrote WroteArg Wrote WrotePart Wrote → Wrote
 type_wrote node = with_more_dims node.dims node.base
 
+-- what each kind of tree writes in a reading: bases, arguments, class types, their parts, and types
 unfoldable pub wrote_base : Heads → Knowledge → Reading → BaseTree → Wrote
 wrote_base H K r node = fold-BaseTree Wrote WroteArg Wrote WrotePart Wrote base_wrote arg_wrote (class_tree_wrote H K r) part_wrote type_wrote node
 

@@ -33,6 +33,7 @@ answer_of (Returned v) = give v
 abbrev pub first_locals : ErasedProgram → MethodId → List Value → List Value
 first_locals P m given = given ++ replicate (locals_of P m - length given) Null
 
+-- the body in variables of its own; behind it the caller has its own again
 abbrev pub run_method : ErasedProgram → Bodies → MethodId → List Value → ErasedRun Value
 run_method P body m given = in_frame (first_locals P m given) tt (bind (body m) answer_of)
 
@@ -52,6 +53,7 @@ entered P called own v =
     if same_erased called own then give v else
     checked erased_keeping P.table P.known EntryGuard own v
 
+-- each argument by the declared types of its parameter
 abbrev pub entered_all : ErasedProgram → List Ty → List Ty → List Value → ErasedRun (List Value)
 entered_all P (c ∷ cs) (o ∷ os) (v ∷ vs) =
     bind (entered P (erased_type P c) (erased_type P o) v) (λ w.
@@ -65,6 +67,7 @@ answered P (Some called) (Some own) v =
     checked erased_keeping P.table P.known EntryGuard (erased_type P called) v
 answered P _ _ v = give v
 
+-- what a call does that found a method, a bridge or nothing; `further` calls what a bridge leads to
 abbrev pub call_found : ErasedProgram → Bodies → (MethodId → List Value → ErasedRun Value) → ℕ → List Value → Option Selected → ErasedRun Value
 call_found P body further a args None = wrong
 call_found P body further a args (Some (Written own)) = run_method P body own (Address a ∷ args)

@@ -56,9 +56,11 @@ module _ (P : ErasedProgram) (r : Inner) where
   values_of [] = give []
   values_of (o ∷ os) = bind (value_of o) (λ v. bind (values_of os) (λ vs. give (v ∷ vs)))
 
+  -- the same of a list of operands as a tree holds it
   abbrev pub values : Operands → ErasedRun (List Value)
   values os = values_of (operand_list os)
 
+  -- the first computation where the boolean is true, and else the second; a value that is a long or a reference is wrong
   abbrev pub choose : {A : Type 0} → Bool → ErasedRun A → ErasedRun A → ErasedRun A
   choose true m n = m
   choose false m n = n
@@ -75,6 +77,7 @@ module _ (P : ErasedProgram) (r : Inner) where
   abbrev pub get_static : FieldId → ErasedRun Value
   get_static f = behind (r.ready (field_class T f)) (look (λ s. slice_get s.statics f.0))
 
+  -- .. and its change
   abbrev pub set_static : FieldId → Value → ErasedRun (Unit {0})
   set_static f v = behind (r.ready (field_class T f)) (change (λ s. record s { statics = slice_set s.statics f.0 v }))
 
@@ -85,6 +88,7 @@ module _ (P : ErasedProgram) (r : Inner) where
       bind (object_at a) (λ o.
       bind (some_or_wrong (slot_of T f)) (λ slot. some_or_wrong (slice_get o.parts slot))))
 
+  -- .. and its change
   abbrev pub set_field : FieldId → Value → Value → ErasedRun (Unit {0})
   set_field f of_it v =
       bind (address_of keeping T P.known of_it) (λ a.
@@ -97,12 +101,14 @@ module _ (P : ErasedProgram) (r : Inner) where
       bind (object_at a) (λ o.
       bind (place_of keeping T P.known o index) (λ n. some_or_wrong (slice_get o.parts n))))
 
+  -- .. and its change, which tests that an array of references can have the value (JLS 10.5)
   abbrev pub set_element : Value → Value → Value → ErasedRun (Unit {0})
   set_element array index v =
       bind (address_of keeping T P.known array) (λ a.
       bind (object_at a) (λ o.
       bind (place_of keeping T P.known o index) (λ n. store keeping T P.known a o n v)))
 
+  -- the length of an array; null throws (JLS 10.7, 15.11.1)
   abbrev pub length_of : Value → ErasedRun Value
   length_of array =
       bind (address_of keeping T P.known array) (λ a.
@@ -122,6 +128,7 @@ module _ (P : ErasedProgram) (r : Inner) where
   printer_of p printed.Long = p.of_long
   printer_of p printed.Reference = p.of_object
 
+  -- by the two calls, for which String is initialised first
   abbrev pub text_of : Printed → Value → ErasedRun Value
   text_of as_it v =
       behind (r.ready P.known.string)
@@ -164,6 +171,7 @@ module _ (P : ErasedProgram) (r : Inner) where
   target_of (FieldVariable of_it f) = bind (value_of of_it) (λ v. give (ToField v f))
   target_of (ElementVariable array index) = bind (value_of array) (λ a. bind (value_of index) (λ i. give (ToElement a i)))
 
+  -- the value that a variable has, and another value for it
   abbrev pub read_target : Target → ErasedRun Value
   read_target (ToLocal n) = local n
   read_target (ToStatic f) = get_static f
@@ -190,6 +198,7 @@ module _ (P : ErasedProgram) (r : Inner) where
   first_value [] = wrong
   first_value (v ∷ vs) = give v
 
+  -- a static call initialises the class first (JLS 12.4.1); for the others the first value of the receiver is the object
   abbrev pub call_with : CallKind → MethodId → List Value → List Value → ErasedRun Value
   call_with Static m receiver args = behind (r.ready (method_class T m)) (call_static P r.body m args)
   call_with Virtual m receiver args = bind (first_value receiver) (λ v. call_virtual P r.body m v args)
@@ -215,6 +224,7 @@ module _ (P : ErasedProgram) (r : Inner) where
   fill a at zero m = give tt
   fill a at (suc n) m = behind (bind m (set_part a at)) (fill a (suc at) n m)
 
+  -- .. by the lengths that are left; with the last one the elements are as new
   abbrev pub arrays : Erased → List ℕ → ErasedRun Value
   arrays e [] = give NullValue
   arrays e (n ∷ []) = bind (new_array e n) (λ a. give (Address a))
@@ -235,6 +245,7 @@ module _ (P : ErasedProgram) (r : Inner) where
   fill_with a at (o ∷ os) =
       bind (value_of o) (λ v. behind (set_element (Address a) (Whole (pos at)) v) (fill_with a (suc at) os))
 
+  -- what a form does, by its kind; `ty` is the static type of the expression
   abbrev pub form_of : Ty → Form → ErasedRun Value
   form_of ty (Fixed before value) = behind (values before) (constant_value value)
   form_of ty Null = give NullValue

@@ -33,12 +33,14 @@ use Rattle.jc_erased.specs.Classes.{initialise, ready_by}
 use Rattle.jc_meaning.specs.declared.target.Native.{Native}
 use Rattle.jc_meaning.specs.Natives.{native_of, native_act, name_of}
 
+-- what a program does at one depth: expressions, statements, bodies of methods, and classes that become ready for use
 pub record Meaning : Type 0 where
   pub expr : Expr → ErasedRun Value
   pub stmt : Stmt → ErasedRun Completion
   pub body : MethodId → ErasedRun Completion
   pub ready : ClassId → ErasedRun (Unit {0})
 
+-- the same for the parts of a form, which run no statements
 abbrev pub inner_of : Meaning → Inner
 inner_of r = record { expr = r.expr; body = r.body; ready = r.ready }
 
@@ -47,6 +49,7 @@ abbrev pub written_body : ErasedProgram → Meaning → ℕ → Option (List Stm
 written_body P r k None = wrong
 written_body P r k (Some ss) = run_all P (inner_of r) r.stmt k ss
 
+-- a native method ends with a value; each other method has a body that is written
 abbrev pub native_or : ErasedProgram → Option Native → ErasedRun Completion → ErasedRun Completion
 native_or P (Some n) other = bind (native_act erased_keeping P.table P.known n) (λ v. give (Returned v))
 native_or P None other = other
@@ -54,6 +57,7 @@ native_or P None other = other
 abbrev pub body_act : ErasedProgram → Meaning → ℕ → MethodId → ErasedRun Completion
 body_act P r k m = native_or P (native_of P.known.natives m) (written_body P r k (body_of P m))
 
+-- at depth 0 each node stops; the use of a class that nothing has to be done for goes on there too
 unfoldable pub meaning : ErasedProgram → ℕ → Meaning
 meaning P zero = record {
   expr = λ e. stop;
@@ -110,10 +114,12 @@ outcome P m input n = node (run_static P m n) n (first_state P input)
 abbrev pub main_outcome : ErasedProgram → MethodId → List (List ℕ) → List ℕ → ℕ → Out ErasedState Value
 main_outcome P m args input n = node (run_main P m args n) n (first_state P input)
 
+-- the class of a thrown object, by its name; where an address stands for nothing it is empty
 abbrev pub class_name : ErasedProgram → Option (Object Erased) → List ℕ
 class_name P None = []
 class_name P (Some o) = name_of P.table o.kept
 
+-- what went out and how much was taken up to a state, and how the run ended
 abbrev pub seen_with : ErasedState → Ending → Seen
 seen_with s ending = record { output = s.shown.output; taken = s.shown.taken; ending = ending }
 

@@ -17,6 +17,7 @@ use Rattle.jc_erased.specs.declared.program.Bridge.{Bridge}
 use Rattle.jc_erased.specs.declared.program.ErasedMethod.{ErasedMethod}
 use Rattle.jc_erased.specs.declared.program.ErasedProgram.{ErasedProgram}
 
+-- a computation on a state whose objects keep erased types
 abbrev pub ErasedRun : Type 0 → Type 0
 ErasedRun A = Run ErasedState A
 
@@ -32,6 +33,7 @@ erased_keeping = record {
 abbrev pub erased_type : ErasedProgram → Ty → Erased
 erased_type P t = erasure P.table [] t
 
+-- the typed method of an erased one; None where there is no such method
 abbrev pub tree_in : Option ErasedMethod → Option TypedMethod
 tree_in (Some m) = Some m.tree
 tree_in None = None
@@ -43,9 +45,11 @@ tree_of P m = tree_in (slice_get P.methods m.0)
 abbrev pub body_of : ErasedProgram → MethodId → Option (List Stmt)
 body_of P m = body_of_method (tree_of P m)
 
+-- how many variables a method has, the receiver and the parameters among them
 abbrev pub locals_of : ErasedProgram → MethodId → ℕ
 locals_of P m = locals_in (tree_of P m)
 
+-- empty where there is no such method
 abbrev pub name_in : Option ErasedMethod → List ℕ
 name_in (Some m) = m.name
 name_in None = []
@@ -54,6 +58,7 @@ name_in None = []
 abbrev pub name_of_method : ErasedProgram → MethodId → List ℕ
 name_of_method P m = name_in (slice_get P.methods m.0)
 
+-- the bridges of a class; none where none are listed for it
 abbrev pub listed : Option (List Bridge) → List Bridge
 listed (Some bs) = bs
 listed None = []

@@ -21,6 +21,7 @@ pub record Descriptor : Type 0 where
   pub params : List Erased
   pub result : Option Erased
 
+-- .. of a method by its number; None stands for `void`
 abbrev pub erased_result : ErasedProgram → Option Ty → Option Erased
 erased_result P (Some t) = Some (erased_type P t)
 erased_result P None = None
@@ -28,6 +29,7 @@ erased_result P None = None
 abbrev pub descriptor_of : ErasedProgram → MethodId → Descriptor
 descriptor_of P m = record { params = map (erased_type P) (params_of P.table m); result = erased_result P (result_of P.table m) }
 
+-- equality of descriptors: as many parameters with equal erasures, and equal results or none
 abbrev pub same_params : List Erased → List Erased → Bool
 same_params [] [] = true
 same_params (e ∷ es) (f ∷ fs) = same_erased e f && same_params es fs
@@ -45,6 +47,7 @@ same_descriptor d e = same_params d.params e.params && same_result d.result e.re
 abbrev pub is_called_as : ErasedProgram → MethodId → MethodId → Bool
 is_called_as P m n = bytes_eq (name_of_method P m) (name_of_method P n) && same_descriptor (descriptor_of P m) (descriptor_of P n)
 
+-- what a method has to be for this, by its kind, access and modifiers
 abbrev pub is_plain_kind : Option MethodKind → Bool
 is_plain_kind (Some method_kind.Method) = true
 is_plain_kind _ = false
@@ -66,6 +69,7 @@ pub data Selected : Type 0 where
   Written : (method : MethodId) → Selected
   Across : (bridge : Bridge) → Selected
 
+-- the first bridge that is called so, and the first method, where `other` is what none of them gives
 abbrev pub among_bridges : ErasedProgram → MethodId → List Bridge → Option Selected
 among_bridges P m [] = None
 among_bridges P m (b ∷ bs) = if is_called_as P b.called m then Some (Across b) else among_bridges P m bs
@@ -74,9 +78,11 @@ abbrev pub among_methods : ErasedProgram → MethodId → List MethodId → Opti
 among_methods P m [] other = other
 among_methods P m (n ∷ ns) other = if is_selectable P n && is_called_as P n m then Some (Written n) else among_methods P m ns other
 
+-- what a class has itself: a method before a bridge
 abbrev pub in_class : ErasedProgram → MethodId → ClassId → Option Selected
 in_class P m k = among_methods P m (methods_of P.table k) (among_bridges P m (bridges_of P k))
 
+-- what was found, or else what the superclass has, if there is one
 abbrev pub or_above : (ClassId → Option Selected) → Option Selected → Option ClassId → Option Selected
 or_above f (Some s) k = Some s
 or_above f None (Some k) = f k

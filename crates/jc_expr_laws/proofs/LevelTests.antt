@@ -7,6 +7,7 @@ use Rattle.jc_lexer.specs.declared.token.Token.{Token}
 use Rattle.jc_reading.specs.Kinds.{kind_code, is_in, front_code, one_of}
 use Rattle.jc_reading.proofs.Signs.{none_common, apart_sets, all_in, within_sets}
 use Rattle.jc_part_laws.proofs.ExprForms.{expr_codes}
+use Rattle.jc_reading.proofs.Coded.{in_first as in_either, in_second as in_other}
 
 -- the kinds of an operator's tokens stand there, and behind them begins an operand
 abbrev pub matches : List ℕ → List Token → Bool
@@ -77,14 +78,6 @@ abbrev pub leads : List (List ℕ) → List ℕ
 leads [] = []
 leads ([] ∷ ops) = expr_codes ++ leads ops
 leads ((c ∷ codes) ∷ ops) = c ∷ leads ops
-
-in_either : (xs ys : List ℕ) (n : ℕ) → is_in xs n ≡ true → is_in (xs ++ ys) n ≡ true
-in_either [] ys n e = absurd (false≢true e)
-in_either (x ∷ xs) ys n e = ⊎_elim (λ (t : (x == n) ≡ true). or_left (x == n) (is_in (xs ++ ys) n) t) (λ (t : is_in xs n ≡ true). or_right (x == n) (is_in (xs ++ ys) n) (in_either xs ys n t)) (or_cases (x == n) (is_in xs n) e)
-
-in_other : (xs ys : List ℕ) (n : ℕ) → is_in ys n ≡ true → is_in (xs ++ ys) n ≡ true
-in_other [] ys n e = e
-in_other (x ∷ xs) ys n e = or_right (x == n) (is_in (xs ++ ys) n) (in_other xs ys n e)
 
 front_of : (c : ℕ) (codes : List ℕ) (ts : List Token) → matches (c ∷ codes) ts ≡ true → (c == front_code ts) ≡ true
 front_of c codes [] m = absurd (false≢true m)

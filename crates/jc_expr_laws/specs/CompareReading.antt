@@ -59,19 +59,24 @@ barred false true = sign_code sign_of.Greater ∷ []
 barred true false = sign_code sign_of.Less ∷ []
 barred true true = sign_code sign_of.Less ∷ sign_code sign_of.Greater ∷ []
 
+-- what is told to the next part: of the part before it alone
 abbrev pub behind_part : Bool → Comparison → Bool
 behind_part bare p = ends_open_type p
 
+-- a comparison that doesn't begin with what is barred there
 abbrev pub next_comparison_run : ℕ → Run Expr → Bool → Bool → Run Comparison
 next_comparison_run h next bare touched = barring (barred bare touched) (comparison_run h next)
 
+-- any number of them, the first one with nothing barred
 unfoldable pub comparisons_run : ℕ → Run Expr → Run (List Comparison)
 comparisons_run h next = linked behind_part (next_comparison_run h next) false false
 
+-- `instanceof` with its type, or an operator with its operand
 abbrev pub compared_operand : Comparison → Operand
 compared_operand (This p) = operand_of.InstanceOf p.1
 compared_operand (That p) = operand_made p
 
+-- a first operand alone where no comparison stands behind it, and else a chain
 abbrev pub compared_made : (Expr × List Comparison) → Expr
 compared_made (first, []) = first
 compared_made (first, p ∷ more) = expr_of.Chain first (map compared_operand (p ∷ more))

@@ -23,6 +23,7 @@ unfoldable pub longest_passing : {A : Type 0} → (A → Bool) → Run A → Lis
 longest_passing passes run ts l zero = ended passes (run []) ts l (Stopped l)
 longest_passing passes run ts l (suc k) = ended passes (run (take (suc k) ts)) (drop (suc k) ts) l (longest_passing passes run ts l k)
 
+-- a value behind which nothing more stands
 abbrev pub with_none : {A B : Type 0} → A → A × Option B
 with_none a = (a, None)
 
@@ -30,10 +31,12 @@ with_none a = (a, None)
 abbrev pub alone : {A : Type 0} → (A → Bool) → Run A → List Token → A → List Token → ℕ → Read A
 alone passes run ts a r l = cond (passes a) (Found a r l) (longest_passing passes run ts l (length ts - length r))
 
+-- with what was read behind a value, and where nothing can be read there the value alone
 abbrev pub closed_by : {A B : Type 0} → (A → Bool) → Run A → List Token → A → List Token → ℕ → Read B → Read (A × Option B)
 closed_by passes run ts a r l (Found b q n) = Found (a, Some b) q (min l n)
 closed_by passes run ts a r l (Stopped n) = becoming with_none (alone passes run ts a r (min l n))
 
+-- nothing is read where the value itself can't be
 abbrev pub closing_on : {A B : Type 0} → (A → Bool) → Run A → List Token → Read A → Run B → Read (A × Option B)
 closing_on passes run ts (Found a r l) more = closed_by passes run ts a r l (more r)
 closing_on passes run ts (Stopped l) more = Stopped l
@@ -62,9 +65,11 @@ crement_op (That at) = record { at = at; sign = prefix_of.Decrement }
 unfoldable pub crement_op_run : Run PrefixOp
 crement_op_run = as_new crement_op (either (sign_code sign_of.Increment ∷ []) (at_kind (sign_code sign_of.Increment)) (at_kind (sign_code sign_of.Decrement)))
 
+-- the codes of `++` and `--`
 abbrev pub crement_codes : List ℕ
 crement_codes = sign_code sign_of.Increment ∷ sign_code sign_of.Decrement ∷ []
 
+-- an operator with its operand, or an assignment, or a value that passes alone
 abbrev pub effect_made : Either Expr (Expr × Option (AssignOp × Expr)) → Expr
 effect_made (This e) = e
 effect_made (That p) = assign_made p

@@ -28,6 +28,7 @@ NoExprFault tokens at (fault_of.Syntax token) =
     IsExprReach tokens at token × ((expr : Expr) (rest : List Token) → SpellsExpr most_height (drop at tokens) expr rest → ⊥)
 NoExprFault tokens at (fault_of.LeftOut rule token) = ⊥
 
+-- a refusal tells a fault; where memory is wanting nothing is told of the tokens
 abbrev pub NoExprStands : List Token → ℕ → Stop ParseFault → Type 0
 NoExprStands tokens at (stop_of.Refused fault) = NoExprFault tokens at fault
 NoExprStands tokens at stop_of.WantOfMemory = Unit {0}

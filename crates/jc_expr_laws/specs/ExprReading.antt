@@ -16,6 +16,7 @@ pub record Readers : Type 0 where
   pub levels : Levels
   pub array : Run ArrayInit
 
+-- of height 0: nothing is read
 abbrev pub no_readers : Readers
 no_readers = record { post = none_at; levels = no_levels; array = none_at }
 
@@ -26,6 +27,7 @@ next_readers h low =
     let post : Run Expr = post_run h low.levels.expr low.array in
     record { post = post; levels = next_levels compare_run h low.levels post; array = array_run (init_run low.levels.expr low.array) }
 
+-- of each height, built up from none
 unfoldable pub readers : ℕ → Readers
 readers zero = no_readers
 readers (suc h) = next_readers h (readers h)

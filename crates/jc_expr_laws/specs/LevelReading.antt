@@ -28,11 +28,13 @@ use Rattle.jc_reading.specs.Further.{either_one, followed, preferring, by_value}
 abbrev pub picks_touching : Token → Option (Unit {0})
 picks_touching t = cond ((kind_code t.kind == sign_code sign_of.Greater) && t.touches) (Some tt) None
 
+-- one such token
 abbrev pub touching_run : Run (Unit {0})
 touching_run = picking picks_touching
 
 -- the operators of each level
 
+-- `||`, `&&`, `|`, `^` and `&`, each the only operator of its level (JLS 15.22 to 15.24)
 abbrev pub or_else_op : Unit {0} → BinaryOp
 or_else_op u = binary_of.OrElse
 
@@ -48,6 +50,7 @@ xor_op u = binary_of.Xor
 abbrev pub and_op : Unit {0} → BinaryOp
 and_op u = binary_of.And
 
+-- `==`, `!=`
 abbrev pub equal_op : Either (Unit {0}) (Unit {0}) → BinaryOp
 equal_op (This u) = binary_of.Equal
 equal_op (That u) = binary_of.NotEqual
@@ -65,26 +68,31 @@ shift_op (This u) = binary_of.ShiftLeft
 shift_op (That (u, This p)) = binary_of.ShiftRightZero
 shift_op (That (u, That v)) = binary_of.ShiftRight
 
+-- `+`, `-`
 abbrev pub plus_op : Either (Unit {0}) (Unit {0}) → BinaryOp
 plus_op (This u) = binary_of.Plus
 plus_op (That u) = binary_of.Minus
 
+-- `*`, `/`, `%`
 abbrev pub times_op : Either (Unit {0}) (Either (Unit {0}) (Unit {0})) → BinaryOp
 times_op (This u) = binary_of.Times
 times_op (That (This u)) = binary_of.Divide
 times_op (That (That u)) = binary_of.Remainder
 
+-- `>=` is a `>` that touches a `=`, and where that can't be read `>` is read alone (JLS 15.20.1)
 unfoldable pub less_run : Run BinaryOp
 less_run =
     as_new less_op (either (sign_code sign_of.Less ∷ []) (of_kind (sign_code sign_of.Less))
     (either (sign_code sign_of.LessEqual ∷ []) (of_kind (sign_code sign_of.LessEqual))
     (preferring (in_turn touching_run (of_kind (sign_code sign_of.Assign))) (of_kind (sign_code sign_of.Greater)))))
 
+-- `>>>` and `>>` are signs `>` that touch each other: three of them before two (JLS 15.19)
 unfoldable pub shift_run : Run BinaryOp
 shift_run =
     as_new shift_op (either (sign_code sign_of.ShiftLeft ∷ []) (of_kind (sign_code sign_of.ShiftLeft))
     (in_turn touching_run (preferring (in_turn touching_run (of_kind (sign_code sign_of.Greater))) (of_kind (sign_code sign_of.Greater)))))
 
+-- the operators of one token, level by level (JLS 15.22 to 15.24)
 unfoldable pub or_else_run : Run BinaryOp
 or_else_run = as_new or_else_op (of_kind (sign_code sign_of.OrOr))
 
@@ -100,6 +108,7 @@ xor_run = as_new xor_op (of_kind (sign_code sign_of.Caret))
 unfoldable pub and_run : Run BinaryOp
 and_run = as_new and_op (of_kind (sign_code sign_of.And))
 
+-- those of levels with two or three, each of one token (JLS 15.17, 15.18, 15.21)
 unfoldable pub equal_run : Run BinaryOp
 equal_run = as_new equal_op (either (sign_code sign_of.Equal ∷ []) (of_kind (sign_code sign_of.Equal)) (of_kind (sign_code sign_of.NotEqual)))
 
@@ -115,9 +124,11 @@ times_run =
 abbrev pub is_tall : ℕ → Expr → Bool
 is_tall h e = not (nat_le (expr_height e) h)
 
+-- an operator with its right operand
 abbrev pub operand_made : (BinaryOp × Expr) → Operand
 operand_made p = operand_of.Binary p.0 p.1
 
+-- a first operand alone where no operator stands behind it, and else a chain
 abbrev pub chain_made : (Expr × List (BinaryOp × Expr)) → Expr
 chain_made (first, []) = first
 chain_made (first, p ∷ more) = expr_of.Chain first (map operand_made (p ∷ more))
@@ -129,6 +140,7 @@ chain_run (suc k) op first next = as_new chain_made (followed (is_tall (suc k)) 
 
 -- prefix operators
 
+-- `+`, `-`, `++`, `--`, `!` and `~`, and None for all other tokens (JLS 15.15)
 abbrev pub prefix_of_sign : Sign → Option PrefixSign
 prefix_of_sign sign_of.Plus = Some prefix_of.Plus
 prefix_of_sign sign_of.Minus = Some prefix_of.Minus
@@ -142,6 +154,7 @@ abbrev pub prefix_of_kind : TokenKind → Option PrefixSign
 prefix_of_kind (kind_of.Sign s) = prefix_of_sign s
 prefix_of_kind _ = None
 
+-- an operator at the place of its token
 abbrev pub prefix_placed : ℕ → Option PrefixSign → Option PrefixOp
 prefix_placed at None = None
 prefix_placed at (Some s) = Some (record { at = at; sign = s })
@@ -152,6 +165,7 @@ picks_prefix t = prefix_placed t.from (prefix_of_kind t.kind)
 abbrev pub prefix_op_run : Run PrefixOp
 prefix_op_run = picking picks_prefix
 
+-- `!` at its place, or `~`
 abbrev pub plain_op : Either ℕ ℕ → PrefixOp
 plain_op (This at) = record { at = at; sign = prefix_of.Not }
 plain_op (That at) = record { at = at; sign = prefix_of.Complement }
@@ -160,9 +174,11 @@ plain_op (That at) = record { at = at; sign = prefix_of.Complement }
 unfoldable pub plain_op_run : Run PrefixOp
 plain_op_run = as_new plain_op (either (sign_code sign_of.Not ∷ []) (at_kind (sign_code sign_of.Not)) (at_kind (sign_code sign_of.Tilde)))
 
+-- a first prefix operator, more of them and the operand behind them all
 abbrev pub prefix_made : (PrefixOp × (List PrefixOp × Expr)) → Expr
 prefix_made p = expr_of.Prefix p.0 p.1.0 p.1.1
 
+-- the codes of the prefix operators
 abbrev pub prefix_codes : List ℕ
 prefix_codes = sign_code sign_of.Plus ∷ sign_code sign_of.Minus ∷ sign_code sign_of.Increment ∷ sign_code sign_of.Decrement ∷ sign_code sign_of.Not ∷ sign_code sign_of.Tilde ∷ []
 
@@ -182,10 +198,12 @@ unary_run (suc k) bare lower = as_new either_one (either prefix_codes (prefix_ru
 
 -- casts: behind a primitive type stands a Unary, behind another type a Plain
 
+-- what stands behind a cast, told by whether its type is primitive
 abbrev pub operand_for : Bool → Run Expr → Run Expr → Run Expr
 operand_for true unary plain = unary
 operand_for false unary plain = plain
 
+-- "(" Type ")" and the operand, with the place of the first parenthesis (JLS 15.16)
 abbrev pub CastParts : Type 0
 CastParts = ℕ × ((TypeTree × Unit {0}) × Expr)
 
@@ -193,6 +211,7 @@ abbrev pub cast_run : ℕ → Run Expr → Run Expr → Run CastParts
 cast_run h unary plain =
     in_turn (at_kind (sign_code sign_of.LeftParen)) (by_value (in_turn (type_run h) (of_kind (sign_code sign_of.RightParen))) (λ p. operand_for (is_primitive p.0) unary plain))
 
+-- a cast, or a value of the postfix level
 abbrev pub bare_made : Either CastParts Expr → Expr
 bare_made (This p) = expr_of.Cast p.0 p.1.0.0 p.1.1
 bare_made (That e) = e
@@ -204,6 +223,7 @@ bare_run (suc k) unary plain post = as_new bare_made (preferring (cast_run (suc 
 
 -- conditionals and assignments
 
+-- ["?" Expr ":" Cond] behind a test, which without branches stands alone (JLS 15.25)
 abbrev pub Branches : Type 0
 Branches = Option (Unit {0} × (Expr × (Unit {0} × Expr)))
 
@@ -224,6 +244,7 @@ Touched = Unit {0} × (Unit {0} × Either (Unit {0}) (Unit {0} × Unit {0}))
 abbrev pub touched_assign_run : Run Touched
 touched_assign_run = in_turn touching_run (in_turn touching_run (either (sign_code sign_of.Assign ∷ []) (of_kind (sign_code sign_of.Assign)) (in_turn touching_run (of_kind (sign_code sign_of.Assign)))))
 
+-- `=`, `+=`, `-=`, `*=`, `/=`, `%=`, `&=`, `|=`, `^=`, `<<=`, and else `>>=` or `>>>=` (JLS 15.26)
 abbrev pub AssignSign : Type 0
 AssignSign = Either (Unit {0}) (Either (Unit {0}) (Either (Unit {0}) (Either (Unit {0}) (Either (Unit {0}) (Either (Unit {0}) (Either (Unit {0}) (Either (Unit {0}) (Either (Unit {0}) (Either (Unit {0}) Touched)))))))))
 
@@ -248,6 +269,7 @@ assign_run = as_new assign_op (either (sign_code sign_of.Assign ∷ []) (of_kind
 abbrev pub no_target : ℕ → Expr → Bool
 no_target h e = not (nat_le (expr_height e) h && stands post_level (expr_shape e))
 
+-- an assignment, or what could be its target alone where no operator stands behind it
 abbrev pub assign_made : (Expr × Option (AssignOp × Expr)) → Expr
 assign_made (target, None) = target
 assign_made (target, Some p) = expr_of.Assign target p.0 p.1
@@ -309,6 +331,7 @@ next_levels compare h low post =
       expr = expr_run h conditional low.expr;
     }
 
+-- of no height nothing is read, and the reach is the first token
 abbrev pub none_at : {A : Type 0} → Run A
 none_at ts = Stopped (length ts)
 

@@ -15,6 +15,7 @@ use Rattle.jc_reading.specs.Reading.{Stopped, Run, as_new, picking}
 use Rattle.jc_reading.specs.Growing.{growing, grown}
 use Rattle.jc_expr_laws.specs.StartReading.{prime_run}
 
+-- a token that is a postfix operator: `++` or `--`, and None for all others (JLS 15.14.2, 15.14.3)
 abbrev pub op_of_sign : Sign → Option PostfixOp
 op_of_sign sign_of.Increment = Some postfix_of.Increment
 op_of_sign sign_of.Decrement = Some postfix_of.Decrement
@@ -32,12 +33,15 @@ abbrev pub op_run : Bool → Run PostfixOp
 op_run true = picking picks_op
 op_run false = λ ts. Stopped (length ts)
 
+-- a value with a postfix operator behind it
 abbrev pub changed : Expr → PostfixOp → Expr
 changed v op = expr_of.Postfix v op
 
+-- one operator behind v: none where v has more than h heights
 abbrev pub ops_run : ℕ → Expr → Run PostfixOp
 ops_run h v = op_run (nat_le (expr_height v) h)
 
+-- the value that the operators make, the first of them innermost
 abbrev pub changed_by : (Expr × List PostfixOp) → Expr
 changed_by g = grown changed g.0 g.1
 

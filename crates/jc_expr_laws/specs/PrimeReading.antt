@@ -34,12 +34,14 @@ use Rattle.jc_part_laws.specs.PartReading.{row_run}
 
 -- literals
 
+-- `true`, `false` and `null`, and None for all other keywords (JLS 15.8.1)
 abbrev pub literal_of_key : Key → Option Literal
 literal_of_key key_of.True = Some (literal_of.Boolean true)
 literal_of_key key_of.False = Some (literal_of.Boolean false)
 literal_of_key key_of.Null = Some literal_of.Null
 literal_of_key _ = None
 
+-- a token that is a literal, and None for all others
 abbrev pub literal_of_kind : TokenKind → Option Literal
 literal_of_kind (kind_of.Number value long decimal) = Some (literal_of.Number value long decimal)
 literal_of_kind (kind_of.CharLit unit) = Some (literal_of.Char unit)
@@ -47,18 +49,22 @@ literal_of_kind (kind_of.StringLit units) = Some (literal_of.String units)
 literal_of_kind (kind_of.Key k) = literal_of_key k
 literal_of_kind _ = None
 
+-- a literal at the place of its token
 abbrev pub picks_literal : Token → Option (ℕ × Literal)
 picks_literal t = at_its_place t.from (literal_of_kind t.kind)
 
+-- the codes of the tokens that are literals
 abbrev pub literal_codes : List ℕ
 literal_codes = 1 ∷ 2 ∷ 3 ∷ key_code key_of.True ∷ key_code key_of.False ∷ key_code key_of.Null ∷ []
 
 -- "(" [Expr {"," Expr}] ")"
 
+-- a list that may be left out
 abbrev pub or_empty : {A : Type 0} → Option (List A) → List A
 or_empty None = []
 or_empty (Some list) = list
 
+-- the actual arguments between the parentheses, of which there may be none (JLS 15.12)
 abbrev pub actuals_made : (Unit {0} × (Option (List Expr) × Unit {0})) → List Expr
 actuals_made p = or_empty p.1.0
 
@@ -67,13 +73,16 @@ actuals_run expr = as_new actuals_made (in_turn (of_kind (sign_code sign_of.Left
 
 -- what stands between braces and is skipped: of height at most h
 
+-- a token that is no brace
 abbrev pub picks_skipped : Token → Option TokenKind
 picks_skipped t = cond (is_brace t.kind) None (Some t.kind)
 
+-- a part: braces with what stands between them, or one token
 abbrev pub skip_part_made : Either Skip TokenKind → SkipPart
 skip_part_made (This skip) = skip_part_of.Inner skip
 skip_part_made (That kind) = skip_part_of.Token kind
 
+-- the parts between two braces
 abbrev pub skip_made : (Unit {0} × (List SkipPart × Unit {0})) → Skip
 skip_made p = roll-Skip (record { parts = p.1.0 })
 
@@ -83,6 +92,7 @@ skip_run (suc h) ts = as_new skip_made (in_turn (of_kind (sign_code sign_of.Left
 
 -- "{" [Init {"," Init}] [","] "}", where the parts are read so
 
+-- an initialiser is an array initialiser where a brace stands first, and else an expression (JLS 8.3)
 abbrev pub init_made : Either ArrayInit Expr → Init
 init_made (This array) = init_of.Nested array
 init_made (That expr) = init_of.Value expr
@@ -90,6 +100,7 @@ init_made (That expr) = init_of.Value expr
 unfoldable pub init_run : Run Expr → Run ArrayInit → Run Init
 init_run expr array = as_new init_made (either (sign_code sign_of.LeftBrace ∷ []) array expr)
 
+-- at the place of its first brace, with whether a comma stands before the last one (JLS 10.6)
 abbrev pub array_made : (ℕ × (List Init × Bool)) → ArrayInit
 array_made p = roll-ArrayInit (record { at = p.0; inits = p.1.0; trailing = p.1.1 })
 
@@ -102,15 +113,19 @@ array_run init = as_new array_made (in_turn (at_kind (sign_code sign_of.LeftBrac
 abbrev pub Initial : Type 0
 Initial = Unit {0} × (ℕ × ArrayInit)
 
+-- the first length, the others and the count of the empty brackets behind them
 abbrev pub Lengths : Type 0
 Lengths = Expr × (Unit {0} × (List (Unit {0} × (Expr × Unit {0})) × ℕ))
 
+-- what stands behind the element type: an initialiser behind empty brackets, or lengths (JLS 15.10)
 abbrev pub ArrayTail : Type 0
 ArrayTail = Unit {0} × Either Initial Lengths
 
+-- the lengths behind the first one
 abbrev pub lengths_run : Run Expr → Run (List (Unit {0} × (Expr × Unit {0})))
 lengths_run expr = each_behind sign_of.LeftBracket (in_turn expr (of_kind (sign_code sign_of.RightBracket)))
 
+-- an array's brackets, which need room for a height; with `]` behind the first `[` an initialiser follows
 abbrev pub array_tail_run : ℕ → Run Expr → Run ArrayInit → Run ArrayTail
 array_tail_run h expr array =
     with_room h (in_turn (of_kind (sign_code sign_of.LeftBracket)) (either (sign_code sign_of.RightBracket ∷ [])
@@ -121,6 +136,7 @@ array_tail_run h expr array =
 abbrev pub ObjectTail : Type 0
 ObjectTail = Bool × (List Expr × List Skip)
 
+-- what may be left out: whether it stands there, and as a list of at most one
 abbrev pub is_there : {A : Type 0} → Option A → Bool
 is_there None = false
 is_there (Some a) = true
@@ -129,28 +145,35 @@ abbrev pub at_most_one : {A : Type 0} → Option A → List A
 at_most_one None = []
 at_most_one (Some a) = a ∷ []
 
+-- whether `<` `>` stand there (JLS 15.9)
 abbrev pub diamond_run : Run Bool
 diamond_run = as_new is_there (perhaps (in_turn (of_kind (sign_code sign_of.Less)) (of_kind (sign_code sign_of.Greater))))
 
+-- the body of an anonymous class, skipped, or none (JLS 15.9.5)
 abbrev pub body_run : ℕ → Run (List Skip)
 body_run h = as_new at_most_one (perhaps (skip_run h))
 
+-- actual arguments and a body
 abbrev pub object_run : ℕ → Run Expr → Run (List Expr × List Skip)
 object_run h expr = in_turn (actuals_run expr) (body_run h)
 
+-- behind a class with arguments of its own
 abbrev pub no_diamond : (List Expr × List Skip) → ObjectTail
 no_diamond p = (false, p)
 
+-- the brackets are read where told to be
 abbrev pub object_tail_run : ℕ → Run Expr → Bool → Run ObjectTail
 object_tail_run h expr true = in_turn diamond_run (object_run h expr)
 object_tail_run h expr false = as_new no_diamond (object_run h expr)
 
+-- behind a class: an array's brackets where a `[` stands, and else an object's arguments
 abbrev pub ClassTail : Type 0
 ClassTail = Either ArrayTail ObjectTail
 
 abbrev pub class_tail_run : ℕ → Run Expr → Run ArrayInit → ClassTree → Run ClassTail
 class_tail_run h expr array class = either (sign_code sign_of.LeftBracket ∷ []) (array_tail_run h expr array) (object_tail_run h expr (ends_bare class))
 
+-- the creation of an element type or a class and of what stands behind it
 abbrev pub array_creation : BaseTree → ArrayTail → Creation
 array_creation element (u, This p) = creation_of.Initialised element p.1.0 p.1.1
 array_creation element (u, That p) = creation_of.Sized element p.0 (map (λ (q : Unit {0} × (Expr × Unit {0})). q.1.0) p.1.1.0) p.1.1.1
@@ -175,12 +198,15 @@ SomeArgs = Unit {0} × (List TypeArg × Unit {0})
 abbrev pub Member : Type 0
 Member = Either (SomeArgs × (Ident × List Expr)) (Ident × Option (List Expr))
 
+-- type arguments between `<` and `>`
 abbrev pub some_args_run : ℕ → Run SomeArgs
 some_args_run h = in_turn (of_kind (sign_code sign_of.Less)) (in_turn (commas_run (arg_run h (type_run h))) (of_kind (sign_code sign_of.Greater)))
 
+-- a name, with None where no actual arguments stand behind it
 abbrev pub named_run : Run Expr → Run (Ident × Option (List Expr))
 named_run expr = in_turn an_ident_at (perhaps (actuals_run expr))
 
+-- by whether a `<` stands first; behind type arguments actual arguments must stand (JLS 15.12)
 abbrev pub member_run : ℕ → Run Expr → Run Member
 member_run h expr = either (sign_code sign_of.Less ∷ []) (in_turn (some_args_run h) (in_turn an_ident_at (actuals_run expr))) (named_run expr)
 
@@ -194,9 +220,11 @@ Dotted = Unit {0} × Either (Unit {0} × Creation) Member
 abbrev pub Selector : Type 0
 Selector = Either Indexed Dotted
 
+-- an index needs room for a height (JLS 15.13)
 abbrev pub indexed_run : ℕ → Run Expr → Run Indexed
 indexed_run h expr = with_room h (in_turn (of_kind (sign_code sign_of.LeftBracket)) (in_turn expr (of_kind (sign_code sign_of.RightBracket))))
 
+-- behind a point: `new`, or else a member
 abbrev pub dotted_run : ℕ → Run Expr → Run ArrayInit → Run Dotted
 dotted_run h expr array =
     in_turn (of_kind (sign_code sign_of.Dot)) (either (key_code key_of.New ∷ []) (in_turn (of_kind (key_code key_of.New)) (creation_run h expr array)) (member_run h expr))
@@ -207,6 +235,7 @@ selector_run h expr array true false = either (sign_code sign_of.LeftBracket ∷
 selector_run h expr array true true = as_new That (dotted_run h expr array)
 selector_run h expr array false sized = λ ts. Stopped (length ts)
 
+-- a value with the selector behind it: an index, an inner creation, a call or a field (JLS 15.9, 15.11 to 15.13)
 abbrev pub selected : Expr → Selector → Expr
 selected v (This p) = expr_of.Index v p.1.0
 selected v (That (u, This p)) = expr_of.InnerNew v p.1

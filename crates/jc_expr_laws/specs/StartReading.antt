@@ -39,12 +39,15 @@ Voids = ℕ × DotClass
 abbrev pub Parens : Type 0
 Parens = ℕ × (Expr × Unit {0})
 
+-- what begins with `super`, `new`, `void` or a parenthesis
 abbrev pub Keyed : Type 0
 Keyed = Either Supers (Either (ℕ × Creation) (Either Voids Parens))
 
+-- a name with actual arguments or without, a literal, `this`, or what is keyed
 abbrev pub Plain : Type 0
 Plain = Either (Ident × Option (List Expr)) (Either (ℕ × Literal) (Either ℕ Keyed))
 
+-- the expression of a start: a name alone may mean anything, and with arguments it is a call (JLS 15.12)
 abbrev pub plain_made : Plain → Expr
 plain_made (This (name, None)) = expr_of.Name name
 plain_made (This (name, Some list)) = expr_of.Invoke name list
@@ -57,9 +60,11 @@ plain_made (That (That (That (That (This p))))) = expr_of.New p.0 p.1
 plain_made (That (That (That (That (That (This p)))))) = expr_of.VoidLiteral p.0
 plain_made (That (That (That (That (That (That p)))))) = expr_of.Paren p.0 p.1.0
 
+-- an expression in parentheses needs room for a height (JLS 15.8.5)
 abbrev pub parens_run : ℕ → Run Expr → Run Parens
 parens_run h expr = with_room h (in_turn (at_kind (sign_code sign_of.LeftParen)) (in_turn expr (of_kind (sign_code sign_of.RightParen))))
 
+-- by `super`, `new` or `void`, and where none of them stands an expression in parentheses
 abbrev pub keyed_run : ℕ → Run Expr → Run ArrayInit → Run Keyed
 keyed_run h expr array =
     either (key_code key_of.Super ∷ []) (in_turn (at_kind (key_code key_of.Super)) (in_turn (of_kind (sign_code sign_of.Dot)) (member_run h expr)))
@@ -72,21 +77,27 @@ plain_run h expr array =
     as_new plain_made (either (word_code ∷ []) (named_run expr) (either literal_codes (picking picks_literal) (either (key_code key_of.This ∷ []) (at_kind (key_code key_of.This)) (keyed_run h expr array))))
 
 -- a class literal of a type, or an outer `this`
+-- "[" "]" Dims "." "class"
 abbrev pub ClassDims : Type 0
 ClassDims = (Unit {0} × Unit {0}) × (ℕ × DotClass)
 
+-- "." "this", or "." "class"
 abbrev pub DotKey : Type 0
 DotKey = Unit {0} × Either (Unit {0}) (Unit {0})
 
+-- what stands behind names
 abbrev pub SpecialTail : Type 0
 SpecialTail = Either ClassDims DotKey
 
+-- a primitive type, Dims "." "class"
 abbrev pub WordClass : Type 0
 WordClass = (ℕ × PrimitiveWord) × (ℕ × DotClass)
 
+-- names, and what stands behind them
 abbrev pub NamesSpecial : Type 0
 NamesSpecial = Ident × (List Ident × SpecialTail)
 
+-- by whether a primitive type stands first
 abbrev pub Special : Type 0
 Special = Either WordClass NamesSpecial
 
@@ -94,21 +105,26 @@ Special = Either WordClass NamesSpecial
 abbrev pub bare_part : Ident → TypePart
 bare_part name = roll-TypePart (record { name = name; args = [] })
 
+-- names as a class type without arguments
 abbrev pub bare_class : Ident → List Ident → ClassTree
 bare_class first more = roll-ClassTree (record { first = bare_part first; more = map bare_part more })
 
+-- the class literal of a type with so many pairs of brackets (JLS 15.8.2)
 abbrev pub literal_type : BaseTree → ℕ → Expr
 literal_type base dims = expr_of.ClassLiteral (roll-TypeTree (record { base = base; dims = dims }))
 
+-- the first brackets behind names count as one pair more; without brackets there is none
 abbrev pub special_made : Special → Expr
 special_made (This (w, (dims, p))) = literal_type (base_of.Primitive w.0 w.1) dims
 special_made (That (first, (more, This (b, (dims, p))))) = literal_type (base_of.Class (bare_class first more)) (suc dims)
 special_made (That (first, (more, That (u, This v)))) = expr_of.OuterThis first more
 special_made (That (first, (more, That (u, That v)))) = literal_type (base_of.Class (bare_class first more)) 0
 
+-- at least one pair of brackets, which need room for a height
 abbrev pub class_dims_run : ℕ → Run ClassDims
 class_dims_run h = with_room h (in_turn (in_turn (of_kind (sign_code sign_of.LeftBracket)) (of_kind (sign_code sign_of.RightBracket))) (in_turn dims_run dot_class_run))
 
+-- of height 0 it is `this` alone (JLS 15.8.4)
 abbrev pub dot_key_run : ℕ → Run DotKey
 dot_key_run h = in_turn (of_kind (sign_code sign_of.Dot)) (either (key_code key_of.This ∷ []) (of_kind (key_code key_of.This)) (with_room h (of_kind (key_code key_of.Class))))
 
@@ -122,12 +138,15 @@ special_run h =
 abbrev pub grown_of : (Expr × List Selector) → Expr
 grown_of g = grown selected g.0 g.1
 
+-- the value that the selectors make, whichever start was read
 abbrev pub which_grown : Either (Expr × List Selector) (Expr × List Selector) → Expr
 which_grown (This g) = grown_of g
 which_grown (That g) = grown_of g
 
+-- a start and any number of selectors behind it
 abbrev pub selecting_run : ℕ → Run Expr → Run ArrayInit → Run Expr → Run (Expr × List Selector)
 selecting_run h expr array first = growing first selected (selectors_run h expr array)
 
+-- a plain start is tried only where no special one can be read
 unfoldable pub prime_run : ℕ → Run Expr → Run ArrayInit → Run Expr
 prime_run h expr array = as_new which_grown (preferring (selecting_run h expr array (special_run h)) (selecting_run h expr array (plain_run h expr array)))

@@ -14,6 +14,7 @@ use Rattle.jc_heaps.specs.declared.given.Given.{Given}
 use Rattle.jc_heaps.specs.declared.given.Given.TheVariants.{Gives, ByZero, Unfit}
 use Rattle.jc_heaps.specs.Numbers.{int_eq, number_as, operated, is_shift}
 
+-- whether a type is `boolean`, and whether it is `long`: by these operands are told apart and promoted
 abbrev pub is_boolean : Primitive → Bool
 is_boolean Boolean = true
 is_boolean _ = false
@@ -30,6 +31,7 @@ promoted _ = Int
 abbrev pub both_promoted : Primitive → Primitive → Primitive
 both_promoted p q = if is_long p || is_long q then Long else Int
 
+-- `<`, `>`, `<=`, `>=`, `==` and `!=`, whose result is a boolean
 abbrev pub is_comparison : Op → Bool
 is_comparison op.Less = true
 is_comparison op.Greater = true
@@ -45,6 +47,7 @@ as_constant p (value.Whole n) = Some (Whole n p)
 as_constant p (value.Long n) = Some (Whole n p)
 as_constant p _ = None
 
+-- what an operator gave, as a constant; None for a division by zero, and where the operands don't fit
 abbrev pub given_constant : Primitive → Given → Option Constant
 given_constant p (Gives v) = as_constant p v
 given_constant p ByZero = None
@@ -58,6 +61,7 @@ shifted o n p m q = given_constant (promoted p) (operated o (number_as (promoted
 abbrev pub numbers : Op → ℤ → ℤ → Primitive → Option Constant
 numbers o n m t = given_constant (if is_comparison o then Boolean else t) (operated o (number_as t n) (number_as t m))
 
+-- an operator between numbers: a shift promotes each operand on its own, the others both together
 abbrev pub numeric : Op → ℤ → Primitive → ℤ → Primitive → Option Constant
 numeric o n p m q = if is_shift o then shifted o n p m q else numbers o n m (both_promoted p q)
 
@@ -72,10 +76,12 @@ boolean_operator op.ConditionalAnd = Some op.And
 boolean_operator op.ConditionalOr = Some op.Or
 boolean_operator _ = None
 
+-- None where it is no operator between booleans
 abbrev pub booleans_by : Option Op → ℤ → ℤ → Option Constant
 booleans_by None n m = None
 booleans_by (Some o) n m = given_constant Boolean (operated o (number_as Boolean n) (number_as Boolean m))
 
+-- of two booleans or two numbers; None where one operand is a boolean and the other is none
 abbrev pub wholes : Op → ℤ → Primitive → ℤ → Primitive → Option Constant
 wholes o n p m q =
     if is_boolean p && is_boolean q then booleans_by (boolean_operator o) n m
@@ -89,12 +95,14 @@ spelled n Boolean = if int_eq n (pos 0) then codes "false" else codes "true"
 spelled n Char = cast_unsigned w16 (int_wrap w16 n) ∷ []
 spelled n _ = signed_decimal n
 
+-- whether two strings have the same UTF-16 units
 abbrev pub same_units : List ℕ → List ℕ → Bool
 same_units [] [] = true
 same_units [] (y ∷ ys) = false
 same_units (x ∷ xs) [] = false
 same_units (x ∷ xs) (y ∷ ys) = nat_eq x y && same_units xs ys
 
+-- a boolean constant: 1 for true, 0 for false
 abbrev pub truth_constant : Bool → Constant
 truth_constant true = Whole (pos 1) Boolean
 truth_constant false = Whole (pos 0) Boolean
@@ -106,6 +114,7 @@ texts op.Equal xs ys = Some (truth_constant (same_units xs ys))
 texts op.NotEqual xs ys = Some (truth_constant (not (same_units xs ys)))
 texts _ xs ys = None
 
+-- string `+` where one operand is a string already (JLS 15.18.1)
 abbrev pub joined : Op → List ℕ → List ℕ → Option Constant
 joined op.Plus xs ys = Some (Text (xs ++ ys))
 joined _ xs ys = None

@@ -30,10 +30,12 @@ HasTree before text tree = (tokens : List Token) × HasTokens before text tokens
 abbrev pub BreaksWords : ℕ → List ℕ → Refusal → Type 0
 BreaksWords before text refused = (fault : LexFault) × (lexed text ≡ Err fault) × (refused ≡ refusal (rule_of fault) 0 (before + place_of fault))
 
+-- it has tokens, and they are those of no unit; offsets count from the beginning of the whole library
 abbrev pub BreaksTree : ℕ → List ℕ → Refusal → Type 0
 BreaksTree before text refused =
     (tokens : List Token) × HasTokens before text tokens × (fault : ParseFault) × NoUnitFault true tokens fault × (refused ≡ refusal_of 0 tokens (before + length text) fault)
 
+-- a text breaks a rule of words or one of the syntax
 abbrev pub BreaksText : ℕ → List ℕ → Refusal → Type 0
 BreaksText before text refused = BreaksWords before text refused ⊎ BreaksTree before text refused
 
@@ -52,6 +54,7 @@ BreaksIn before [] refused = ⊥
 BreaksIn before (text ∷ others) refused =
     BreaksText before text refused ⊎ (((tree : SourceFile) × HasTree before text tree) × BreaksIn (before + length text) others refused)
 
+-- the units of the library's own texts, and the rule that the first faulty one of these breaks
 abbrev pub AreLibrary : List SourceUnit → Type 0
 AreLibrary units = AreUnitsOf 0 texts units
 
@@ -60,6 +63,7 @@ BreaksLibrary refused = BreaksIn 0 texts refused
 
 -- ---- what stops a call
 
+-- a refusal is a break: of a text's words, of a text, and of the library; want of memory says nothing of them
 abbrev pub IsWordsStop : ℕ → List ℕ → Stop Refusal → Type 0
 IsWordsStop before text (stop_of.Refused refused) = BreaksWords before text refused
 IsWordsStop before text stop_of.WantOfMemory = Unit {0}

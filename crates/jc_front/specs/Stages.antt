@@ -78,6 +78,7 @@ BreaksTrees texts refused = (lists : List (List Token)) × HaveTokens texts list
 abbrev pub IsNamesBreak : List SourceUnit → Refusal → Type 0
 IsNamesBreak units refused = IsLeast (BreaksNames (sites_of units)) refused
 
+-- the sources have trees, the names of which break a rule; named is the least break
 abbrev pub BreaksOfNames : List (List ℕ) → Refusal → Type 0
 BreaksOfNames texts refused = (lists : List (List Token)) × (units : List SourceUnit) × HaveTrees texts lists units × IsNamesBreak units refused
 
@@ -96,6 +97,7 @@ abbrev pub Breaks : List (List ℕ) → Refusal → Type 0
 Breaks texts refused =
     BreaksLibrary refused ⊎ (BreaksWords texts refused ⊎ (BreaksTrees texts refused ⊎ (BreaksOfNames texts refused ⊎ (BreaksOfHeaders texts refused ⊎ BreaksOfClashes texts refused))))
 
+-- a refusal names that break; want of memory says nothing of the sources
 abbrev pub IsBreak : List (List ℕ) → Stop Refusal → Type 0
 IsBreak texts (stop_of.Refused refused) = Breaks texts refused
 IsBreak texts stop_of.WantOfMemory = Unit {0}

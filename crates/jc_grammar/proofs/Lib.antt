@@ -1,4 +1,4 @@
-mod Begun
+pub mod Begun
 mod Framing
 mod Worked
 pub mod Framed

@@ -20,6 +20,7 @@ use Rattle.jc_grammar.specs.Expressions.{expr_tokens, creation_tokens, array_tok
 use Rattle.jc_grammar.specs.Parts.{value_tokens}
 use Rattle.jc_grammar.specs.Statements.{stmt_tokens, clause_tokens, member_tokens, declaration_tokens, file_tokens}
 
+-- of each kind of tree: told before r and then s, it is told before r, and s stands behind that
 pub record TokensComeFirst : Type 0 where
   pub types : (ty : TypeTree) (r s : List Told) → type_tokens ty (r ++ s) ≡ type_tokens ty r ++ s
   pub args : (arg : TypeArg) (r s : List Told) → arg_tokens arg (r ++ s) ≡ arg_tokens arg r ++ s

@@ -26,6 +26,7 @@ use Rattle.jc_tree.specs.declared.expression.SkipPart.{SkipPart, SkipPart-F, fol
 use Rattle.jc_grammar.specs.Told.{Told, Spelled, told, sign, sign_at, key, key_at, ident, each, commas, actuals, names_after, brackets}
 use Rattle.jc_grammar.specs.Types.{type_tokens, base_tokens, class_tokens, args_tokens}
 
+-- the token of a literal (JLS 3.10); those of `true`, `false` and `null` are keywords here
 abbrev pub literal_kind : Literal → TokenKind
 literal_kind (literal_of.Number value long decimal) = kind_of.Number value long decimal
 literal_kind (literal_of.Char unit) = kind_of.CharLit unit
@@ -79,6 +80,7 @@ binary_tokens binary_of.Times r = sign sign_of.Star ∷ r
 binary_tokens binary_of.Divide r = sign sign_of.Slash ∷ r
 binary_tokens binary_of.Remainder r = sign sign_of.Percent ∷ r
 
+-- the sign of a prefix operator (JLS 15.15)
 abbrev pub prefix_sign : PrefixSign → Sign
 prefix_sign prefix_of.Plus = sign_of.Plus
 prefix_sign prefix_of.Minus = sign_of.Minus
@@ -87,18 +89,22 @@ prefix_sign prefix_of.Decrement = sign_of.Decrement
 prefix_sign prefix_of.Not = sign_of.Not
 prefix_sign prefix_of.Complement = sign_of.Tilde
 
+-- prefix operators, each at its offset
 abbrev pub prefix_tokens : List PrefixOp → Spelled
 prefix_tokens [] r = r
 prefix_tokens (op ∷ ops) r = sign_at (prefix_sign op.sign) op.at ∷ prefix_tokens ops r
 
+-- the sign of a postfix operator (JLS 15.14)
 abbrev pub postfix_sign : PostfixOp → Sign
 postfix_sign postfix_of.Increment = sign_of.Increment
 postfix_sign postfix_of.Decrement = sign_of.Decrement
 
+-- a skipped token, of which the tree has no offset, or a body between braces
 abbrev pub skip_part_told : SkipPart-F Spelled Spelled → Spelled
 skip_part_told (SkipPart-F.Inner skip) r = skip r
 skip_part_told (SkipPart-F.Token kind) r = told kind None ∷ r
 
+-- a skipped body between its braces
 abbrev pub skip_told : Skip-F Spelled Spelled → Spelled
 skip_told skip r = sign sign_of.LeftBrace ∷ each skip.parts (sign sign_of.RightBrace ∷ r)
 
@@ -106,12 +112,15 @@ skip_told skip r = sign sign_of.LeftBrace ∷ each skip.parts (sign sign_of.Righ
 unfoldable pub skip_tokens : Skip → Spelled
 skip_tokens skip = fold-Skip Spelled Spelled skip_part_told skip_told skip
 
+-- the same of a part of it
 unfoldable pub skip_part_tokens : SkipPart → Spelled
 skip_part_tokens part = fold-SkipPart Spelled Spelled skip_part_told skip_told part
 
+-- between `[` and `]`
 abbrev pub in_brackets : Spelled → Spelled
 in_brackets inside r = sign sign_of.LeftBracket ∷ inside (sign sign_of.RightBracket ∷ r)
 
+-- the sign, or nothing where it is not there
 abbrev pub if_there : Bool → Sign → Spelled
 if_there true s r = sign s ∷ r
 if_there false s r = r
@@ -154,10 +163,12 @@ expr_told (Expr-F.ClassLiteral ty) r = type_tokens ty (sign sign_of.Dot ∷ key 
 expr_told (Expr-F.VoidLiteral at) r = key_at key_of.Void at ∷ sign sign_of.Dot ∷ key key_of.Class ∷ r
 expr_told (Expr-F.OuterThis first more) r = ident first ∷ names_after more (sign sign_of.Dot ∷ key key_of.This ∷ r)
 
+-- an initialiser: an expression, or a list in braces
 abbrev pub init_told : Init-F Spelled Spelled Spelled Spelled Spelled → Spelled
 init_told (Init-F.Value expr) r = expr r
 init_told (Init-F.Nested array) r = array r
 
+-- an operator and what stands behind it
 abbrev pub operand_told : Operand-F Spelled Spelled Spelled Spelled Spelled → Spelled
 operand_told (Operand-F.Binary op right) r = binary_tokens op (right r)
 operand_told (Operand-F.InstanceOf ty) r = key key_of.Instanceof ∷ type_tokens ty r
@@ -171,6 +182,7 @@ array_told array r =
 unfoldable pub expr_tokens : Expr → Spelled
 expr_tokens expr = fold-Expr Spelled Spelled Spelled Spelled Spelled creation_told expr_told init_told operand_told array_told expr
 
+-- the same of what stands in an expression
 unfoldable pub array_tokens : ArrayInit → Spelled
 array_tokens array = fold-ArrayInit Spelled Spelled Spelled Spelled Spelled creation_told expr_told init_told operand_told array_told array
 

@@ -22,6 +22,7 @@ abbrev pub BeginsAt : ℕ → List Told → Type 0
 BeginsAt at [] = ⊥
 BeginsAt at (d ∷ told) = d.at ≡ Some at
 
+-- of each kind of tree: the token that it tells first is told with the offset at which the tree begins
 pub record FirstsAreTold : Type 0 where
   pub types : (ty : TypeTree) (r : List Told) → BeginsAt (first_offset_of_type ty) (type_tokens ty r)
   pub args : (arg : TypeArg) (r : List Told) → BeginsAt (first_offset_of_arg arg) (arg_tokens arg r)

@@ -44,6 +44,7 @@ use Rattle.jc_grammar.specs.Statements.{after_elses, arms_tokens, braced, braced
 use Rattle.jc_grammar.specs.Told.{Told, actuals, after_dots, brackets, commas, each, ident, key, key_at, names_after, sign, sign_at, told}
 use Rattle.jc_grammar.specs.Types.{angled, arg_tokens, args_tokens, base_tokens, class_tokens, part_tokens, primitive_key, type_tokens}
 
+-- the tokens of each kind of node of a type, by those of its parts
 pub record TypesAreTold : Type 0 where
   pub base_at_Primitive : (at : ℕ) (word : PrimitiveWord) (r : List Told) → base_tokens (anBaseTree.Primitive at word) r ≡ key_at (primitive_key word) at ∷ r
   pub base_at_Class : (class : ClassTree) (r : List Told) → base_tokens (anBaseTree.Class class) r ≡ class_tokens class r
@@ -55,6 +56,7 @@ pub record TypesAreTold : Type 0 where
   pub parts : (node : TypePart) (r : List Told) → part_tokens node r ≡ ident (out-TypePart node).name ∷ angled (map arg_tokens (out-TypePart node).args) r
   pub types : (node : TypeTree) (r : List Told) → type_tokens node r ≡ base_tokens (out-TypeTree node).base (brackets (out-TypeTree node).dims r)
 
+-- the tokens of each kind of node of an expression, by those of its parts
 pub record ExpressionsAreTold : Type 0 where
   pub skip_part_at_Inner : (skip : Skip) (r : List Told) → skip_part_tokens (anSkipPart.Inner skip) r ≡ skip_tokens skip r
   pub skip_part_at_Token : (kind : TokenKind) (r : List Told) → skip_part_tokens (anSkipPart.Token kind) r ≡ told kind None ∷ r
@@ -89,6 +91,7 @@ pub record ExpressionsAreTold : Type 0 where
   pub operand_at_InstanceOf : (ty : TypeTree) (r : List Told) → operand_tokens (anOperand.InstanceOf ty) r ≡ key key_of.Instanceof ∷ type_tokens ty r
   pub arrays : (node : ArrayInit) (r : List Told) → array_tokens node r ≡ sign_at sign_of.LeftBrace (out-ArrayInit node).at ∷ commas (map init_tokens (out-ArrayInit node).inits) (if_there (out-ArrayInit node).trailing sign_of.Comma (sign sign_of.RightBrace ∷ r))
 
+-- the tokens of each kind of node of annotations, members, statements, clauses and declarations, by those of their parts
 pub record StatementsAreTold : Type 0 where
   pub value_at_Value : (expr : Expr) (r : List Told) → value_tokens (anAnnotationValue.Value expr) r ≡ expr_tokens expr r
   pub value_at_List : (at : ℕ) (values : List AnnotationValue) (trailing : Bool) (r : List Told) → value_tokens (anAnnotationValue.List at values trailing) r ≡ sign_at sign_of.LeftBrace at ∷ commas (map value_tokens values) (if_there trailing sign_of.Comma (sign sign_of.RightBrace ∷ r))

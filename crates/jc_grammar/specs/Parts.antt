@@ -58,9 +58,11 @@ value_told (AnnotationValue-F.Value expr) r = expr_tokens expr r
 value_told (AnnotationValue-F.List at values trailing) r =
     sign_at sign_of.LeftBrace at ∷ commas values (if_there trailing sign_of.Comma (sign sign_of.RightBrace ∷ r))
 
+-- the fold of it
 unfoldable pub value_tokens : AnnotationValue → Spelled
 value_tokens value = fold-AnnotationValue Spelled value_told value
 
+-- a name and `=`, or nothing where a pair has no name
 abbrev pub named : Option Ident → Spelled
 named None r = r
 named (Some name) r = ident name ∷ sign sign_of.Assign ∷ r
@@ -69,6 +71,7 @@ named (Some name) r = ident name ∷ sign sign_of.Assign ∷ r
 abbrev pub pair_tokens : Pair → Spelled
 pair_tokens pair r = named pair.name (value_tokens pair.value r)
 
+-- pairs between parentheses, of which there may be none
 abbrev pub pairs_tokens : List Pair → Spelled
 pairs_tokens pairs r = sign sign_of.LeftParen ∷ commas (map pair_tokens pairs) (sign sign_of.RightParen ∷ r)
 
@@ -76,6 +79,7 @@ pairs_tokens pairs r = sign sign_of.LeftParen ∷ commas (map pair_tokens pairs)
 abbrev pub annotation_tokens : Annotation → Spelled
 annotation_tokens a r = sign_at sign_of.At a.at ∷ ident a.first ∷ names_after a.more (if_some pairs_tokens a.pairs r)
 
+-- the keyword of a modifier (JLS 8.1.1, 8.3.1, 8.4.3)
 abbrev pub modifier_key : ModifierWord → Key
 modifier_key word_of.Public = key_of.Public
 modifier_key word_of.Protected = key_of.Protected
@@ -87,6 +91,7 @@ modifier_key word_of.Native = key_of.Native
 modifier_key word_of.Volatile = key_of.Volatile
 modifier_key word_of.Transient = key_of.Transient
 
+-- an annotation or a keyword, and such modifiers in the order of the source
 abbrev pub modifier_tokens : Modifier → Spelled
 modifier_tokens (modifier_of.Annotation a) r = annotation_tokens a r
 modifier_tokens (modifier_of.Word at word) r = key_at (modifier_key word) at ∷ r
@@ -94,6 +99,7 @@ modifier_tokens (modifier_of.Word at word) r = key_at (modifier_key word) at ∷
 abbrev pub modifiers_tokens : List Modifier → Spelled
 modifiers_tokens modifiers r = each (map modifier_tokens modifiers) r
 
+-- the bounds of a type parameter behind `extends`, with `&` between them, or nothing where there are none (JLS 4.4)
 abbrev pub bounds_tokens : List ClassTree → Spelled
 bounds_tokens [] r = r
 bounds_tokens (c ∷ classes) r = key key_of.Extends ∷ class_tokens c (after_ands classes r)
@@ -115,6 +121,7 @@ abbrev pub formal_tokens : Formal → Spelled
 formal_tokens f r =
     modifiers_tokens f.modifiers (type_tokens f.ty (if_there f.variable_arity sign_of.Ellipsis (ident f.name ∷ brackets f.dims r)))
 
+-- `=` and an initialiser
 abbrev pub initialised : Init → Spelled
 initialised init r = sign sign_of.Assign ∷ init_tokens init r
 
@@ -126,10 +133,12 @@ var_tokens v r = ident v.name ∷ brackets v.dims (if_some initialised v.init r)
 abbrev pub local_tokens : LocalVars → Spelled
 local_tokens l r = modifiers_tokens l.modifiers (type_tokens l.ty (var_tokens l.first (after_commas (map var_tokens l.more) r)))
 
+-- "void" | Type
 abbrev pub result_tokens : ResultType → Spelled
 result_tokens (result_of.Void at) r = key_at key_of.Void at ∷ r
 result_tokens (result_of.Type ty) r = type_tokens ty r
 
+-- "extends" ClassT
 abbrev pub extended : ClassTree → Spelled
 extended class r = key key_of.Extends ∷ class_tokens class r
 
@@ -148,6 +157,7 @@ method_tokens m r =
     modifiers_tokens m.modifiers (if_some params_of_tokens m.params (if_some result_tokens m.result
     (ident m.name ∷ sign sign_of.LeftParen ∷ commas (map formal_tokens m.formals) (sign sign_of.RightParen ∷ keyed_list key_of.Throws (map class_tokens m.throws) r))))
 
+-- Mods Type Vars | [Effects]
 abbrev pub for_init_tokens : ForInit → Spelled
 for_init_tokens (init_of.Local vars) r = local_tokens vars r
 for_init_tokens (init_of.Effects effects) r = commas (map expr_tokens effects) r
@@ -163,10 +173,12 @@ for_tokens (for_of.Enhanced modifiers ty name dims iterable) r =
 abbrev pub resource_tokens : Resource → Spelled
 resource_tokens s r = modifiers_tokens s.modifiers (type_tokens s.ty (ident s.name ∷ sign sign_of.Assign ∷ expr_tokens s.value r))
 
+-- each behind `;`
 abbrev pub after_semicolons : List Resource → Spelled
 after_semicolons [] r = r
 after_semicolons (s ∷ resources) r = sign sign_of.Semicolon ∷ resource_tokens s (after_semicolons resources r)
 
+-- "(" Resource {";" Resource} [";"] ")" (JLS 14.20.3)
 abbrev pub resources_tokens : Resources → Spelled
 resources_tokens s r =
     sign sign_of.LeftParen ∷ resource_tokens s.first (after_semicolons s.more (if_there s.trailing sign_of.Semicolon (sign sign_of.RightParen ∷ r)))

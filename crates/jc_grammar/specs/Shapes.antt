@@ -22,9 +22,11 @@ use Rattle.jc_tree.specs.declared.expression.ArrayInit.{ArrayInit, ArrayInit-F, 
 use Rattle.jc_tree.specs.declared.expression.Skip.{Skip, Skip-F, fold-Skip}
 use Rattle.jc_tree.specs.declared.expression.SkipPart.{SkipPart, SkipPart-F, fold-SkipPart}
 
+-- levels are numbers, the smaller the looser; at this one any expression stands, assignments too (JLS 15.26)
 abbrev pub any_level : ℕ
 any_level = 0
 
+-- at this one any but an assignment (JLS 15.25)
 abbrev pub conditional_level : ℕ
 conditional_level = 1
 
@@ -50,6 +52,7 @@ binary_level binary_of.Times = 11
 binary_level binary_of.Divide = 11
 binary_level binary_of.Remainder = 11
 
+-- `instanceof` is of the level of `<` and `>` (JLS 15.20)
 abbrev pub instanceof_level : ℕ
 instanceof_level = 8
 
@@ -78,6 +81,7 @@ pub record Shape : Type 0 where
   pub sized : Bool
   pub effect : Bool
 
+-- the shape of what is neither a chain of prefix operators nor an array creation with lengths
 abbrev pub plainly : ℕ → Bool → Bool → Shape
 plainly level good effect = record { level = level; good = good; prefix = false; sized = false; effect = effect }
 
@@ -85,6 +89,7 @@ plainly level good effect = record { level = level; good = good; prefix = false;
 abbrev pub stands : ℕ → Shape → Bool
 stands level shape = shape.good && nat_le level shape.level
 
+-- all of them may; where there are none, that holds
 abbrev pub all_stand : ℕ → List Shape → Bool
 all_stand level shapes = list_all (stands level) shapes
 
@@ -96,6 +101,7 @@ pub record OperandShape : Type 0 where
   pub bare : Bool
   pub less : Bool
 
+-- what stands behind `new`: whether its parts stand where they may, whether it is an array with lengths, and whether it is an object
 pub record CreationShape : Type 0 where
   pub good : Bool
   pub sized : Bool
@@ -110,6 +116,7 @@ abbrev pub longest_types : OperandShape → List OperandShape → Bool
 longest_types operand [] = true
 longest_types operand (next ∷ rest) = not (operand.bare && next.less) && longest_types next rest
 
+-- a chain: all operators are of the level of the first one, and the first expression is tighter than they; without operators it is bad
 abbrev pub chain_shape : Shape → List OperandShape → Shape
 chain_shape first [] = plainly any_level false false
 chain_shape first (operand ∷ rest) =
@@ -121,11 +128,13 @@ prefix_level prefix_of.Not = plain_level
 prefix_level prefix_of.Complement = plain_level
 prefix_level _ = unary_level
 
+-- `++` and `--`, with which an expression may be a statement (JLS 14.8)
 abbrev pub changes : PrefixSign → Bool
 changes prefix_of.Increment = true
 changes prefix_of.Decrement = true
 changes _ = false
 
+-- a primitive type, where brackets behind it are left aside
 abbrev pub is_primitive_base : BaseTree-F BaseTree TypeArg ClassTree TypePart TypeTree → Bool
 is_primitive_base (BaseTree-F.Primitive at word) = true
 is_primitive_base (BaseTree-F.Class class) = false
@@ -134,10 +143,12 @@ is_primitive_base (BaseTree-F.Class class) = false
 abbrev pub is_primitive : TypeTree → Bool
 is_primitive ty = is_primitive_base (out-BaseTree (out-TypeTree ty).base) && ((out-TypeTree ty).dims == 0)
 
+-- the list has no elements
 abbrev pub is_none : {X : Type 0} → List X → Bool
 is_none [] = true
 is_none (x ∷ xs) = false
 
+-- the last one of a first part and those behind it
 abbrev pub last_of : TypePart → List TypePart → TypePart
 last_of first [] = first
 last_of first (part ∷ more) = last_of part more
@@ -146,6 +157,7 @@ last_of first (part ∷ more) = last_of part more
 abbrev pub ends_bare : ClassTree → Bool
 ends_bare class = is_none (out-TypePart (last_of (out-ClassTree class).first (out-ClassTree class).more)).args
 
+-- a class type without arguments at its end, where brackets behind it are left aside
 abbrev pub base_takes_args : BaseTree-F BaseTree TypeArg ClassTree TypePart TypeTree → Bool
 base_takes_args (BaseTree-F.Primitive at word) = false
 base_takes_args (BaseTree-F.Class class) = ends_bare class
@@ -154,9 +166,11 @@ base_takes_args (BaseTree-F.Class class) = ends_bare class
 abbrev pub takes_args : TypeTree → Bool
 takes_args ty = base_takes_args (out-BaseTree (out-TypeTree ty).base) && ((out-TypeTree ty).dims == 0)
 
+-- no arguments stand behind this part of a class type
 abbrev pub part_is_bare : TypePart → Bool
 part_is_bare part = is_none (out-TypePart part).args
 
+-- no arguments stand behind any part; a primitive type has none
 abbrev pub base_is_bare : BaseTree-F BaseTree TypeArg ClassTree TypePart TypeTree → Bool
 base_is_bare (BaseTree-F.Primitive at word) = true
 base_is_bare (BaseTree-F.Class class) = part_is_bare (out-ClassTree class).first && list_all part_is_bare (out-ClassTree class).more
@@ -165,10 +179,12 @@ base_is_bare (BaseTree-F.Class class) = part_is_bare (out-ClassTree class).first
 abbrev pub is_bare : TypeTree → Bool
 is_bare ty = base_is_bare (out-BaseTree (out-TypeTree ty).base)
 
+-- the sign `<`, which could begin arguments; `<=` and `<<` are tokens of their own
 abbrev pub is_less : BinaryOp → Bool
 is_less binary_of.Less = true
 is_less _ = false
 
+-- the signs `{` and `}`, and tokens that are one of them
 abbrev pub is_brace_sign : Sign → Bool
 is_brace_sign sign_of.LeftBrace = true
 is_brace_sign sign_of.RightBrace = true
@@ -178,13 +194,16 @@ abbrev pub is_brace : TokenKind → Bool
 is_brace (kind_of.Sign s) = is_brace_sign s
 is_brace _ = false
 
+-- a token of a skipped body is no brace; a body in it has its own pair
 abbrev pub skip_part_step : SkipPart-F Bool Bool → Bool
 skip_part_step (SkipPart-F.Inner skip) = skip
 skip_part_step (SkipPart-F.Token kind) = not (is_brace kind)
 
+-- each of them is true; where there are none, that holds
 abbrev pub all_true : List Bool → Bool
 all_true goods = list_all (λ (good : Bool). good) goods
 
+-- a skipped body is good where its parts are
 abbrev pub skip_step : Skip-F Bool Bool → Bool
 skip_step skip = all_true skip.parts
 
@@ -192,6 +211,7 @@ skip_step skip = all_true skip.parts
 unfoldable pub is_skip : Skip → Bool
 is_skip skip = fold-Skip Bool Bool skip_part_step skip_step skip
 
+-- the same of a part of it
 unfoldable pub is_skip_part : SkipPart → Bool
 is_skip_part part = fold-SkipPart Bool Bool skip_part_step skip_step part
 
@@ -203,14 +223,17 @@ creation_shape_step (Creation-F.Sized element first more dims) =
     record { good = stands any_level first && all_stand any_level more; sized = true; object = false }
 creation_shape_step (Creation-F.Initialised element dims init) = record { good = init; sized = false; object = false }
 
+-- what stands behind an operator is tighter than it; behind `instanceof` any type is good
 abbrev pub operand_shape_step : Operand-F CreationShape Shape Bool OperandShape Bool → OperandShape
 operand_shape_step (Operand-F.Binary op right) = record { level = binary_level op; good = stands (binary_level op + 1) right; bare = false; less = is_less op }
 operand_shape_step (Operand-F.InstanceOf ty) = record { level = instanceof_level; good = true; bare = takes_args ty; less = false }
 
+-- an initialiser is any expression, or a list in braces
 abbrev pub init_step : Init-F CreationShape Shape Bool OperandShape Bool → Bool
 init_step (Init-F.Value expr) = stands any_level expr
 init_step (Init-F.Nested array) = array
 
+-- a list in braces is good where its initialisers are (JLS 10.6)
 abbrev pub array_step : ArrayInit-F CreationShape Shape Bool OperandShape Bool → Bool
 array_step array = all_true array.inits
 
@@ -242,6 +265,7 @@ expr_shape_step (Expr-F.ClassLiteral ty) = plainly prime_level (is_bare ty) fals
 expr_shape_step (Expr-F.VoidLiteral at) = plainly prime_level true false
 expr_shape_step (Expr-F.OuterThis first more) = plainly prime_level true false
 
+-- the shape of an expression, as the fold of these steps
 unfoldable pub expr_shape : Expr → Shape
 expr_shape expr = fold-Expr CreationShape Shape Bool OperandShape Bool creation_shape_step expr_shape_step init_step operand_shape_step array_step expr
 

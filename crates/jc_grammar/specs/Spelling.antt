@@ -16,14 +16,17 @@ use Rattle.jc_grammar.specs.Statements.{file_tokens}
 use Rattle.jc_grammar.specs.Units.{is_file}
 use Rattle.jc_tree.specs.declared.statement.SourceFile.{SourceFile}
 
+-- the sign `>`; `>=`, `>>` and the longer operators that begin with it are runs of tokens that touch
 abbrev pub is_greater_sign : Sign → Bool
 is_greater_sign sign_of.Greater = true
 is_greater_sign _ = false
 
+-- the token is that sign
 abbrev pub is_greater : TokenKind → Bool
 is_greater (Signed s) = is_greater_sign s
 is_greater _ = false
 
+-- the offset `from` of a token is the one that is told; where none is told, any
 abbrev pub StandsAt : Option ℕ → ℕ → Type 0
 StandsAt None from = Unit {0}
 StandsAt (Some at) from = from ≡ at
@@ -50,6 +53,7 @@ SpellsType height tokens ty rest =
 abbrev pub BeginsType : ℕ → List Token → Type 0
 BeginsType height tokens = (ty : TypeTree) × (more : List Token) × SpellsType height (tokens ++ more) ty []
 
+-- none does, whatever tokens follow
 abbrev pub NoTypeBegins : ℕ → List Token → Type 0
 NoTypeBegins height tokens = (ty : TypeTree) (more : List Token) → SpellsType height (tokens ++ more) ty [] → ⊥
 
@@ -58,9 +62,11 @@ abbrev pub SpellsExpr : ℕ → List Token → Expr → List Token → Type 0
 SpellsExpr height tokens expr rest =
     (expr_height expr ≤ height) × (is_expr expr ≡ true) × (front : List Token) × (tokens ≡ front ++ rest) × AreTold false (expr_tokens expr []) front
 
+-- some expression of at most this height begins with the tokens
 abbrev pub BeginsExpr : ℕ → List Token → Type 0
 BeginsExpr height tokens = (expr : Expr) × (more : List Token) × SpellsExpr height (tokens ++ more) expr []
 
+-- none does, whatever tokens follow
 abbrev pub NoExprBegins : ℕ → List Token → Type 0
 NoExprBegins height tokens = (expr : Expr) (more : List Token) → SpellsExpr height (tokens ++ more) expr [] → ⊥
 
@@ -68,8 +74,10 @@ NoExprBegins height tokens = (expr : Expr) (more : List Token) → SpellsExpr he
 abbrev pub SpellsFile : ℕ → List Token → SourceFile → Type 0
 SpellsFile height tokens file = (source_height file ≤ height) × (is_file file ≡ true) × AreTold false (file_tokens file []) tokens
 
+-- some source file of at most this height begins with the tokens
 abbrev pub BeginsFile : ℕ → List Token → Type 0
 BeginsFile height tokens = (file : SourceFile) × (more : List Token) × SpellsFile height (tokens ++ more) file
 
+-- none does, whatever tokens follow
 abbrev pub NoFileBegins : ℕ → List Token → Type 0
 NoFileBegins height tokens = (file : SourceFile) (more : List Token) → SpellsFile height (tokens ++ more) file → ⊥

@@ -24,6 +24,7 @@ use Rattle.jc_grammar.specs.Parts.{if_some, modifiers_tokens, local_tokens, head
 abbrev pub braced : List Spelled → Spelled
 braced items r = sign sign_of.LeftBrace ∷ each items (sign sign_of.RightBrace ∷ r)
 
+-- the same where the tree has the offset of the first brace
 abbrev pub braced_at : ℕ → List Spelled → Spelled
 braced_at at items r = sign_at sign_of.LeftBrace at ∷ each items (sign sign_of.RightBrace ∷ r)
 
@@ -40,9 +41,11 @@ clause_with (clause_of.Catch modifiers first more name) at items r =
     key_at key_of.Catch at ∷ sign sign_of.LeftParen ∷ modifiers_tokens modifiers (class_tokens first (after_bars more (ident name ∷ sign sign_of.RightParen ∷ braced items r)))
 clause_with clause_of.Finally at items r = key_at key_of.Finally at ∷ braced items r
 
+-- the same of a node, as the step of the fold
 abbrev pub clause_told : Clause-F Spelled Spelled Spelled Spelled → Spelled
 clause_told clause r = clause_with clause.head clause.at clause.items r
 
+-- a head, and the members between braces
 abbrev pub declaration_told : Declaration-F Spelled Spelled Spelled Spelled → Spelled
 declaration_told declaration r = head_tokens declaration.head (braced declaration.members r)
 
@@ -61,10 +64,12 @@ abbrev pub after_elses : List Spelled → Spelled
 after_elses [] r = r
 after_elses (s ∷ arms) r = key key_of.Else ∷ s (after_elses arms r)
 
+-- the parts of an `if`, the first one without `else`
 abbrev pub arms_tokens : List Spelled → Spelled
 arms_tokens [] r = r
 arms_tokens (s ∷ arms) r = s (after_elses arms r)
 
+-- a label, or nothing where a `break` or `continue` has none (JLS 14.15, 14.16)
 abbrev pub labeled : Option Ident → Spelled
 labeled None r = r
 labeled (Some label) r = ident label ∷ r
@@ -90,6 +95,7 @@ stmt_told (Stmt-F.Try at resources items clauses) r = key_at key_of.Try at ∷ i
 stmt_told (Stmt-F.ThisCall at args) r = key_at key_of.This at ∷ actuals (map expr_tokens args) (sign sign_of.Semicolon ∷ r)
 stmt_told (Stmt-F.SuperCall at args) r = key_at key_of.Super at ∷ actuals (map expr_tokens args) (sign sign_of.Semicolon ∷ r)
 
+-- the tokens of a statement, a member, a clause or a declaration, and then others
 unfoldable pub stmt_tokens : Stmt → Spelled
 stmt_tokens stmt = fold-Stmt Spelled Spelled Spelled Spelled member_told stmt_told clause_told declaration_told stmt
 
@@ -106,10 +112,12 @@ declaration_tokens declaration = fold-Declaration Spelled Spelled Spelled Spelle
 abbrev pub package_tokens : Package → Spelled
 package_tokens p r = key_at key_of.Package p.at ∷ ident p.first ∷ names_after p.more (sign sign_of.Semicolon ∷ r)
 
+-- `static`, or nothing where an import is not of static members
 abbrev pub static_tokens : Bool → Spelled
 static_tokens true r = key key_of.Static ∷ r
 static_tokens false r = r
 
+-- `.` `*`, or nothing where an import names one type or member
 abbrev pub on_demand_tokens : Bool → Spelled
 on_demand_tokens true r = sign sign_of.Dot ∷ sign sign_of.Star ∷ r
 on_demand_tokens false r = r
@@ -119,6 +127,7 @@ abbrev pub import_tokens : Import → Spelled
 import_tokens i r =
     key_at key_of.Import i.at ∷ static_tokens i.is_static (ident i.first ∷ names_after i.more (on_demand_tokens i.on_demand (sign sign_of.Semicolon ∷ r)))
 
+-- Decl | ";"
 abbrev pub top_tokens : TopLevel → Spelled
 top_tokens (top_of.Declaration declaration) r = declaration_tokens declaration r
 top_tokens (top_of.Semicolon at) r = sign_at sign_of.Semicolon at ∷ r

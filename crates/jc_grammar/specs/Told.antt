@@ -14,9 +14,11 @@ pub record Told : Type 0 where
   pub joins : Bool
   pub apart : Bool
 
+-- a token that need touch no other, and may
 abbrev pub told : TokenKind → Option ℕ → Told
 told kind at = record { kind = kind; at = at; joins = false; apart = false }
 
+-- a sign, a keyword or an identifier; those with `_at`, and the identifier, have an offset that the tree tells
 abbrev pub sign : Sign → Told
 sign s = told (Signed s) None
 
@@ -41,6 +43,7 @@ abbrev pub each : List Spelled → Spelled
 each [] r = r
 each (s ∷ spelled) r = s (each spelled r)
 
+-- each behind a comma
 abbrev pub after_commas : List Spelled → Spelled
 after_commas [] r = r
 after_commas (s ∷ spelled) r = sign Comma ∷ s (after_commas spelled r)
@@ -54,10 +57,12 @@ commas (s ∷ spelled) r = s (after_commas spelled r)
 abbrev pub actuals : List Spelled → Spelled
 actuals spelled r = sign LeftParen ∷ commas spelled (sign RightParen ∷ r)
 
+-- each behind a dot
 abbrev pub after_dots : List Spelled → Spelled
 after_dots [] r = r
 after_dots (s ∷ spelled) r = sign Dot ∷ s (after_dots spelled r)
 
+-- identifiers, each behind a dot
 abbrev pub names_after : List Ident → Spelled
 names_after [] r = r
 names_after (i ∷ names) r = sign Dot ∷ ident i ∷ names_after names r

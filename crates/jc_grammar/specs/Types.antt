@@ -13,6 +13,7 @@ use Rattle.jc_tree.specs.declared.types.PrimitiveWord.{PrimitiveWord}
 use Rattle.jc_tree.specs.declared.types.PrimitiveWord.TheVariants as word_of
 use Rattle.jc_grammar.specs.Told.{Spelled, sign, sign_at, key, key_at, ident, commas, after_dots, brackets}
 
+-- the keyword of a primitive type (JLS 4.2)
 abbrev pub primitive_key : PrimitiveWord → Key
 primitive_key word_of.Boolean = key_of.Boolean
 primitive_key word_of.Byte = key_of.Byte
@@ -26,6 +27,7 @@ abbrev pub angled : List Spelled → Spelled
 angled [] r = r
 angled (s ∷ spelled) r = sign Less ∷ commas (s ∷ spelled) (sign Greater ∷ r)
 
+-- the tokens of a node of a type, by those of its parts: a base, an argument, a class type, a part of it, and a type with its brackets
 abbrev pub base_told : BaseTree-F Spelled Spelled Spelled Spelled Spelled → Spelled
 base_told (BaseTree-F.Primitive at word) r = key_at (primitive_key word) at ∷ r
 base_told (BaseTree-F.Class class) r = class r
@@ -49,6 +51,7 @@ type_told ty r = ty.base (brackets ty.dims r)
 unfoldable pub type_tokens : TypeTree → Spelled
 type_tokens ty = fold-TypeTree Spelled Spelled Spelled Spelled Spelled base_told arg_told class_told part_told type_told ty
 
+-- the same of what stands in a type
 unfoldable pub base_tokens : BaseTree → Spelled
 base_tokens base = fold-BaseTree Spelled Spelled Spelled Spelled Spelled base_told arg_told class_told part_told type_told base
 

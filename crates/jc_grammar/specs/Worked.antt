@@ -38,9 +38,11 @@ use Rattle.jc_grammar.specs.Spelling.{AreTold}
 abbrev pub letter : ℕ → ℕ → Ident
 letter code at = record { at = at; text = code ∷ [] }
 
+-- an expression that is a name of one letter, by the code of the letter and the offset
 abbrev pub name : ℕ → ℕ → Expr
 name code at = an.Name (letter code at)
 
+-- a chain of one operator
 abbrev pub binary : Expr → BinaryOp → Expr → Expr
 binary left op right = an.Chain left (anOperand.Binary op right ∷ [])
 
@@ -51,6 +53,7 @@ named code at args =
     let class : ClassTree = roll-ClassTree (record { first = part; more = [] }) in
     roll-TypeTree (record { base = aBase.Class class; dims = 0 })
 
+-- `int` at an offset
 abbrev pub int_at : ℕ → TypeTree
 int_at at = roll-TypeTree (record { base = aBase.Primitive at word_of.Int; dims = 0 })
 
@@ -82,6 +85,7 @@ indexed_creation = an.Index (an.New 0 (aCreation.Sized (aBase.Primitive 4 word_o
 abbrev pub indexed_inner : Expr
 indexed_inner = an.Index (an.InnerNew (name 97 0) (aCreation.Sized (aBase.Primitive 6 word_of.Int) (name 110 10) [] 0)) (name 48 13)
 
+-- a part of an `if` at an offset, whose test is the name of one letter, four further on
 abbrev pub arm : ℕ → ℕ → List Stmt → Clause
 arm at code items = roll-Clause (record { at = at; head = clause_of.If (name code (at + 4)); items = items })
 
@@ -96,6 +100,7 @@ inner_else = a.If (arm 0 97 (a.If (arm 7 98 (a.Empty 14 ∷ []) ∷ []) (a.Empty
 abbrev pub outer_else : Stmt
 outer_else = a.If (arm 0 97 (a.If (arm 7 98 (a.Empty 14 ∷ []) ∷ []) [] ∷ []) ∷ []) (a.Empty 21 ∷ [])
 
+-- a token of one unit: its offset, and whether the next token touches it
 abbrev pub word_token : ℕ → ℕ → Bool → Token
 word_token code from touches = record { kind = kind_of.Word (code ∷ []); from = from; to = from + 1; touches = touches }
 
@@ -115,6 +120,7 @@ lists_source =
     word_token 76 0 true ∷ sign_token sign_of.Less 1 true ∷ word_token 76 2 true ∷ sign_token sign_of.Less 3 true ∷ word_token 83 4 true
     ∷ sign_token sign_of.Greater 5 true ∷ sign_token sign_of.Greater 6 false ∷ []
 
+-- what comes out for these trees
 pub record WorkedTrees : Type 0 where
   -- `*` is tighter than `+`
   pub sum_tokens : expr_tokens sum [] ≡ ident (letter 97 0) ∷ sign sign_of.Plus ∷ ident (letter 98 4) ∷ sign sign_of.Star ∷ ident (letter 99 8) ∷ []

@@ -22,6 +22,7 @@ first_of (c ∷ round) = Some c
 abbrev pub in_class : ClassHead → Option ℕ
 in_class c = first_of c.round
 
+-- the unit of a type that no class is round; None for a member type
 abbrev pub unless_inside : List ℕ → ℕ → Option ℕ
 unless_inside [] unit = Some unit
 unless_inside (c ∷ round) unit = None
@@ -29,12 +30,14 @@ unless_inside (c ∷ round) unit = None
 abbrev pub in_unit : ClassHead → Option ℕ
 in_unit c = unless_inside c.round c.unit
 
+-- the class of a method, and of a field
 abbrev pub of_class : MethodPlace → Option ℕ
 of_class m = Some m.class
 
 abbrev pub field_of_class : FieldHead → Option ℕ
 field_of_class f = Some f.class
 
+-- the class, or the method, that type parameters belong to; None where the owner is of the other kind
 abbrev pub owning_class : Owner → Option ℕ
 owning_class (owner.Class c) = Some c.0
 owning_class (owner.Method m) = None
@@ -43,6 +46,7 @@ abbrev pub owning_method : Owner → Option ℕ
 owning_method (owner.Class c) = None
 owning_method (owner.Method m) = Some m.0
 
+-- the class, or the method, that declares a type parameter
 abbrev pub variable_of_class : VariableHead → Option ℕ
 variable_of_class v = owning_class v.owner
 

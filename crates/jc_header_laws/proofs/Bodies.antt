@@ -10,11 +10,10 @@ use Rattle.jc_types.specs.declared.form.Ty.{Ty}
 use Rattle.jc_types.specs.declared.ids.ClassId.{ClassId}
 use Rattle.jc_types.specs.declared.ids.MethodId.{MethodId}
 use Rattle.jc_types.specs.declared.table.Table.{Table}
-use Rattle.jc_types.specs.Accessors.{method_owner_of}
 use Rattle.jc_overriding.specs.declared.view.MethodView.{MethodView}
 use Rattle.jc_overriding.specs.Overriding.{candidates_from, inherits_in, is_candidate, is_inheritable, is_instance, is_member_of, is_method, is_own, owner, replaced, same_class, stands_for, subsignature_of, with_view, without_replaced, is_abstract}
 use Rattle.jc_overriding.specs.Signatures.{override_equivalent, subsignature}
-use Rattle.jc_overriding.specs.Viewing.{Seeing, With, Raised, class_view, declared_view, is_static, own_type, seeing_of, view_of_method, view_of_owner, viewed_by, viewed_in}
+use Rattle.jc_overriding.specs.Viewing.{Seeing, With, Raised, class_view, declared_view, is_static, own_type, seeing_of, viewed_by, viewed_in}
 use Rattle.jc_judge.specs.Kinds.{class_of}
 use Rattle.jc_header_rules.specs.Checked.{IsAmong}
 use Rattle.jc_header_rules.specs.Clashes.{all_methods, headers_breaks}
@@ -26,6 +25,7 @@ use Rattle.jc_header_laws.proofs.Fitting.{conflicting, disagreeing, generic, lef
 use Rattle.jc_header_laws.proofs.Lists.{each_unbroken, fore, none_is, not_broken, rear}
 use Rattle.jc_header_laws.proofs.Owned.{declared_here}
 use Rattle.jc_header_laws.proofs.Standing.{equivalent, no_bounds}
+use Rattle.jc_members.proofs.Remaining.{id_of_view as id_of}
 
 -- ---- tests
 
@@ -101,22 +101,6 @@ among_either x (y ∷ xs) ys (inr h) = by (among_either x xs ys h)
     by : IsAmong x xs ⊎ IsAmong x ys → IsAmong x (y ∷ xs) ⊎ IsAmong x ys
     by (inl h) = inl (inr h)
     by (inr h) = inr h
-
-id_by : (T : Table) (m : MethodId) (b : Bool) (s : Seeing) → (viewed_by T m b s).id ≡ m
-id_by T m true s = refl
-id_by T m false (With vars by) = refl
-id_by T m false Raised = refl
-
-id_of : (T : Table) (t : Ty) (m : MethodId) (v : MethodView) → view_of_method T t m ≡ Some v → v.id ≡ m
-id_of T t m v e = by (view_of_owner T t (method_owner_of T m)) e
-  where
-    id_or : MethodView → Option MethodView → MethodId
-    id_or w None = w.id
-    id_or w (Some v) = v.id
-
-    by : (o : Option Ty) → viewed_in T m o ≡ Some v → v.id ≡ m
-    by None e = cc
-    by (Some u) e = sym (ap (id_or v) e) ∙ id_by T m (is_static T m) (seeing_of T u)
 
 module _ (T : Table) (k : ClassId) where
   -- a method as the class has it

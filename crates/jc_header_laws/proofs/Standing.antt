@@ -12,25 +12,14 @@ use Rattle.jc_types.specs.declared.ids.MethodId.{MethodId}
 use Rattle.jc_types.specs.declared.ids.VarId.{VarId}
 use Rattle.jc_types.specs.declared.table.Table.{Table}
 use Rattle.jc_types.specs.Accessors.{method_name_of, method_owner_of}
-use Rattle.jc_types.specs.Sameness.{same}
-use Rattle.jc_types.proofs.Sameness.{same_self, same_told}
 use Rattle.jc_types.specs.Substitution.{subst as put, subst_step}
 use Rattle.jc_overriding.specs.declared.view.MethodView.{MethodView}
 use Rattle.jc_overriding.specs.Signatures.{adapted, erased_in, first_bound, is_erasure, leftmost, leftmost_at, override_equivalent, same_all, same_lists, same_signature, subsignature, variables}
 use Rattle.jc_overriding.specs.Viewing.{Seeing, With, Raised, bounds_with, class_view, is_static, own_type, plain, seeing_of, view_of_owner, viewed_by, viewed_in}
 use Rattle.jc_header_laws.proofs.Settled.{all_twice, plain_of_settled, plain_over, plain_settled}
+use Rattle.jc_clashes.proofs.Lists.{all_same, self_same}
 
 -- ---- lists of types
-
-all_same : (xs ys : List Ty) → same_all xs ys ≡ true → xs ≡ ys
-all_same [] [] e = refl
-all_same [] (y ∷ ys) e = cc
-all_same (x ∷ xs) [] e = cc
-all_same (x ∷ xs) (y ∷ ys) e = let both = and_parts (same x y) (same_all xs ys) e in ap (λ z. z ∷ xs) (same_told x y both.0) ∙ ap (λ zs. y ∷ zs) (all_same xs ys both.1)
-
-self_same : (xs : List Ty) → same_all xs xs ≡ true
-self_same [] = refl
-self_same (x ∷ xs) = and_from (same x x) (same_all xs xs) (same_self x) (self_same xs)
 
 all_along : (f g : Ty → Ty) → ((t : Ty) → f t ≡ g t) → (ts : List Ty) → map f ts ≡ map g ts
 all_along f g h [] = refl

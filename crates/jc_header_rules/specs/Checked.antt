@@ -14,12 +14,13 @@ use Rattle.jc_judge.specs.Supers.{IsIn}
 use Rattle.jc_judge_laws.specs.Hierarchy.{IsHierarchy}
 use Rattle.jc_header_rules.specs.Inheriting.{all_above}
 
+-- x is one of these
 abbrev pub IsAmong : {X : Type 0} → X → List X → Type 0
 IsAmong x [] = ⊥
 IsAmong x (y ∷ ys) = (x ≡ y) ⊎ IsAmong x ys
 
--- only type variables of V occur in a type, and no captured one
 mutual
+  -- only type variables of V occur in a type, and no captured one
   pub data IsOver (V : VarId → Type 0) : Ty → Type 0 where
     over_primitive : {t : Ty} {p : Primitive} → out-Ty t ≡ Ty-F.Prim p → IsOver V t
     over_class : {t : Ty} {id : ClassId} {args : List Arg} → out-Ty t ≡ Ty-F.Class id args → AreArgsOver V args → IsOver V t
@@ -29,10 +30,12 @@ mutual
     over_meet : {t : Ty} {parts : List Ty} → out-Ty t ≡ Ty-F.Meet parts → AreOver V parts → IsOver V t
     over_null : {t : Ty} → out-Ty t ≡ Ty-F.NullTy → IsOver V t
 
+  -- the same of each of these types
   pub data AreOver (V : VarId → Type 0) : List Ty → Type 0 where
     none : AreOver V []
     more : {t : Ty} {ts : List Ty} → IsOver V t → AreOver V ts → AreOver V (t ∷ ts)
 
+  -- the same of the types in these arguments
   pub data AreArgsOver (V : VarId → Type 0) : List Arg → Type 0 where
     no_args : AreArgsOver V []
     exact : {a : Arg} {t : Ty} {args : List Arg} → out-Arg a ≡ Arg-F.Exact t → IsOver V t → AreArgsOver V args → AreArgsOver V (a ∷ args)

@@ -38,9 +38,11 @@ reaches T m p = reaches_within T (length T.methods) m p
 
 -- ---- the erasures of a method's parameters, and of those that it overrides or hides (JLS 4.6, 8.4.8.3)
 
+-- the erasures of a method's parameters as it is declared, in their order
 abbrev pub erased_params : Table → MethodId → List Ty
 erased_params T m = map (plain T) (params_of T m)
 
+-- one of these methods, counted from j, that n reaches has the erased parameters of m
 abbrev pub share_erasure : Table → MethodId → MethodId → ℕ → List MethodDecl → Bool
 share_erasure T m n j [] = false
 share_erasure T m n j (d ∷ ds) =
@@ -58,10 +60,11 @@ erasures_meet T m n i (d ∷ ds) =
 abbrev pub all_methods : Table → ClassId → List MethodView
 all_methods T k = candidates T (λ m. true) (own_type T k)
 
+-- method m is one of these
 abbrev pub is_among : MethodId → List MethodView → Bool
 is_among m vs = list_any (λ (v : MethodView). v.id.0 == m.0) vs
 
--- Of two inherited members w stands in v's place: its signature is a subsignature of v's, where v has no body or w has one.
+-- of two inherited members w stands in v's place: its signature is a subsignature of v's, where v has no body or w has one
 abbrev pub is_settled : Table → ClassId → List MethodView → MethodView → MethodView → Bool
 is_settled T k members v w =
     not (same_class (owner T v.id) k) && is_among w.id members && subsignature T w v && (not (with_body T v) || with_body T w)
@@ -72,11 +75,12 @@ clashes T k members v w =
     not (v.id.0 == w.id.0) && bytes_eq (method_name_of T v.id) (method_name_of T w.id) && not (subsignature T v w) && not (is_settled T k members v w)
     && erasures_meet T v.id w.id 0 T.methods
 
--- of two that the class declares the later one, of one that it declares that, and else the class
+-- the second place, or the first where there is none
 abbrev pub place_or : Place → Option Place → Place
 place_or place None = place
 place_or place (Some p) = p
 
+-- the place at which class k's clash of m and n is told; `place` is that of the class
 abbrev pub clash_place : Table → ClassId → Place → MethodId → MethodId → Place
 clash_place T k place m n = by (same_class (owner T m) k) (same_class (owner T n) k)
   where
@@ -90,15 +94,18 @@ clash_place T k place m n = by (same_class (owner T m) k) (same_class (owner T n
     by false true = place_or place (method_place_of T n)
     by false false = place
 
+-- a broken rule for each of these methods that member v clashes with
 abbrev pub pairs_broken : Table → ClassId → Place → List MethodView → MethodView → List MethodView → List Refusal
 pairs_broken T k place members v [] = []
 pairs_broken T k place members v (w ∷ ws) =
     broken_if (clashes T k members v w) 801 (clash_place T k place v.id w.id) ++ pairs_broken T k place members v ws
 
+-- .. for each of these members, beside all methods that the class has
 abbrev pub members_broken : Table → ClassId → Place → List MethodView → List MethodView → List MethodView → List Refusal
 members_broken T k place all members [] = []
 members_broken T k place all members (v ∷ vs) = pairs_broken T k place members v all ++ members_broken T k place all members vs
 
+-- the clashes in class i: its members beside all that it declares or may inherit
 abbrev pub clashes_in : Table → ℕ → ClassDecl → List Refusal
 clashes_in T i c =
     let k : ClassId = record { 0 = i } in

@@ -22,17 +22,21 @@ use Rattle.jc_header_rules.specs.Results.{is_throwable, result_answer, thrown_cl
 
 -- ---- 503: two methods, or two constructors, of one class whose signatures are override-equivalent (JLS 8.4.2, 8.8.2)
 
+-- n stands before m in the table, and both are of one class
 abbrev pub is_before : Table → MethodId → MethodId → Bool
 is_before T n m = nat_lt n.0 m.0 && same_class (owner T n) (owner T m)
 
+-- both are methods, or neither is one
 abbrev pub is_same_sort : Table → MethodId → MethodId → Bool
 is_same_sort T n m = (is_method T n && is_method T m) || (not (is_method T n) && not (is_method T m))
 
+-- an earlier n of m's class and sort has a signature that is override-equivalent to m's, as both are declared
 abbrev pub repeats : Table → MethodId → MethodId → Bool
 repeats T m n = is_before T n m && is_same_sort T n m && override_equivalent T (declared_view T m) (declared_view T n)
 
 -- ---- what overriding and hiding ask (JLS 8.4.3.3, 8.4.8.1 to 8.4.8.3)
 
+-- the modifiers of a method have `final`; a method that the table doesn't have isn't final
 abbrev pub final_in : Option Modifiers → Bool
 final_in (Some m) = m.is_final
 final_in None = false
@@ -40,9 +44,11 @@ final_in None = false
 abbrev pub is_final : Table → MethodId → Bool
 is_final T m = final_in (method_modifiers_of T m)
 
+-- m overrides or hides n
 abbrev pub replaces : Table → MethodId → MethodId → Bool
 replaces T m n = overrides T m n || hides T m n
 
+-- exactly one of the two is true
 abbrev pub differ : Bool → Bool → Bool
 differ true b = not b
 differ false b = b
@@ -53,6 +59,7 @@ statics_meet T m n =
     is_method T m && is_method T n && differ (is_static T m) (is_static T n) && is_above T (owner T m) (owner T n) && is_inheritable T (owner T m) n
     && subsignature_of T (class_view T (owner T m) m) (class_view T (owner T m) n)
 
+-- how much access is given, least by private (JLS 8.4.8.3)
 abbrev pub openness : Access → ℕ
 openness access.Public = 3
 openness access.Protected = 2
@@ -62,14 +69,16 @@ openness access.Private = 0
 abbrev pub is_weaker : Access → Access → Bool
 is_weaker a b = nat_lt (openness a) (openness b)
 
--- a method as the class of m has it
+-- whether the result of the first method may stand for that of the second, as views have them; Yes where a view is missing
 abbrev pub answer_of_views : Table → Option MethodView → Option MethodView → Answer
 answer_of_views T (Some a) (Some b) = result_answer T a b
 answer_of_views T _ _ = Yes
 
+-- whether m's result may stand for n's (JLS 8.4.5), as the class of m has both
 abbrev pub result_answer_of : Table → MethodId → MethodId → Answer
 result_answer_of T m n = answer_of_views T (class_view T (owner T m) m) (class_view T (owner T m) n)
 
+-- m throws a checked exception that n's clause doesn't allow (JLS 8.4.8.3), as the class of m has both
 abbrev pub views_throw : Table → Option MethodView → Option MethodView → Bool
 views_throw T (Some a) (Some b) = not (thrown_fits T a b)
 views_throw T _ _ = false
@@ -83,6 +92,7 @@ result_broken Yes place = []
 result_broken No place = broken_if true 507 place
 result_broken Deep place = broken_if true 512 place
 
+-- where m overrides or hides n: a final n breaks 504, weaker access 506, the result 507 or 512, thrown types 508
 abbrev pub replacing_broken : Table → MethodId → MethodId → Place → Bool → List Refusal
 replacing_broken T m n place false = []
 replacing_broken T m n place true =
@@ -97,25 +107,30 @@ pair_broken T m place j d =
 
 -- ---- 510: `@Override` at a method that overrides none
 
+-- m overrides one of these methods, counted from j
 abbrev pub overrides_some : Table → MethodId → ℕ → List MethodDecl → Bool
 overrides_some T m j [] = false
 overrides_some T m j (d ∷ ds) = overrides T m (record { 0 = j }) || overrides_some T m (j + 1) ds
 
+-- a method says `@Override` and overrides none of the table
 abbrev pub says_wrongly : Table → MethodId → MethodDecl → Bool
 says_wrongly T m d = d.modifiers.says_override && not (overrides_some T m 0 T.methods)
 
 -- ---- 513: a thrown type that is no Throwable (JLS 8.4.6)
 
+-- by the class of the thrown type's erasure, of a method as it is declared
 abbrev pub thrown_broken : Table → MethodId → Ty → TypePlaces → List Refusal
 thrown_broken T m t places = broken_if (not (is_throwable T (thrown_class T (declared_view T m) t))) 513 places.first
 
 -- ---- 514: a method has a body unless it is abstract or native, and a constructor has one (JLS 8.4.7, 9.4)
 
+-- whether a body has to be there; a declaration that differs from that breaks the rule
 abbrev pub wants_body : MethodDecl → Bool
 wants_body d = not (is_method_kind d.kind) || not (d.modifiers.is_abstract || d.modifiers.is_native)
 
 -- ---- all of them
 
+-- what method i breaks, beside each method of the table and by itself
 abbrev pub method_breaks : Table → ℕ → MethodDecl → List Refusal
 method_breaks T i d =
     let m : MethodId = record { 0 = i } in

@@ -26,6 +26,7 @@ use Rattle.jc_header_rules.specs.Results.{has_parameters, is_throwable, result_a
 
 -- ---- 501: a generic class isn't below Throwable (JLS 8.1.2)
 
+-- class k has type parameters, and is Throwable or below it
 abbrev pub is_generic_throwable : Table → ClassId → Bool
 is_generic_throwable T k = has_parameters (vars_of T k) && is_throwable T k
 
@@ -41,40 +42,50 @@ unfoldable pub above_within : Table → ℕ → Ty → List Ty
 above_within T zero t = []
 above_within T (suc n) t = with_above (above_within T n) (supers T t)
 
+-- all supertypes of the type that class k has inside of it; no way upwards is longer than there are classes
 abbrev pub all_above : Table → ClassId → List Ty
 all_above T k = above_within T (class_count T) (own_type T k)
 
+-- a type is of this class; where there is no class none is
 abbrev pub is_of_class : Option ClassId → Ty → Bool
 is_of_class None t = false
 is_of_class (Some k) t = is_class k (class_of t)
 
+-- two types of one class that aren't the same
 abbrev pub conflicts : Ty → Ty → Bool
 conflicts s t = is_of_class (class_of s) t && not (same s t)
 
+-- two of these types conflict
 abbrev pub has_conflict : List Ty → Bool
 has_conflict ts = list_any (λ s. list_any (conflicts s) ts) ts
 
 -- ---- methods that a class inherits
 
+-- the methods of a class, of any name, without overridden and hidden ones
 abbrev pub all_members : Table → ClassId → List MethodView
 all_members T k = remaining T (candidates T (λ m. true) (own_type T k))
 
 -- ---- 509: a class that isn't abstract has a body for each abstract method (JLS 8.1.1.1)
 
+-- nothing is there
 abbrev pub is_none : {X : Type 0} → Option X → Bool
 is_none None = true
 is_none (Some x) = false
 
+-- class k declares method m, or may inherit it from a class above
 abbrev pub is_member_above : Table → ClassId → MethodId → Bool
 is_member_above T k m = same_class (owner T m) k || (is_above T k (owner T m) && is_inheritable T k m)
 
+-- an abstract instance method that class k has, and no body that k has stands for it
 abbrev pub is_left_open : Table → ClassId → MethodId → Bool
 is_left_open T k m = is_instance T m && is_abstract T m && is_member_above T k m && is_none (select T k m)
 
+-- one of these methods, counted from i, is left open
 abbrev pub leaves_open : Table → ClassId → ℕ → List MethodDecl → Bool
 leaves_open T k i [] = false
 leaves_open T k i (d ∷ ds) = is_left_open T k (record { 0 = i }) || leaves_open T k (i + 1) ds
 
+-- neither declared abstract nor an interface
 abbrev pub is_concrete : Table → ClassId → ClassDecl → Bool
 is_concrete T k c = not c.modifiers.is_abstract && not (is_interface T k)
 
@@ -85,6 +96,7 @@ abbrev pub meets : Table → ClassId → MethodView → MethodView → Bool
 meets T k v w =
     not (v.id.0 == w.id.0) && not (same_class (owner T v.id) k) && not (same_class (owner T w.id) k) && override_equivalent T v w
 
+-- a method that isn't abstract; a native one counts as having a body
 abbrev pub with_body : Table → MethodView → Bool
 with_body T v = not (is_abstract T v.id)
 
@@ -96,9 +108,11 @@ bodies_meet T v w = with_body T v && (with_body T w || is_static T v.id)
 abbrev pub fits_badly : Table → MethodView → MethodView → Bool
 fits_badly T v w = with_body T v && not (with_body T w) && (is_weaker (access_of T v.id) (access_of T w.id) || not (thrown_fits T v w))
 
+-- in one of these two ways
 abbrev pub disagrees : Table → MethodView → MethodView → Bool
 disagrees T v w = bodies_meet T v w || fits_badly T v w
 
+-- some two of these members meet and disagree
 abbrev pub members_disagree : Table → ClassId → List MethodView → Bool
 members_disagree T k ms = list_any (λ v. list_any (λ w. meets T k v w && disagrees T v w) ms) ms
 
@@ -112,17 +126,21 @@ abbrev pub one_stands : Table → ClassId → MethodView → List MethodView →
 one_stands T k v all [] = No
 one_stands T k v all (w ∷ ws) = either (cond (meets T k v w) (stands_for_all T k w all) No) (one_stands T k v all ws)
 
+-- v meets a member that has a body
 abbrev pub meets_body : Table → ClassId → MethodView → List MethodView → Bool
 meets_body T k v ms = list_any (λ w. meets T k v w && with_body T w) ms
 
+-- an abstract member that meets a body asks nothing; of others v's result stands for all that v meets, or, if abstract, that of one of these
 abbrev pub agreement : Table → ClassId → List MethodView → MethodView → Answer
 agreement T k ms v =
     cond (with_body T v) (stands_for_all T k v ms) (cond (meets_body T k v ms) Yes (either (stands_for_all T k v ms) (one_stands T k v ms ms)))
 
+-- whether each of these agrees with all
 abbrev pub agreements : Table → ClassId → List MethodView → List MethodView → Answer
 agreements T k all [] = Yes
 agreements T k all (v ∷ vs) = both (agreement T k all v) (agreements T k all vs)
 
+-- results of which none stands for all break 511, and where that can't be told 512
 abbrev pub agreement_broken : Answer → Place → List Refusal
 agreement_broken Yes place = []
 agreement_broken No place = broken_if true 511 place
@@ -130,6 +148,7 @@ agreement_broken Deep place = broken_if true 512 place
 
 -- ---- all of them
 
+-- what class i breaks, each at the class's own place
 abbrev pub class_breaks : Table → ℕ → ClassDecl → List Refusal
 class_breaks T i c =
     let k : ClassId = record { 0 = i } in

@@ -5,6 +5,7 @@ use Rattle.jc_rules.specs.declared.rule.Refusal.{Refusal}
 use Rattle.jc_types.specs.declared.declarations.TypePlaces.{TypePlaces}
 use Rattle.jc_types.specs.declared.form.Ty.{Ty}
 
+-- a list of one broken rule, by its number, or of none where the condition is false
 abbrev pub broken : ℕ → Place → List Refusal
 broken rule place = record { rule = rule; place = place; have = 0 } ∷ []
 

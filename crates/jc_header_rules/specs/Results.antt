@@ -24,10 +24,12 @@ use Rattle.jc_overriding.specs.Viewing.{own_type}
 
 -- ---- results (JLS 8.4.5)
 
+-- there are type parameters
 abbrev pub has_parameters : List VarId → Bool
 has_parameters [] = false
 has_parameters (v ∷ vars) = true
 
+-- a raw type whose class has parameters (JLS 4.8)
 abbrev pub is_raw_at : Table → Ty-F Arg Ty → Bool
 is_raw_at T (Ty-F.Raw id) = has_parameters (vars_of T id)
 is_raw_at T _ = false
@@ -41,10 +43,12 @@ abbrev pub class_converts : Table → Ty → Ty-F Arg Ty → Bool
 class_converts T s (Ty-F.Class id args) = is_raw_view T (up_view T [] id s)
 class_converts T s _ = false
 
+-- arrays of as many dimensions, of which the elements convert
 abbrev pub elements_convert : Table → Ty-F Arg Ty → ℕ → Ty → Bool
 elements_convert T (Ty-F.Array s n) m t = (n == m) && class_converts T s (out-Ty t)
 elements_convert T _ m t = false
 
+-- arrays by their elements, and any other type by its class
 abbrev pub converts_to : Table → Ty → Ty-F Arg Ty → Bool
 converts_to T s (Ty-F.Array t m) = elements_convert T (out-Ty s) m t
 converts_to T s l = class_converts T s l
@@ -53,6 +57,7 @@ converts_to T s l = class_converts T s l
 abbrev pub converts_unchecked : Table → Ty → Ty → Bool
 converts_unchecked T s t = converts_to T s (out-Ty t)
 
+-- the answer of what is known at once: never Deep
 abbrev pub yes_if : Bool → Answer
 yes_if b = if b then Yes else No
 
@@ -61,9 +66,11 @@ abbrev pub reference_answer : Table → MethodView → MethodView → Ty → Ty 
 reference_answer T a b s t =
     if same s (erased_in T b t) || converts_unchecked T s (adapted a b t) then Yes else answer_of T 64 [] s (adapted a b t)
 
+-- primitive types have to be the same one
 abbrev pub type_answer : Table → MethodView → MethodView → Ty → Ty → Answer
 type_answer T a b s t = if is_primitive s || is_primitive t then yes_if (same s t) else reference_answer T a b s t
 
+-- None is `void`, which stands for `void` alone
 abbrev pub answer_by : Table → MethodView → MethodView → Option Ty → Option Ty → Answer
 answer_by T a b None None = Yes
 answer_by T a b None (Some t) = No
@@ -76,6 +83,7 @@ result_answer T a b = answer_by T a b a.result b.result
 
 -- ---- thrown types (JLS 8.4.6, 8.4.8.3, 11.1.1)
 
+-- the class of an erased type without dimensions, and Object (class 0) where it isn't a class
 abbrev pub class_of_base : Base → ClassId
 class_of_base (base.Class k) = k
 class_of_base _ = record { 0 = 0 }
@@ -84,6 +92,7 @@ class_of_base _ = record { 0 = 0 }
 abbrev pub thrown_class : Table → MethodView → Ty → ClassId
 thrown_class T v t = class_of_base (erasure T [] (erased_in T v t)).base
 
+-- class k is class l, or below it
 abbrev pub is_within : Table → ClassId → ClassId → Bool
 is_within T l k = is_viewed (view T l (own_type T k))
 
@@ -91,6 +100,7 @@ is_within T l k = is_viewed (view T l (own_type T k))
 abbrev pub is_unchecked : Table → ClassId → Bool
 is_unchecked T k = is_within T (class_named T (codes "java.lang.RuntimeException")) k || is_within T (class_named T (codes "java.lang.Error")) k
 
+-- Throwable, or a class below it
 abbrev pub is_throwable : Table → ClassId → Bool
 is_throwable T k = is_within T (class_named T (codes "java.lang.Throwable")) k
 

@@ -26,6 +26,7 @@ abbrev pub IsFirst : Table → Option Refusal → Type 0
 IsFirst T None = IsUnbroken T
 IsFirst T (Some refused) = BreaksHeaders T refused
 
+-- the stages stop with the break that is named; that memory was wanting says nothing of the table
 abbrev pub IsHeadersStop : Table → Stop Refusal → Type 0
 IsHeadersStop T (stop_of.Refused refused) = BreaksHeaders T refused
 IsHeadersStop T stop_of.WantOfMemory = Unit {0}

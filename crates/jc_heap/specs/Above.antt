@@ -5,6 +5,7 @@ use Rattle.std.specs.declared.option.Option.{Option}
 use Rattle.std.specs.declared.option.Option.TheVariants.{Some, None}
 use Rattle.jc_heap.specs.Supers.{below_by, supers_at}
 
+-- x is one of these numbers
 abbrev pub IsIn : ℕ → List ℕ → Type 0
 IsIn x [] = ⊥
 IsIn x (y ∷ ys) = (x ≡ y) ⊎ IsIn x ys
@@ -17,10 +18,12 @@ IsClosed es = (a b : ℕ) → IsIn b (supers_at es a) → b < length es
 abbrev pub AreAbove : List (List ℕ) → ℕ → List ℕ → Type 0
 AreAbove es a found = (w : ℕ) → list_any (λ (y : ℕ). y == w) found ≡ below_by es (length es) w a
 
+-- each class has a row, and in it all that stands above that class
 pub record AllAbove (es above : List (List ℕ)) : Type 0 where
   pub count : length above ≡ length es
   pub each : (a : ℕ) (row : List ℕ) → slice_get above a ≡ Some row → AreAbove es a row
 
+-- the mark of x is there and set
 abbrev pub IsMarked : List Bool → ℕ → Type 0
 IsMarked marks x = slice_get marks x ≡ Some true
 
@@ -29,6 +32,7 @@ pub record IsBlank (marks : List Bool) (count : ℕ) : Type 0 where
   pub size : length marks ≡ count
   pub none : (x : ℕ) → IsMarked marks x → ⊥
 
+-- how many marks aren't set
 abbrev pub opens : List Bool → ℕ
 opens [] = 0
 opens (true ∷ ms) = opens ms
@@ -42,11 +46,13 @@ pub record Walk (es : List (List ℕ)) (a : ℕ) (marks : List Bool) (found : Li
   pub lists : (x : ℕ) → IsMarked marks x → IsIn x found
   pub marked : (x : ℕ) → IsIn x found → IsMarked marks x
 
+-- no mark was taken back, and what was found stays, with more behind it
 pub record Grown (marks new : List Bool) (found more : List ℕ) : Type 0 where
   pub kept : (x : ℕ) → IsMarked marks x → IsMarked new x
   pub tail : List ℕ
   pub is_tail : more ≡ found ++ tail
 
+-- the same, and all of xs is marked now
 pub record Added (marks new : List Bool) (found more xs : List ℕ) : Type 0 where
   pub grown : Grown marks new found more
   pub all : (x : ℕ) → IsIn x xs → IsMarked new x
@@ -57,6 +63,7 @@ put_by marks new found more x (Some true) = (new ≡ marks) × (more ≡ found)
 put_by marks new found more x (Some false) = (new ≡ slice_set marks x true) × (more ≡ found ++ x ∷ [])
 put_by marks new found more x None = ⊥
 
+-- the same by the mark of x before; there has to be one
 abbrev pub Put : List Bool → List Bool → List ℕ → List ℕ → ℕ → Type 0
 Put marks new found more x = put_by marks new found more x (slice_get marks x)
 

@@ -10,6 +10,7 @@ use Rattle.jc_jvm.specs.Classes.{is_method, is_selectable, line_of, method_among
 use Rattle.jc_jvm.specs.Numbered.{numbered}
 use Rattle.jc_selecting.specs.Found.{is_number}
 
+-- all methods of all classes, class by class, each in its order
 abbrev pub all_methods : List ClassModel → List MethodModel
 all_methods classes = flat_map (λ c. c.methods) classes
 
@@ -26,14 +27,17 @@ selected_as classes None k = None
 abbrev pub number_of : List ClassModel → MethodModel → Option ℕ
 number_of classes m = if is_selectable m then signature_of classes m.name m.descriptor else None
 
+-- the numbers of the methods of one class, and of each class
 abbrev pub numbers_in : List ClassModel → ClassModel → List (Option ℕ)
 numbers_in classes c = map (number_of classes) c.methods
 
+-- of all classes, in their order
 unfoldable pub all_numbers : List ClassModel → List (List (Option ℕ))
 all_numbers classes = map (numbers_in classes) classes
 
 -- ---- a name and a descriptor as one text, of which both can be told
 
+-- each unit of the name stands behind a 1, and the descriptor behind a 0, so that one text has only one name and one descriptor
 abbrev pub marked : ℕ → List ℕ
 marked u = 1 ∷ u ∷ []
 

@@ -6,6 +6,7 @@ use Rattle.jc_jvm.specs.Thrown.{fault_class}
 use Rattle.jc_jvm.specs.declared.world.Fault.TheVariants as fault
 use Rattle.jc_heap.specs.declared.special.SpecialClasses.{SpecialClasses}
 
+-- the number of each class that the machine asks for by itself, or None where the program has no such class
 pub record AreSpecial (classes : List ClassModel) (s : SpecialClasses) : Type 0 where
   pub object : s.object ≡ class_named classes (codes "java/lang/Object")
   pub throwable : s.throwable ≡ class_named classes (codes "java/lang/Throwable")

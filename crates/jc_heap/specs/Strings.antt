@@ -15,9 +15,11 @@ use Rattle.jc_heap.specs.declared.places.StringPlace.{StringPlace}
 abbrev pub place_by : (ℕ → Option ℕ) → Option ℕ → Option StringPlace
 place_by slots class = option_and_then (λ (k : ℕ). option_map (λ (slot : ℕ). record { class = k; slot = slot }) (slots k)) class
 
+-- None where the classes have no String, or that has no char array
 unfoldable pub string_place : List ClassModel → Option StringPlace
 string_place classes = place_by (chars_slot classes) (string_class classes)
 
+-- a field of type char[]
 abbrev pub is_chars : FieldModel → Bool
 is_chars f = bytes_eq f.descriptor (codes "[C")
 

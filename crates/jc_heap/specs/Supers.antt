@@ -10,6 +10,7 @@ use Rattle.jc_jvm.specs.Classes.{class_named, listed}
 abbrev pub supers_in : List ClassModel → ClassModel → List ℕ
 supers_in classes c = listed (option_and_then (class_named classes) c.superclass) ++ filter_map (class_named classes) c.interfaces
 
+-- those of each class, in the order of the classes
 unfoldable pub all_supers : List ClassModel → List (List ℕ)
 all_supers classes = map (supers_in classes) classes
 
@@ -17,9 +18,11 @@ all_supers classes = map (supers_in classes) classes
 abbrev pub parent_in : List ClassModel → ClassModel → Option ℕ
 parent_in classes c = option_and_then (class_named classes) c.superclass
 
+-- that of each class, in the order of the classes
 unfoldable pub all_parents : List ClassModel → List (Option ℕ)
 all_parents classes = map (parent_in classes) classes
 
+-- the direct supertypes in the row of a class; a number that is no class has none
 abbrev pub supers_at : List (List ℕ) → ℕ → List ℕ
 supers_at supers k = elim (slice_get supers k) [ Some row ↦ row | None ↦ [] ]
 

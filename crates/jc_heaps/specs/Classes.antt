@@ -15,6 +15,7 @@ use Rattle.jc_types.specs.Accessors.{class_count, supers_of}
 abbrev pub object_class : ClassId
 object_class = record { 0 = 0 }
 
+-- by the outermost layer of a type
 abbrev pub class_at : Ty-F Arg Ty → Option ClassId
 class_at (Ty-F.Class id args) = Some id
 class_at (Ty-F.Raw id) = Some id
@@ -24,6 +25,7 @@ class_at _ = None
 abbrev pub class_of : Ty → Option ClassId
 class_of t = class_at (out-Ty t)
 
+-- the class of the first of the types; None where it is no class type, or there is none
 abbrev pub first_class : List Ty → Option ClassId
 first_class [] = None
 first_class (t ∷ ts) = class_of t
@@ -32,6 +34,7 @@ first_class (t ∷ ts) = class_of t
 abbrev pub superclass_of : Table → ClassId → Option ClassId
 superclass_of T k = first_class (supers_of T k)
 
+-- whether a class or one of some types meets a test; what is no class doesn't
 abbrev pub in_class : (ClassId → Bool) → Option ClassId → Bool
 in_class f None = false
 in_class f (Some k) = f k
@@ -49,10 +52,12 @@ is_within T (suc n) c k = (k.0 == c.0) || any_of (is_within T n c) (supers_of T 
 unfoldable pub is_subclass : Table → ClassId → ClassId → Bool
 is_subclass T k c = is_within T (class_count T + 1) c k
 
+-- whether it is Object, by its number in the table
 abbrev pub is_object_base : Base → Bool
 is_object_base (base.Class k) = k.0 == 0
 is_object_base _ = false
 
+-- equality of primitive types
 abbrev pub same_primitive : Primitive → Primitive → Bool
 same_primitive Boolean Boolean = true
 same_primitive Byte Byte = true
@@ -62,11 +67,13 @@ same_primitive Int Int = true
 same_primitive Long Long = true
 same_primitive _ _ = false
 
+-- without dimensions: a primitive type is of itself alone, a class of those above it, and the null type of nothing
 abbrev pub is_base_of : Table → Base → Base → Bool
 is_base_of T (base.Prim p) (base.Prim q) = same_primitive p q
 is_base_of T (base.Class k) (base.Class c) = is_subclass T k c
 is_base_of T _ _ = false
 
+-- equality of bases, and of erased types
 abbrev pub same_base : Base → Base → Bool
 same_base (base.Prim p) (base.Prim q) = same_primitive p q
 same_base (base.Class k) (base.Class c) = k.0 == c.0

@@ -6,12 +6,15 @@ use Rattle.jc_running.specs.Outcomes.{Out, Val, Thrown, Exited, Going, Wrong, Ru
 use Rattle.jc_heaps.specs.declared.state.Object.{Object}
 use Rattle.jc_heaps.specs.declared.state.State.{State}
 
+-- a state whose objects keep erased types, with no frame and no record
 abbrev pub ErasedState : Type 0
 ErasedState = State Erased (Unit {0}) (Unit {0})
 
+-- an object keeps the erasure of what it kept, and all its fields or elements
 abbrev pub erase_object : {K : Type 0} → (K → Erased) → Object K → Object Erased
 erase_object erased o = record { kept = erased o.kept; parts = o.parts }
 
+-- all objects of a state, which stay at their addresses
 abbrev pub erase_state : {K F R : Type 0} → (K → Erased) → State K F R → ErasedState
 erase_state erased s = record {
   locals = s.locals;
@@ -25,6 +28,7 @@ erase_state erased s = record {
   record_of = tt;
 }
 
+-- the state of an outcome; value, thrown address, exit code and units stay
 abbrev pub erase_out : {K F R A : Type 0} → (K → Erased) → Out (State K F R) A → Out ErasedState A
 erase_out erased (Val a u s) = Val a u (erase_state erased s)
 erase_out erased (Thrown address u s) = Thrown address u (erase_state erased s)

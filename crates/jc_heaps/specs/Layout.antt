@@ -16,10 +16,12 @@ use Rattle.jc_running.specs.declared.value.Value.{Value}
 use Rattle.jc_running.specs.declared.value.Value.TheVariants.{Whole, Long, Null}
 use Rattle.jc_heaps.specs.Classes.{object_class, superclass_of}
 
+-- zero of a primitive type: a `long` is held as such, all others as whole numbers, and a boolean is then false
 abbrev pub zero_of : Primitive → Value
 zero_of LongType = Long (pos 0)
 zero_of _ = Whole (pos 0)
 
+-- zero for a primitive type, and null for each other type
 abbrev pub default_at : Ty-F Arg Ty → Value
 default_at (Ty-F.Prim p) = zero_of p
 default_at _ = Null
@@ -28,6 +30,7 @@ default_at _ = Null
 abbrev pub default_value : Ty → Value
 default_value t = default_at (out-Ty t)
 
+-- the value of a new element of an erased type, as of a new variable (JLS 4.12.5)
 abbrev pub default_base : Base → Value
 default_base (base.Prim p) = zero_of p
 default_base _ = Null
@@ -35,6 +38,7 @@ default_base _ = Null
 abbrev pub default_erased : Erased → Value
 default_erased e = if e.dims == 0 then default_base e.base else Null
 
+-- whether a field is static; one that the table doesn't have is not
 abbrev pub is_static_in : Option Modifiers → Bool
 is_static_in (Some m) = m.is_static
 is_static_in None = false
@@ -42,6 +46,7 @@ is_static_in None = false
 abbrev pub is_static : Table → FieldId → Bool
 is_static T f = is_static_in (field_modifiers_of T f)
 
+-- the value of a new field, by its type; null where the table has no such field
 abbrev pub default_in : Option Ty → Value
 default_in (Some t) = default_value t
 default_in None = Null
@@ -49,6 +54,7 @@ default_in None = Null
 abbrev pub default_of : Table → FieldId → Value
 default_of T f = default_in (field_type_of T f)
 
+-- a class, or Object where there is none
 abbrev pub or_object : Option ClassId → ClassId
 or_object (Some k) = k
 or_object None = object_class
@@ -57,10 +63,12 @@ or_object None = object_class
 abbrev pub field_class : Table → FieldId → ClassId
 field_class T f = or_object (field_owner_of T f)
 
+-- those of the fields that aren't static, in their order
 abbrev pub instance_only : Table → List FieldId → List FieldId
 instance_only T [] = []
 instance_only T (f ∷ fs) = if is_static T f then instance_only T fs else f ∷ instance_only T fs
 
+-- the fields of the superclass; none where there is no superclass
 abbrev pub fields_above : (ClassId → List FieldId) → Option ClassId → List FieldId
 fields_above f None = []
 fields_above f (Some k) = f k
@@ -74,6 +82,7 @@ fields_within T (suc n) k = fields_above (fields_within T n) (superclass_of T k)
 unfoldable pub object_fields : Table → ClassId → List FieldId
 object_fields T k = fields_within T (class_count T + 1) k
 
+-- a place one further on; None stays
 abbrev pub one_further : Option ℕ → Option ℕ
 one_further None = None
 one_further (Some n) = Some (suc n)

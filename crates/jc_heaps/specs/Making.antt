@@ -29,6 +29,7 @@ pub record Keeping (K : Type 0) : Type 0 where
 abbrev pub make : {K F R : Type 0} → Object K → Run (State K F R) ℕ
 make o u s = Val (length s.heap) u (record s { heap = s.heap ++ o ∷ [] })
 
+-- a new object of a class without parameters, whose fields are as new
 abbrev pub make_plain : {K F R : Type 0} → Keeping K → Table → ClassId → Run (State K F R) ℕ
 make_plain keeping T k = make (record { kept = keeping.of_class k; parts = new_fields T k })
 
@@ -37,9 +38,11 @@ make_plain keeping T k = make (record { kept = keeping.of_class k; parts = new_f
 abbrev pub raise : {K F R A : Type 0} → Keeping K → Table → ClassId → Run (State K F R) A
 raise keeping T k = bind (make_plain keeping T k) throw
 
+-- a UTF-16 unit as an element of an array of `char`
 abbrev pub char_value : ℕ → Value
 char_value unit = Whole (pos unit)
 
+-- the array of the units goes into the field of the string at an address; where its class has no such field, that is wrong
 abbrev pub set_chars : {K F R : Type 0} → Option ℕ → ℕ → ℕ → Run (State K F R) Value
 set_chars None at chars = wrong
 set_chars (Some slot) at chars = behind (set_part at slot (Address chars)) (give (Address at))
@@ -50,14 +53,17 @@ make_string keeping T known units =
     bind (make (record { kept = keeping.of_chars; parts = map char_value units })) (λ chars.
     bind (make_plain keeping T known.string) (λ at. set_chars (slot_of T known.chars) at chars))
 
+-- the address of the string of these units among those that constants made; None where there is none yet
 abbrev pub interned_in : List ℕ → List Interned → Option ℕ
 interned_in units [] = None
 interned_in units (i ∷ is) = if bytes_eq i.units units then Some i.address else interned_in units is
 
+-- a new string becomes the one of all constants with these units
 abbrev pub keep_string : {K F R : Type 0} → List ℕ → Value → Run (State K F R) Value
 keep_string units (Address a) = behind (change (λ s. record s { strings = s.strings ++ record { units = units; address = a } ∷ [] })) (give (Address a))
 keep_string units _ = wrong
 
+-- the string that is there already, or a new one, which is kept
 abbrev pub if_interned : {K F R : Type 0} → Keeping K → Table → Known → List ℕ → Option ℕ → Run (State K F R) Value
 if_interned keeping T known units (Some a) = give (Address a)
 if_interned keeping T known units None = bind (make_string keeping T known units) (keep_string units)
@@ -91,6 +97,7 @@ abbrev pub fail : {K F R A : Type 0} → Keeping K → Table → Known → Check
 fail keeping T known check =
     behind (spend (change (λ s. record s { shown = with_failure check s.shown }))) (raise keeping T known.thrown.class_cast)
 
+-- the value where the test holds, and else the failure of the check
 abbrev pub if_passes : {K F R : Type 0} → Keeping K → Table → Known → Check → Value → Bool → Run (State K F R) Value
 if_passes keeping T known check v true = give v
 if_passes keeping T known check v false = fail keeping T known check
@@ -104,6 +111,7 @@ abbrev pub stored_if : {K F R : Type 0} → Keeping K → Table → Known → �
 stored_if keeping T known at place v true = set_part at place v
 stored_if keeping T known at place v false = raise keeping T known.thrown.array_store
 
+-- null and what is no reference can be stored in any array
 abbrev pub storable : {K F R : Type 0} → Keeping K → Table → Object K → Value → Run (State K F R) Bool
 storable keeping T o (Address a) = passes keeping T (element_of (keeping.erased o.kept)) (Address a)
 storable keeping T o _ = give true
@@ -121,14 +129,16 @@ given keeping T known Unfit = wrong
 abbrev pub identity_hash : ℕ → Value
 identity_hash a = Whole (pos (a % 2 ^ 31))
 
--- A byte goes out, and one is taken, or none where none is left; each spends a unit
+-- A byte goes out, which spends a unit
 abbrev pub put_byte : {K F R : Type 0} → ℕ → Run (State K F R) (Unit {0})
 put_byte b = spend (change (λ s. record s { shown = with_byte b s.shown }))
 
+-- the first one of these bytes, which spends a unit, or -1 where there is none
 abbrev pub taken_from : {K F R : Type 0} → List ℕ → Run (State K F R) Value
 taken_from [] = give (Whole (negsuc 0))
 taken_from (b ∷ bs) = behind (spend (change (λ s. record s { input = bs; shown = with_taken s.shown }))) (give (Whole (pos b)))
 
+-- the next byte of the input, or -1 where none is left, which spends no unit
 abbrev pub take_byte : {K F R : Type 0} → Run (State K F R) Value
 take_byte u s = taken_from s.input u s
 

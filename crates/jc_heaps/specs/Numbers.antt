@@ -10,15 +10,18 @@ use Rattle.jc_running.specs.declared.value.Value.TheVariants.{Whole, Long, Addre
 use Rattle.jc_heaps.specs.declared.given.Given.{Given}
 use Rattle.jc_heaps.specs.declared.given.Given.TheVariants.{Gives, ByZero, Unfit}
 
+-- whether two integers are equal
 abbrev pub int_eq : ℤ → ℤ → Bool
 int_eq (pos a) (pos b) = a == b
 int_eq (negsuc a) (negsuc b) = a == b
 int_eq _ _ = false
 
+-- a boolean as a value: 1 for true, 0 for false
 abbrev pub truth : Bool → Value
 truth true = Whole (pos 1)
 truth false = Whole (pos 0)
 
+-- what is given unless the divisor is zero (JLS 15.17.2, 15.17.3)
 abbrev pub unless_zero : ℤ → Given → Given
 unless_zero b g = if int_eq b (pos 0) then ByZero else g
 
@@ -47,17 +50,20 @@ shifted ShiftRight w back a n = Gives (back (int_shr a n))
 shifted ShiftRightUnsigned w back a n = Gives (back (cast_signed w (cast_unsigned w a / 2 ^ n)))
 shifted _ w back a n = Unfit
 
+-- `<<`, `>>` and `>>>`
 abbrev pub is_shift : Op → Bool
 is_shift ShiftLeft = true
 is_shift ShiftRight = true
 is_shift ShiftRightUnsigned = true
 is_shift _ = false
 
+-- the distance of a shift as an unsigned number of its own width; None where it is no number
 abbrev pub distance : Value → Option ℕ
 distance (Whole n) = Some (cast_unsigned w32 n)
 distance (Long n) = Some (cast_unsigned w64 n)
 distance _ = None
 
+-- of an int by five bits of the distance, of a long by six; what is no number doesn't fit
 abbrev pub shifted_by : Op → Value → Option ℕ → Given
 shifted_by op (Whole a) (Some n) = shifted op w32 Whole a (n % 32)
 shifted_by op (Long a) (Some n) = shifted op w64 Long a (n % 64)
@@ -69,6 +75,7 @@ of_references Equal same = Gives (truth same)
 of_references NotEqual same = Gives (truth (not same))
 of_references _ same = Unfit
 
+-- of two ints, two longs or two references; operands of different sorts don't fit
 abbrev pub matched : Op → Value → Value → Given
 matched op (Whole a) (Whole b) = of_numbers op w32 Whole a b
 matched op (Long a) (Long b) = of_numbers op w64 Long a b
@@ -90,6 +97,7 @@ of_number Complement w back a = Gives (back (int_bit_not w a))
 of_number Not w back a = Gives (truth (int_eq a (pos 0)))
 of_number _ w back a = Unfit
 
+-- by the sort of the operand; a reference doesn't fit
 abbrev pub prefixed : Op → Value → Given
 prefixed op (Whole a) = of_number op w32 Whole a
 prefixed op (Long a) = of_number op w64 Long a
@@ -112,15 +120,18 @@ number_as Char n = Whole (pos (cast_unsigned w16 (int_wrap w16 n)))
 number_as Int n = Whole (int_wrap w32 n)
 number_as LongType n = Long n
 
+-- a value that is a number, converted; None for a reference
 abbrev pub converted : Primitive → Value → Option Value
 converted p (Whole n) = Some (number_as p n)
 converted p (Long n) = Some (number_as p n)
 converted p _ = None
 
+-- false where the number is 0; None where the value is no int
 abbrev pub boolean_of : Value → Option Bool
 boolean_of (Whole n) = Some (not (int_eq n (pos 0)))
 boolean_of _ = None
 
+-- the number of an int; None for a long and for a reference
 abbrev pub whole_of : Value → Option ℤ
 whole_of (Whole n) = Some n
 whole_of _ = None

@@ -6,9 +6,11 @@ use Rattle.jc_heaps.specs.declared.state.Object.{Object}
 use Rattle.jc_heaps.specs.declared.state.State.{State}
 use Rattle.jc_running.specs.Outcomes.{Out, Val, Thrown, Exited, Going, Wrong, Run, give, wrong}
 
+-- what the run has shown up to a state
 abbrev pub shown_of : {K F R : Type 0} → State K F R → Shown
 shown_of s = s.shown
 
+-- the value that is there; where none is, the program is none that was checked
 abbrev pub some_or_wrong : {S A : Type 0} → Option A → Run S A
 some_or_wrong None = wrong
 some_or_wrong (Some a) = give a
@@ -21,6 +23,7 @@ look f u s = some_or_wrong (f s) u s
 abbrev pub change : {S : Type 0} → (S → S) → Run S (Unit {0})
 change f u s = Val tt u (f s)
 
+-- a variable of the running method by its number, and its change
 abbrev pub local : {K F R : Type 0} → ℕ → Run (State K F R) Value
 local n = look (λ s. slice_get s.locals n)
 
@@ -31,9 +34,11 @@ set_local n v = change (λ s. record s { locals = slice_set s.locals n v })
 abbrev pub object_at : {K F R : Type 0} → ℕ → Run (State K F R) (Object K)
 object_at a = look (λ s. slice_get s.heap a)
 
+-- an object with another value at a place; a place that it doesn't have changes nothing
 abbrev pub with_part : {K : Type 0} → Object K → ℕ → Value → Object K
 with_part o n v = record o { parts = slice_set o.parts n v }
 
+-- .. in the heap; an address that stands for nothing changes nothing
 abbrev pub set_part_in : {K : Type 0} → List (Object K) → ℕ → ℕ → Value → Option (Object K) → List (Object K)
 set_part_in heap a n v (Some o) = slice_set heap a (with_part o n v)
 set_part_in heap a n v None = heap
@@ -50,5 +55,6 @@ back_in locals frame (Exited code s) = Exited code s
 back_in locals frame (Going s) = Going s
 back_in locals frame Wrong = Wrong
 
+-- a computation in them
 abbrev pub in_frame : {K F R A : Type 0} → List Value → F → Run (State K F R) A → Run (State K F R) A
 in_frame locals frame m u s = back_in s.locals s.frame (m u (record s { locals = locals; frame = frame }))

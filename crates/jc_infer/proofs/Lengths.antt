@@ -1,11 +1,10 @@
 -- There are as many parameters as variables, and as many answers.
-use Rattle.std.proofs.Common.{◌≡◌, suc, List, [], ◌∷◌, length, map, drop, refl, ap, ◌∙◌}
+use Rattle.std.proofs.Common.{◌≡◌, suc, List, [], ◌∷◌, length, map, drop, refl, ap}
 use Rattle.jc_types.specs.declared.environment.Bounds.{Bounds}
 use Rattle.jc_types.specs.declared.form.Ty.{Ty}
 use Rattle.jc_types.specs.declared.ids.VarId.{VarId}
 use Rattle.jc_types.specs.declared.table.Table.{Table}
 use Rattle.jc_constraints.specs.declared.standing.Implied.{Implied}
-use Rattle.jc_infer.specs.declared.outcome.Parameter.{Parameter}
 use Rattle.jc_infer.specs.Steps.{parameters}
 
 pub parameters_length : (T : Table) (env : List Bounds) (is : List Implied) (vs : List VarId) (bss : List (List Ty)) → length vs ≡ length (parameters T env is vs bss)

@@ -1,5 +1,5 @@
--- What is asked of the answers: for each parameter in order whether it is below each of its bounds, and then whether it is well formed. The first question that isn't
--- proved decides.
+-- What is asked of the answers: for each parameter in order that no two unrelated classes meet in it, whether it is below each of its bounds, and then whether it is well
+-- formed. The first question that isn't proved decides.
 use Rattle.std.specs.Prelude.{ℕ, ◌+◌, Option, Some, None, List, [], ◌∷◌, ◌++◌, drop, map, cond}
 use Rattle.jc_types.specs.declared.conversion.Phase.{Phase}
 use Rattle.jc_types.specs.declared.environment.Bounds.{Bounds}
@@ -32,6 +32,7 @@ abbrev pub within : Table → List Bounds → Ty → List Ty → Answer
 within T env t [] = Yes
 within T env t (b ∷ bs) = and_then (answer_of T 64 env t b) (within T env t bs)
 
+-- an ill-formed answer makes the method not applicable; one of which that can't be told makes the outcome Deep
 abbrev pub refused_as : ℕ → TypeFault → Inference
 refused_as i fault.Deep = outcome.Deep
 refused_as i _ = outcome.NotApplicable (why.Ill i)
@@ -41,6 +42,7 @@ abbrev pub refused : ℕ → Option TypeFault → Option Inference
 refused i None = None
 refused i (Some f) = Some (refused_as i f)
 
+-- a bound that isn't proved decides, before anything further
 abbrev pub behind_bounds : Answer → ℕ → Option Inference → Option Inference
 behind_bounds Yes i more = more
 behind_bounds No i more = Some (outcome.NotApplicable (why.Bound i))
@@ -52,6 +54,7 @@ one_asked T env later vars answers i p =
     cond (meets T later p) (Some (outcome.NotApplicable (why.Ill i)))
     (behind_bounds (within T env (answer T later p) (map (subst vars answers) p.bounds)) i (refused i (first_fault (type_faults T env (answer T later p)))))
 
+-- the first outcome, if there is one
 abbrev pub or_more : Option Inference → Inference → Inference
 or_more None more = more
 or_more (Some r) more = r
@@ -61,6 +64,7 @@ abbrev pub all_asked : Table → List Bounds → List Implied → List VarId →
 all_asked T env later vars answers i [] = outcome.Inferred answers
 all_asked T env later vars answers i (p ∷ ps) = or_more (one_asked T env later vars answers i p) (all_asked T env later vars answers (i + 1) ps)
 
+-- the answers to all parameters of a method, if all questions on them are proved
 abbrev pub answered : Table → List Bounds → MethodView → List Parameter → List Implied → Inference
 answered T env m ps later = all_asked T env later m.vars (map (answer T later) ps) 0 ps
 
@@ -77,6 +81,7 @@ inferred T env m phase args target =
 abbrev pub written_one : VarId → List Ty → Ty → Parameter
 written_one v bs t = record { variable = v; bounds = bs; early = Some t }
 
+-- as far as there are both parameters and types
 abbrev pub written : List VarId → List (List Ty) → List Ty → List Parameter
 written (v ∷ vs) bss (t ∷ ts) = written_one v (first_bounds bss) t ∷ written vs (drop 1 bss) ts
 written _ bss _ = []

@@ -5,6 +5,7 @@ use Rattle.jc_types.specs.declared.conversion.Phase.TheVariants.{Subtyping, Invo
 use Rattle.jc_types.specs.declared.form.Ty.{Ty}
 use Rattle.jc_types.specs.Arrays.{element}
 
+-- the type of elements, or the type itself where it has none
 abbrev pub or_same : Ty → Option Ty → Ty
 or_same t (Some e) = e
 or_same t None = t

@@ -44,6 +44,7 @@ contained_at a (Arg-F.Exact u) = in_exact_at u a
 unfoldable pub contained : Arg → Arg → Part
 contained a b = contained_at (out-Arg a) (out-Arg b)
 
+-- argument by argument, as far as the shorter list goes
 abbrev pub all_contained : List Arg → List Arg → List Part
 all_contained [] bs = []
 all_contained (a ∷ args) [] = []
@@ -55,6 +56,7 @@ by_arguments fresh views None = Holds
 by_arguments fresh None (Some targs) = Fails
 by_arguments fresh (Some vargs) (Some targs) = Every fresh (all_contained vargs targs)
 
+-- the captured S is viewed as T's class: without such a view the question fails
 abbrev pub by_view : Table → List Bounds → Ty → Option Ty → Question
 by_view T fresh t None = Fails
 by_view T fresh t (Some v) = by_arguments fresh (arguments T v) (arguments T t)
@@ -65,6 +67,7 @@ classes_from T n s t None o = Fails
 classes_from T n s t (Some j) None = Fails
 classes_from T n s t (Some j) (Some k) = let c = capture_one T n s in by_view T c.fresh t (view T k c.ty)
 
+-- S and T by their classes: what is no class or raw type has none, and the question fails
 unfoldable pub classes : Table → List Bounds → Ty → Ty → Question
 classes T env s t = classes_from T (length env) s t (class_of s) (class_of t)
 
@@ -73,13 +76,16 @@ abbrev pub to_elements : Ty → Option Ty → Question
 to_elements a (Some b) = if is_primitive a || is_primitive b then Fails else Every [] (Ask a b ∷ [])
 to_elements a None = Fails
 
+-- S is an array, given with its elements' type, or no array
 abbrev pub shapes_by : Table → List Bounds → Ty → Ty → Option Ty → Question
 shapes_by T env s t (Some a) = to_elements a (element t)
 shapes_by T env s t None = classes T env s t
 
+-- what is asked where neither is an intersection, S is no variable, and T has no lower bound
 unfoldable pub shapes : Table → List Bounds → Ty → Ty → Question
 shapes T env s t = shapes_by T env s t (element s)
 
+-- None for what is no captured variable, and for one that has no lower bound
 abbrev pub lower_at : List Bounds → Layer → Option Ty
 lower_at env (Ty-F.Captured c) = lower_bound_of env c
 lower_at env _ = None
@@ -88,6 +94,7 @@ lower_at env _ = None
 unfoldable pub lower_of : List Bounds → Ty → Option Ty
 lower_of env t = lower_at env (out-Ty t)
 
+-- None for what is neither an intersection nor a variable
 abbrev pub sources_at : Table → List Bounds → Layer → Option (List Ty)
 sources_at T env (Ty-F.Meet parts) = Some parts
 sources_at T env (Ty-F.Variable v) = Some (bounds_of T v)
@@ -98,6 +105,7 @@ sources_at T env _ = None
 unfoldable pub sources : Table → List Bounds → Ty → Option (List Ty)
 sources T env s = sources_at T env (out-Ty s)
 
+-- the question whether S is below T's lower bound, if T has one
 abbrev pub to_lower : Ty → Option Ty → List Part
 to_lower s (Some l) = Ask s l ∷ []
 to_lower s None = []
@@ -108,6 +116,7 @@ alternatives T env s t low (Some ss) = SomeOf (map (λ x. Ask x t) ss ++ to_lowe
 alternatives T env s t (Some l) None = SomeOf (Ask s l ∷ [])
 alternatives T env s t None None = shapes T env s t
 
+-- what is asked where T is no intersection
 unfoldable pub opened : Table → List Bounds → Ty → Ty → Question
 opened T env s t = alternatives T env s t (lower_of env t) (sources T env s)
 
@@ -116,6 +125,7 @@ abbrev pub to_meet_at : Table → List Bounds → Ty → Ty → Layer → Questi
 to_meet_at T env s t (Ty-F.Meet parts) = Every [] (map (Ask s) parts)
 to_meet_at T env s t _ = opened T env s t
 
+-- what is asked where neither type is primitive
 unfoldable pub to_meet : Table → List Bounds → Ty → Ty → Question
 to_meet T env s t = to_meet_at T env s t (out-Ty t)
 

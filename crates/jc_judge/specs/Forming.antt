@@ -22,6 +22,7 @@ use Rattle.jc_judge.specs.WellFormed.{upper_parts, lower_parts, is_primitive_arg
 abbrev pub captured_parts : Ty → ArgLayer → List Ty → List Part
 captured_parts s a bounds = if is_primitive_arg a then [] else upper_parts s bounds
 
+-- what has to hold of the lower bound of a super wildcard. A primitive one is asked nothing
 abbrev pub bare_parts : ArgLayer → List Ty → List Part
 bare_parts a bounds = if is_primitive_arg a then [] else lower_parts a bounds
 
@@ -46,9 +47,11 @@ pub record Needs : Type 0 where
   pub plain : List Bounds
   pub lower : List Part
 
+-- nothing is asked
 abbrev pub no_needs : Needs
 no_needs = record { full = []; captured = []; plain = []; lower = [] }
 
+-- of a class type with as many arguments as its class has parameters, where the env has the variables captured before
 abbrev pub class_needs : Table → List Bounds → List VarId → List Arg → Needs
 class_needs T env vars args =
     let by = captured_args (length env) args in
@@ -65,10 +68,12 @@ abbrev pub counted_needs : Table → List Bounds → List VarId → List Arg →
 counted_needs T env vars args true = class_needs T env vars args
 counted_needs T env vars args false = no_needs
 
+-- what is no class type asks nothing, nor does a raw type
 abbrev pub needs_at : Table → List Bounds → Layer → Needs
 needs_at T env (Ty-F.Class id args) = counted_needs T env (vars_of T id) args (length args == length (vars_of T id))
 needs_at T env _ = no_needs
 
+-- what the type itself asks: types inside its arguments ask for themselves
 unfoldable pub needs : Table → List Bounds → Ty → Needs
 needs T env t = needs_at T env (out-Ty t)
 
@@ -81,10 +86,12 @@ IsFormedBy tree n = Each (PartProved (tree n.full)) n.captured × Each (PartProv
 abbrev pub IsIllBy : Trees → Needs → Type 0
 IsIllBy tree n = OneOf (PartRefuted (tree n.full)) n.captured ⊎ OneOf (PartRefuted (tree n.plain)) n.lower
 
+-- each of these types is well formed, as far as its own arguments go
 abbrev pub AllFormed : Trees → Table → List Bounds → List Ty → Type 0
 AllFormed tree T env [] = Unit {0}
 AllFormed tree T env (t ∷ ts) = IsFormedBy tree (needs T env t) × AllFormed tree T env ts
 
+-- one of these types is ill formed, as far as its own arguments go
 abbrev pub OneIll : Trees → Table → List Bounds → List Ty → Type 0
 OneIll tree T env [] = ⊥
 OneIll tree T env (t ∷ ts) = IsIllBy tree (needs T env t) ⊎ OneIll tree T env ts
@@ -108,9 +115,11 @@ IsIllFormed T d env t = Ill (Refute T d) T env t
 abbrev pub all_hold : Table → ℕ → List Bounds → List Part → Answer
 all_hold T d env parts = every_answer (part_answer (answer_of T d env)) parts
 
+-- whether all that a type's own arguments ask holds, each in its own env
 abbrev pub needs_answer : Table → ℕ → Needs → Answer
 needs_answer T d n = both (all_hold T d n.full n.captured) (all_hold T d n.plain n.lower)
 
+-- whether each of these types is well formed by itself
 abbrev pub all_formed_answer : Table → ℕ → List Bounds → List Ty → Answer
 all_formed_answer T d env [] = Yes
 all_formed_answer T d env (t ∷ ts) = both (needs_answer T d (needs T env t)) (all_formed_answer T d env ts)
@@ -119,14 +128,17 @@ all_formed_answer T d env (t ∷ ts) = both (needs_answer T d (needs T env t)) (
 unfoldable pub formed_answer : Table → ℕ → List Bounds → Ty → Answer
 formed_answer T d env t = all_formed_answer T d env (inside t)
 
+-- the answer is No
 abbrev pub is_no : Answer → Bool
 is_no No = true
 is_no _ = false
 
+-- the answer is Deep
 abbrev pub is_deep : Answer → Bool
 is_deep Deep = true
 is_deep _ = false
 
+-- this fault where the condition holds, and none where it doesn't
 abbrev pub fault_if : Bool → TypeFault → List TypeFault
 fault_if true f = f ∷ []
 fault_if false f = []
@@ -143,9 +155,11 @@ faults_of_arg T full plain bounds i s a true = fault.PrimitiveArgument i ∷ []
 faults_of_arg T full plain bounds i s a false =
     reference_faults i (all_hold T 64 full (upper_parts s bounds)) (all_hold T 64 plain (lower_parts (out-Arg a) bounds)) (meets_at T bounds (out-Arg a))
 
+-- the faults of argument i, captured as s, whose parameter has these bounds, with the fresh variables in `full` and bare ones in `plain`
 abbrev pub arg_faults : Table → List Bounds → List Bounds → List Ty → ℕ → Ty → Arg → List TypeFault
 arg_faults T full plain bounds i s a = faults_of_arg T full plain bounds i s a (is_primitive_arg (out-Arg a))
 
+-- those of all arguments from number i on, which are captured as `ss`, where `by` stands for the parameters `vars`
 abbrev pub args_faults : Table → List Bounds → List Bounds → List VarId → List Ty → ℕ → List VarId → List Ty → List Arg → List TypeFault
 args_faults T full plain vars by i [] ss args = []
 args_faults T full plain vars by i (p ∷ ps) [] args = []
@@ -153,6 +167,7 @@ args_faults T full plain vars by i (p ∷ ps) (s ∷ ss) [] = []
 args_faults T full plain vars by i (p ∷ ps) (s ∷ ss) (a ∷ args) =
     arg_faults T full plain (put_bounds T vars by p) i s a ++ args_faults T full plain vars by (i + 1) ps ss args
 
+-- another number of arguments than the class has parameters is the one fault that there is
 abbrev pub counted_faults : Table → List Bounds → List VarId → List Arg → Bool → List TypeFault
 counted_faults T env vars args false = fault.Count ∷ []
 counted_faults T env vars args true =
@@ -160,6 +175,7 @@ counted_faults T env vars args true =
     let fresh = fresh_args T vars by vars args in
     args_faults T (env ++ fresh) (env ++ bare fresh) vars by 0 vars by args
 
+-- what is no class type has no fault of its own, nor has a raw type
 abbrev pub faults_at : Table → List Bounds → Layer → List TypeFault
 faults_at T env (Ty-F.Class id args) = counted_faults T env (vars_of T id) args (length args == length (vars_of T id))
 faults_at T env _ = []
@@ -168,6 +184,7 @@ faults_at T env _ = []
 unfoldable pub class_faults : Table → List Bounds → Ty → List TypeFault
 class_faults T env t = faults_at T env (out-Ty t)
 
+-- of each of these types, in their order
 abbrev pub all_faults : Table → List Bounds → List Ty → List TypeFault
 all_faults T env [] = []
 all_faults T env (t ∷ ts) = class_faults T env t ++ all_faults T env ts
@@ -176,6 +193,7 @@ all_faults T env (t ∷ ts) = class_faults T env t ++ all_faults T env ts
 abbrev pub type_faults : Table → List Bounds → Ty → List TypeFault
 type_faults T env t = all_faults T env (inside t)
 
+-- None where there is no fault
 abbrev pub first_fault : List TypeFault → Option TypeFault
 first_fault [] = None
 first_fault (f ∷ fs) = Some f

@@ -13,6 +13,7 @@ Layer = Ty-F Arg Ty
 abbrev pub ArgLayer : Type 0
 ArgLayer = Arg-F Arg Ty
 
+-- each definition in `_at` asks a type that is opened by one level
 abbrev pub is_primitive_at : Layer → Bool
 is_primitive_at (Ty-F.Prim p) = true
 is_primitive_at _ = false
@@ -25,9 +26,11 @@ abbrev pub is_null_at : Layer → Bool
 is_null_at Ty-F.NullTy = true
 is_null_at _ = false
 
+-- the type of `null` (JLS 4.1)
 unfoldable pub is_null : Ty → Bool
 is_null t = is_null_at (out-Ty t)
 
+-- the class java.lang.Object, raw or with whatever arguments
 abbrev pub is_object_at : Layer → Bool
 is_object_at (Ty-F.Class id args) = id.0 == 0
 is_object_at (Ty-F.Raw id) = id.0 == 0
@@ -37,6 +40,7 @@ is_object_at _ = false
 unfoldable pub is_object : Ty → Bool
 is_object t = is_object_at (out-Ty t)
 
+-- the class of a class or raw type, and None for every other type
 abbrev pub class_at : Layer → Option ClassId
 class_at (Ty-F.Class id args) = Some id
 class_at (Ty-F.Raw id) = Some id
@@ -46,6 +50,7 @@ class_at _ = None
 unfoldable pub class_of : Ty → Option ClassId
 class_of t = class_at (out-Ty t)
 
+-- this primitive type alone: boolean, then char, then long
 abbrev pub is_boolean : Primitive → Bool
 is_boolean Boolean = true
 is_boolean _ = false
@@ -58,6 +63,7 @@ abbrev pub is_long : Primitive → Bool
 is_long Long = true
 is_long _ = false
 
+-- int or a type above it; the next two ask the same of short and of byte, which char is not above (JLS 4.10.1)
 abbrev pub is_int_or_long : Primitive → Bool
 is_int_or_long Int = true
 is_int_or_long Long = true
@@ -80,10 +86,12 @@ primitive_below Char q = is_char q || is_int_or_long q
 primitive_below Int q = is_int_or_long q
 primitive_below Long q = is_long q
 
+-- only a primitive type is above a primitive type
 abbrev pub below_primitive_at : Primitive → Layer → Bool
 below_primitive_at p (Ty-F.Prim q) = primitive_below p q
 below_primitive_at p _ = false
 
+-- only a primitive type is below a primitive type
 abbrev pub primitives_at : Layer → Layer → Bool
 primitives_at (Ty-F.Prim p) l = below_primitive_at p l
 primitives_at _ l = false

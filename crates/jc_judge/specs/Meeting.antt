@@ -16,6 +16,7 @@ as_one [] = Class (record { 0 = 0 }) []
 as_one (t ∷ []) = t
 as_one (t ∷ u ∷ ts) = Meet (t ∷ u ∷ ts)
 
+-- what is no intersection is its own one part; the type is given twice, as it is and opened by one level
 abbrev pub parts_at : Ty → Layer → List Ty
 parts_at t (Ty-F.Meet parts) = parts
 parts_at t _ = t ∷ []
@@ -25,6 +26,7 @@ abbrev pub flattened : List Ty → List Ty
 flattened [] = []
 flattened (t ∷ ts) = parts_at t (out-Ty t) ++ flattened ts
 
+-- the type is the same as one of these
 abbrev pub is_listed : Ty → List Ty → Bool
 is_listed t [] = false
 is_listed t (u ∷ us) = same t u || is_listed t us
@@ -38,10 +40,12 @@ distinct kept (t ∷ ts) = distinct (if is_listed t kept then kept else kept ++ 
 abbrev pub without_object : List Ty → List Ty
 without_object ts = if nat_lt 1 (length ts) then filter (λ t. not (is_object t)) ts else ts
 
+-- the argument is no wildcard
 abbrev pub is_exact_at : ArgLayer → Bool
 is_exact_at (Arg-F.Exact t) = true
 is_exact_at _ = false
 
+-- none of the arguments is a wildcard
 abbrev pub are_exact : List Arg → Bool
 are_exact [] = true
 are_exact (a ∷ args) = is_exact_at (out-Arg a) && are_exact args
@@ -52,10 +56,12 @@ is_plain_at (Ty-F.Class id args) = are_exact args
 is_plain_at (Ty-F.Raw id) = true
 is_plain_at _ = false
 
+-- there is a view, and it is the same as the type
 abbrev pub is_that : Ty → Option Ty → Bool
 is_that t None = false
 is_that t (Some v) = same v t
 
+-- the type is the view of the other one as class k; what is no class or raw type has no class, and is no view
 abbrev pub is_view_of : Table → Ty → Ty → Option ClassId → Bool
 is_view_of T t o None = false
 is_view_of T t o (Some k) = is_that t (view T k o)
@@ -64,10 +70,12 @@ is_view_of T t o (Some k) = is_that t (view T k o)
 abbrev pub covers : Table → Ty → Ty → Bool
 covers T t o = not (same o t) && (is_plain_at (out-Ty o) && is_view_of T t o (class_of t))
 
+-- one of these covers the type
 abbrev pub is_covered : Table → Ty → List Ty → Bool
 is_covered T t [] = false
 is_covered T t (o ∷ os) = covers T t o || is_covered T t os
 
+-- the types that none of `all` covers, in their order
 abbrev pub uncovered : Table → List Ty → List Ty → List Ty
 uncovered T all [] = []
 uncovered T all (t ∷ ts) = if is_covered T t all then uncovered T all ts else t ∷ uncovered T all ts
@@ -80,6 +88,7 @@ glb_parts T ts = let kept = without_object (distinct [] (flattened ts)) in uncov
 abbrev pub glb : Table → List Ty → Ty
 glb T ts = as_one (glb_parts T ts)
 
+-- by the classes of two types: one that has none, or an interface, clashes with nothing
 abbrev pub clash_of : Table → Ty → Ty → Option ClassId → Option ClassId → Bool
 clash_of T t u None o = false
 clash_of T t u (Some j) None = false
@@ -90,6 +99,7 @@ clash_of T t u (Some j) (Some k) =
 unfoldable pub clash : Table → Ty → Ty → Bool
 clash T t u = clash_of T t u (class_of t) (class_of u)
 
+-- the type clashes with one of these
 abbrev pub clashes : Table → Ty → List Ty → Bool
 clashes T t [] = false
 clashes T t (u ∷ us) = clash T t u || clashes T t us
@@ -99,10 +109,12 @@ abbrev pub classes_meet : Table → List Ty → Bool
 classes_meet T [] = false
 classes_meet T (t ∷ ts) = clashes T t ts || classes_meet T ts
 
+-- the type clashes with one of the earlier ones
 abbrev pub clashes_before : Table → List Ty → Ty → Bool
 clashes_before T [] t = false
 clashes_before T (e ∷ earlier) t = clash T e t || clashes_before T earlier t
 
+-- one of the types clashes with an earlier one, or with one that stands before it here
 abbrev pub brings_clash : Table → List Ty → List Ty → Bool
 brings_clash T earlier [] = false
 brings_clash T earlier (t ∷ ts) = clashes_before T earlier t || brings_clash T (earlier ++ t ∷ []) ts

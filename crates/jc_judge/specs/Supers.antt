@@ -16,10 +16,12 @@ module _ (E : ℕ → ℕ → Type 0) where
   abbrev pub IsAcyclic : Type 0
   IsAcyclic = (x : ℕ) (xs : List ℕ) (a : ℕ) → Path (x ∷ xs) a a → ⊥
 
+-- the type is one of the list
 abbrev pub IsIn : Ty → List Ty → Type 0
 IsIn t [] = ⊥
 IsIn t (u ∷ us) = (t ≡ u) ⊎ IsIn t us
 
+-- the class at a place in the table's list, by its id
 abbrev pub numbered : ℕ → ClassId
 numbered n = record { 0 = n }
 

@@ -32,6 +32,7 @@ PartProved tree Never = ⊥
 PartProved tree (Ask s t) = tree s t
 PartProved tree (Same s t) = s ≡ t
 
+-- a part is refuted by a refutation tree of its question, or where the two are not the same type
 abbrev pub PartRefuted : (Ty → Ty → Type 0) → Part → Type 0
 PartRefuted tree Sure = ⊥
 PartRefuted tree Never = Unit {0}
@@ -66,6 +67,7 @@ Refute T (suc d) env s t = (s ≢ t) × Refuted (Refute T d) env (question T env
 abbrev pub Contains : Table → ℕ → List Bounds → Arg → Arg → Type 0
 Contains T d env a b = PartProved (Proof T d env) (contained a b)
 
+-- the second argument doesn't contain the first, by a refutation tree of at most this height where subtyping is asked
 abbrev pub Excludes : Table → ℕ → List Bounds → Arg → Arg → Type 0
 Excludes T d env a b = PartRefuted (Refute T d env) (contained a b)
 

@@ -10,6 +10,7 @@ use Rattle.jc_types.specs.Reifying.{counted}
 use Rattle.jc_types.specs.Accessors.{vars_of, supers_of, class_count}
 use Rattle.jc_judge.specs.Kinds.{Layer, ArgLayer, class_of}
 
+-- the type that an argument is, and none for a wildcard
 abbrev pub exact_at : ArgLayer → List Ty
 exact_at (Arg-F.Exact t) = t ∷ []
 exact_at _ = []
@@ -19,6 +20,7 @@ abbrev pub exacts : List Arg → List Ty
 exacts [] = []
 exacts (a ∷ args) = exact_at (out-Arg a) ++ exacts args
 
+-- a class type with arguments becomes the raw type; every other type stays, an array as well
 abbrev pub erased_at : Ty → Layer → Ty
 erased_at t (Ty-F.Class id []) = t
 erased_at t (Ty-F.Class id (a ∷ args)) = Raw id
@@ -36,6 +38,7 @@ class_supers T id (Some args) =
     if length (exacts args) == length (vars_of T id) then map (subst (vars_of T id) (exacts args)) (supers_of T id)
     else map erased (supers_of T id)
 
+-- none for a primitive type, a variable and the null type
 abbrev pub supers_at : Table → Layer → List Ty
 supers_at T (Ty-F.Class id args) = class_supers T id (counted (vars_of T id) args)
 supers_at T (Ty-F.Raw id) = class_supers T id (counted (vars_of T id) [])
@@ -48,14 +51,17 @@ supers_at T _ = []
 unfoldable pub supers : Table → Ty → List Ty
 supers T t = supers_at T (out-Ty t)
 
+-- the first of two types, or the second where the first is missing
 abbrev pub or_else : Option Ty → Option Ty → Option Ty
 or_else (Some t) o = Some t
 or_else None o = o
 
+-- what f finds of the first type of which it finds anything
 abbrev pub first_of : (Ty → Option Ty) → List Ty → Option Ty
 first_of f [] = None
 first_of f (t ∷ ts) = or_else (f t) (first_of f ts)
 
+-- there is a class, and it is k
 abbrev pub is_class : ClassId → Option ClassId → Bool
 is_class k None = false
 is_class k (Some id) = id.0 == k.0

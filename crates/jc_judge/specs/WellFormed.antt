@@ -33,6 +33,7 @@ abbrev pub lower_parts : ArgLayer → List Ty → List Part
 lower_parts (Arg-F.Super l) bounds = map (Ask l) bounds
 lower_parts _ bounds = []
 
+-- the argument is a primitive type, or a wildcard with one for its bound
 abbrev pub is_primitive_arg : ArgLayer → Bool
 is_primitive_arg (Arg-F.Exact t) = is_primitive t
 is_primitive_arg Arg-F.Any = false
@@ -44,6 +45,7 @@ abbrev pub bare : List Bounds → List Bounds
 bare [] = []
 bare (b ∷ bs) = record { uppers = Class (record { 0 = 0 }) [] ∷ []; lower = None } ∷ bare bs
 
+-- none where both hold; where no answer is No, a question that stays open is the fault
 abbrev pub unless_deep : Answer → Answer → Option TypeFault
 unless_deep Yes Yes = None
 unless_deep _ _ = Some fault.Deep
@@ -75,6 +77,7 @@ abbrev pub KindChecked : Table → List Bounds → List Bounds → List Ty → �
 KindChecked T full plain bounds i s a found true = found ≡ Some (fault.PrimitiveArgument i)
 KindChecked T full plain bounds i s a found false = ReferenceChecked T full plain bounds i s a found
 
+-- `found` is the fault of argument i, primitive or not
 abbrev pub ArgChecked : Table → List Bounds → List Bounds → List Ty → ℕ → Ty → Arg → Option TypeFault → Type 0
 ArgChecked T full plain bounds i s a found = KindChecked T full plain bounds i s a found (is_primitive_arg (out-Arg a))
 
@@ -91,10 +94,12 @@ abbrev pub ClassChecked : Table → List Bounds → List VarId → List Ty → L
 ClassChecked T env vars by args found =
     let fresh = fresh_args T vars by vars args in ArgsChecked T (env ++ fresh) (env ++ bare fresh) vars by 0 vars by args found
 
+-- another number of arguments than the class has parameters is the fault, whatever else there is
 abbrev pub CountChecked : Table → List Bounds → List VarId → List Arg → Bool → Option TypeFault → Type 0
 CountChecked T env vars args true found = ClassChecked T env vars (captured_args (length env) args) args found
 CountChecked T env vars args false found = found ≡ Some fault.Count
 
+-- what is no class type has no fault of its own, nor has a raw type
 abbrev pub OwnChecked_at : Table → List Bounds → Layer → Option TypeFault → Type 0
 OwnChecked_at T env (Ty-F.Class id args) found = CountChecked T env (vars_of T id) args (length args == length (vars_of T id)) found
 OwnChecked_at T env _ found = found ≡ None
@@ -103,6 +108,7 @@ OwnChecked_at T env _ found = found ≡ None
 unfoldable pub OwnChecked : Table → List Bounds → Ty → Option TypeFault → Type 0
 OwnChecked T env t found = OwnChecked_at T env (out-Ty t) found
 
+-- `found` is the fault of the first of these types that has one of its own
 abbrev pub AllChecked : Table → List Bounds → List Ty → Option TypeFault → Type 0
 AllChecked T env [] found = found ≡ None
 AllChecked T env (t ∷ ts) found = (f : Option TypeFault) × OwnChecked T env t f × OrElse f (AllChecked T env ts) found

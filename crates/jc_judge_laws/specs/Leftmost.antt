@@ -15,10 +15,12 @@ pub data Ref : Type 0 where
   Declared : VarId → Ref
   Fresh : CaptureId → Ref
 
+-- what the first of them has; None where it has none, or there is none
 abbrev pub first_source : List (Option Ref) → Option Ref
 first_source [] = None
 first_source (r ∷ rs) = r
 
+-- a layer whose parts are done: None where no variable is met
 abbrev pub source_step : Ty-F (Unit {0}) (Option Ref) → Option Ref
 source_step (Ty-F.Array r n) = r
 source_step (Ty-F.Variable v) = Some (Declared v)
@@ -30,10 +32,12 @@ source_step _ = None
 unfoldable pub source : Ty → Option Ref
 source t = fold-Ty (Unit {0}) (Option Ref) (λ _. tt) source_step t
 
+-- the bounds of a declared variable, and the upper bounds of a captured one
 abbrev pub bounds_at : Table → List Bounds → Ref → List Ty
 bounds_at T env (Declared v) = bounds_of T v
 bounds_at T env (Fresh c) = uppers_of env c
 
+-- the first of the list, if there is one
 abbrev pub head : List Ty → Option Ty
 head [] = None
 head (b ∷ bs) = Some b
@@ -61,6 +65,7 @@ abbrev pub bound_erasure : Table → List Bounds → List Ty → Erased
 bound_erasure T env [] = object
 bound_erasure T env (b ∷ bs) = erasure T env b
 
+-- a captured variable is one of the env; of a declared one, and of none, nothing is asked
 abbrev pub IsKnown : List Bounds → Option Ref → Type 0
 IsKnown env None = Unit {0}
 IsKnown env (Some (Declared v)) = Unit {0}

@@ -41,6 +41,7 @@ pub data Step : Type 0 where
   Moves : (shown : Shown) (after : State) → Step
   Asks : (answered : Option ℕ → State) → Step
 
+-- the step of a machine of which the table says nothing: it is over
 abbrev pub stuck : Step
 stuck = Moves Quiet (Over Stuck)
 
@@ -50,6 +51,7 @@ settled classes world waiting (Goes now) = Going world now waiting
 settled classes world waiting (Throws fault now) = fault_thrown classes world now waiting fault
 settled classes world waiting Fails = Over Stuck
 
+-- the same as a step, which shows nothing
 abbrev pub acts : List ClassModel → List Waiting → World × Act → Step
 acts classes waiting done = Moves Quiet (settled classes done.0 waiting done.1)
 
@@ -73,6 +75,7 @@ sorts_of_call false descriptor = parameter_sorts descriptor
 
 -- ---- native methods
 
+-- a native method by its class, name and descriptor; only a method that is marked so (ACC_NATIVE) is one
 abbrev pub is_native_of : List ℕ → List ℕ → List ℕ → List ℕ → MethodModel → Bool
 is_native_of wanted_class wanted_name wanted_descriptor class m = bytes_eq class wanted_class && bytes_eq m.name wanted_name && bytes_eq m.descriptor wanted_descriptor
 
@@ -92,6 +95,7 @@ native_at classes place = option_and_then (λ (m : MethodModel). if has_flag 0x0
 abbrev pub identity_hash : ℕ → Value
 identity_hash address = Whole (pos (address % 2 ^ 31))
 
+-- className: a new String of the name that the type of the object or array has, where the classes have String
 abbrev pub name_made : List ClassModel → World → ℕ → Frame → List Waiting → List Value → Option World → Step
 name_made classes world next now waiting rest (Some made) = acts classes waiting (made, pushes next now rest (Address (string_address world)))
 name_made classes world next now waiting rest None = stuck
@@ -115,6 +119,7 @@ native_call classes world next now waiting _ _ rest = stuck
 
 -- ---- calls: the caller waits at its call, with the arguments taken from its stack
 
+-- a frame for the method runs; where it has no code, or no room for its arguments, the machine is stuck
 abbrev pub entered : World → Frame → List Waiting → List Value → Option Frame → Step
 entered world now waiting rest (Some frame) = Moves Quiet (Going world frame (Caller (with_values rest now) ∷ waiting))
 entered world now waiting rest None = stuck
@@ -128,6 +133,7 @@ abbrev pub called : List ClassModel → World → ℕ → Frame → List Waiting
 called classes world next now waiting arguments rest (Some target) = called_by classes world next now waiting target arguments rest (native_at classes target)
 called classes world next now waiting arguments rest None = stuck
 
+-- a NullPointerException comes up at the call
 abbrev pub null_pointer : List ClassModel → World → Frame → List Waiting → Step
 null_pointer classes world now waiting = acts classes waiting (world, throws NullPointer now)
 
@@ -150,6 +156,7 @@ abbrev pub special_class : List ClassModel → ℕ → List ℕ → ℕ → Opti
 special_class classes current name class =
     if not (bytes_eq name (codes "<init>")) && not (class == current) && list_any (λ (k : ℕ). k == class) (line_of classes current) then super_of classes current else Some class
 
+-- the place of a method, if it is there and not static
 abbrev pub own_method_if : ℕ × ℕ → Option MethodModel → Option (ℕ × ℕ)
 own_method_if place (Some m) = if is_static_method m then None else Some place
 own_method_if place None = None
@@ -160,11 +167,13 @@ special_method classes current class name descriptor =
     option_and_then (λ place. own_method_if place (method_at classes place))
     (option_and_then (method_of classes name descriptor) (option_and_then (special_class classes current name) (class_named classes class)))
 
+-- the call of that method; on null a NullPointerException
 abbrev pub called_specially : List ClassModel → Option (ℕ × ℕ) → World → ℕ → Frame → List Waiting → Option (List Value × List Value) → Step
 called_specially classes target world next now waiting (Some (Address at ∷ more, rest)) = called classes world next now waiting (Address at ∷ more) rest target
 called_specially classes target world next now waiting (Some (NullValue ∷ more, rest)) = null_pointer classes world now waiting
 called_specially classes target world next now waiting _ = stuck
 
+-- the call of a method without an object
 abbrev pub called_statically : List ClassModel → ℕ × ℕ → World → ℕ → Frame → List Waiting → Option (List Value × List Value) → Step
 called_statically classes target world next now waiting (Some (arguments, rest)) = called classes world next now waiting arguments rest (Some target)
 called_statically classes target world next now waiting None = stuck
@@ -177,6 +186,7 @@ returned_to classes world caller waiting (Some v) (Some next) = settled classes 
 returned_to classes world caller waiting None (Some next) = settled classes world waiting (leaves next caller caller.stack.values)
 returned_to classes world caller waiting v None = Over Stuck
 
+-- the place behind the instruction at which the frame stands
 abbrev pub behind : List ClassModel → Frame → Option ℕ
 behind classes now = option_map (λ placed. placed.1) (placed_at classes now.class now.method now.at)
 

@@ -14,9 +14,11 @@ use Rattle.jc_class_out.specs.Instructions.{ins_size}
 
 -- ---- classes
 
+-- the number of the first class of this name; a class's number is its place in the list, from 0
 abbrev pub class_named : List ClassModel → List ℕ → Option ℕ
 class_named classes name = position (λ c. bytes_eq c.name name) classes
 
+-- a number that is no class has the empty name
 abbrev pub name_of : List ClassModel → ℕ → List ℕ
 name_of classes k = elim (slice_get classes k) [ Some c ↦ c.name | None ↦ [] ]
 
@@ -24,6 +26,7 @@ name_of classes k = elim (slice_get classes k) [ Some c ↦ c.name | None ↦ []
 abbrev pub super_of : List ClassModel → ℕ → Option ℕ
 super_of classes k = option_and_then (λ c. option_and_then (class_named classes) c.superclass) (slice_get classes k)
 
+-- the direct superinterfaces, where the classes have them
 abbrev pub interfaces_of : List ClassModel → ℕ → List ℕ
 interfaces_of classes k = elim (slice_get classes k) [ Some c ↦ filter_map (class_named classes) c.interfaces | None ↦ [] ]
 
@@ -31,6 +34,7 @@ interfaces_of classes k = elim (slice_get classes k) [ Some c ↦ filter_map (cl
 abbrev pub has_flag : ℕ → ℕ → Bool
 has_flag flag flags = not (bit_and flags flag == 0)
 
+-- a number that is no class has no flags
 abbrev pub class_has_flag : List ClassModel → ℕ → ℕ → Bool
 class_has_flag classes flag k = elim (slice_get classes k) [ Some c ↦ has_flag flag c.flags | None ↦ false ]
 
@@ -44,6 +48,7 @@ line_on classes (suc n) (Some k) = k ∷ line_on classes n (super_of classes k)
 abbrev pub line_of : List ClassModel → ℕ → List ℕ
 line_of classes k = line_on classes (length classes) (Some k)
 
+-- the first if it is there, and the second otherwise; then what is there as a list
 abbrev pub or_else : {A : Type 0} → Option A → Option A → Option A
 or_else (Some x) y = Some x
 or_else None y = y
@@ -57,17 +62,21 @@ unfoldable pub below_on : List ClassModel → ℕ → ℕ → ℕ → Bool
 below_on classes zero wanted k = false
 below_on classes (suc n) wanted k = (k == wanted) || list_any (below_on classes n wanted) (listed (super_of classes k) ++ interfaces_of classes k)
 
+-- the same over as many steps as there are classes, which is enough
 abbrev pub is_class_below : List ClassModel → ℕ → ℕ → Bool
 is_class_below classes k wanted = below_on classes (length classes) wanted k
 
 -- ---- fields
 
+-- a field by its name and its descriptor, both of which have to agree
 abbrev pub is_field : List ℕ → List ℕ → FieldModel → Bool
 is_field name descriptor f = bytes_eq f.name name && bytes_eq f.descriptor descriptor
 
+-- ACC_STATIC (JVMS 4.5)
 abbrev pub is_static_field : FieldModel → Bool
 is_static_field f = has_flag 0x0008 f.flags
 
+-- the fields that a class declares, static or not, in the order of the class file
 abbrev pub fields_of : List ClassModel → ℕ → List FieldModel
 fields_of classes k = elim (slice_get classes k) [ Some c ↦ c.fields | None ↦ [] ]
 
@@ -84,6 +93,7 @@ field_on classes name descriptor (suc n) k =
     or_else (option_map (λ (i : ℕ). (k, i)) (position (is_field name descriptor) (fields_of classes k)))
     (first_some (field_on classes name descriptor n) (interfaces_of classes k ++ listed (super_of classes k)))
 
+-- the same from the class of this name
 abbrev pub field_of : List ClassModel → List ℕ → List ℕ → List ℕ → Option (ℕ × ℕ)
 field_of classes class name descriptor = option_and_then (field_on classes name descriptor (length classes)) (class_named classes class)
 
@@ -105,9 +115,11 @@ slot_of classes name descriptor k = position (λ (s : ℕ × FieldModel). (s.0 =
 
 -- ---- methods
 
+-- a method by its name and its descriptor, both of which have to agree
 abbrev pub is_method : List ℕ → List ℕ → MethodModel → Bool
 is_method name descriptor m = bytes_eq m.name name && bytes_eq m.descriptor descriptor
 
+-- ACC_STATIC (JVMS 4.6)
 abbrev pub is_static_method : MethodModel → Bool
 is_static_method m = has_flag 0x0008 m.flags
 
@@ -115,6 +127,7 @@ is_static_method m = has_flag 0x0008 m.flags
 abbrev pub is_selectable : MethodModel → Bool
 is_selectable m = not (has_flag 0x0002 m.flags) && not (is_static_method m)
 
+-- the methods that a class declares, in the order of the class file
 abbrev pub methods_of : List ClassModel → ℕ → List MethodModel
 methods_of classes k = elim (slice_get classes k) [ Some c ↦ c.methods | None ↦ [] ]
 
@@ -130,6 +143,7 @@ method_of classes name descriptor k = method_among classes (is_method name descr
 abbrev pub selected : List ClassModel → List ℕ → List ℕ → ℕ → Option (ℕ × ℕ)
 selected classes name descriptor k = method_among classes (λ m. is_method name descriptor m && is_selectable m) (line_of classes k)
 
+-- the method of that class and number
 abbrev pub method_at : List ClassModel → ℕ × ℕ → Option MethodModel
 method_at classes place = slice_get (methods_of classes place.0) place.1
 
@@ -139,6 +153,7 @@ initialiser_of classes k = position (λ m. is_method (codes "<clinit>") (codes "
 
 -- ---- code
 
+-- the code of the method of this number in this class; an abstract or a native one has none
 abbrev pub code_at : List ClassModel → ℕ → ℕ → Option CodeModel
 code_at classes k m = option_and_then (λ (method : MethodModel). method.code) (slice_get (methods_of classes k) m)
 

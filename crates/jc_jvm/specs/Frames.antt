@@ -23,6 +23,7 @@ pub data Act : Type 0 where
 
 -- ---- the stack
 
+-- the frame with these values on its stack, from the top on
 abbrev pub with_values : List Value → Frame → Frame
 with_values values now = record now { stack = record now.stack { values = values } }
 
@@ -30,6 +31,7 @@ with_values values now = record now { stack = record now.stack { values = values
 abbrev pub throws : Fault → Frame → Act
 throws fault now = Throws fault (with_values [] now)
 
+-- the frame goes on at this place with that stack; without one there was no room
 abbrev pub go_on : ℕ → Frame → Option Stacked → Act
 go_on next now None = Fails
 go_on next now (Some stack) = Goes (record now { at = next; stack = stack })
@@ -44,6 +46,7 @@ leaves next now values = Goes (record now { at = next; stack = record now.stack 
 
 -- ---- locals
 
+-- the local is there and holds a long
 abbrev pub is_long : Option (Option Value) → Bool
 is_long (Some (Some (Long n))) = true
 is_long _ = false
@@ -57,6 +60,7 @@ abbrev pub units_behind : ℕ → Value → List (Option Value) → List (Option
 units_behind local (Long n) locals = slice_set locals (local + 1) None
 units_behind local _ locals = locals
 
+-- the local of the value's last unit
 abbrev pub last_unit : ℕ → Value → ℕ
 last_unit local (Long n) = local + 1
 last_unit local _ = local
@@ -66,6 +70,7 @@ abbrev pub with_local : ℕ → Value → List (Option Value) → Option (List (
 with_local local v locals =
     if nat_lt (last_unit local v) (length locals) then Some (units_behind local v (slice_set (without_long_before local locals) local (Some v))) else None
 
+-- what the local holds, if it is there and of the sort
 abbrev pub local_of_sort : Sort → Option (Option Value) → Option Value
 local_of_sort sort (Some (Some v)) = if is_of_sort sort v then Some v else None
 local_of_sort sort _ = None
@@ -78,6 +83,7 @@ laid_out [] = []
 laid_out (Long n ∷ vs) = Some (Long n) ∷ None ∷ laid_out vs
 laid_out (v ∷ vs) = Some v ∷ laid_out vs
 
+-- the arguments first, and then so many locals that hold nothing; None where the arguments have no room
 abbrev pub locals_of : ℕ → List Value → Option (List (Option Value))
 locals_of count arguments =
     if nat_le (length (laid_out arguments)) count then Some (laid_out arguments ++ replicate (count - length (laid_out arguments)) None) else None

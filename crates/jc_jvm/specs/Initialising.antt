@@ -15,6 +15,7 @@ use Rattle.jc_jvm.specs.declared.world.Ending.TheVariants.{Ended, Stuck}
 use Rattle.jc_jvm.specs.declared.world.Fault.TheVariants.{NoClassDefFound}
 use Rattle.jc_jvm.specs.declared.world.World.{World}
 
+-- the frame of the class's initialiser goes on, and the class waits for it; without a frame the machine is stuck
 abbrev pub initialiser_begins : List ClassModel → World → ℕ → List Waiting → Option Frame → State
 initialiser_begins classes world c waiting (Some frame) = Going world frame (Initialising c ∷ waiting)
 initialiser_begins classes world c waiting None = Over Stuck
@@ -50,5 +51,6 @@ initialised_on classes (suc n) c world waiting =
       ]
     ]
 
+-- a chain of superclasses has no more of them than there are classes
 abbrev pub initialised : List ClassModel → ℕ → World → List Waiting → State
 initialised classes c world waiting = initialised_on classes (length classes) c world waiting

@@ -23,6 +23,7 @@ use Rattle.jc_jvm.specs.declared.value.Value.TheVariants.{Whole, Long, Address, 
 
 -- ---- the stack
 
+-- every value but a long has one unit (category 1 of JVMS 2.11.1)
 abbrev pub is_one_unit : Value → Bool
 is_one_unit (Long n) = false
 is_one_unit _ = true
@@ -35,6 +36,7 @@ abbrev pub one_unit : List Value → Option (List Value × List Value)
 one_unit (a ∷ rest) = if is_one_unit a then Some (a ∷ [], rest) else None
 one_unit [] = None
 
+-- the first value has one unit, and the one beneath it has to have one too
 abbrev pub second_unit : Value → List Value → Option (List Value × List Value)
 second_unit a (b ∷ rest) = if is_one_unit b then Some (a ∷ b ∷ [], rest) else None
 second_unit a [] = None
@@ -44,6 +46,7 @@ abbrev pub two_units : List Value → Option (List Value × List Value)
 two_units (a ∷ rest) = if is_one_unit a then second_unit a rest else Some (a ∷ [], rest)
 two_units [] = None
 
+-- as many units as are wanted; None where there are fewer, or where a long would be cut in two
 abbrev pub units_taken : Width → List Value → Option (List Value × List Value)
 units_taken NoUnit values = Some ([], values)
 units_taken OneUnit values = one_unit values
@@ -51,12 +54,14 @@ units_taken TwoUnits values = two_units values
 
 -- ---- whole numbers; they wrap, and shifts use the low five or six bits
 
+-- how far the low bits of an int shift an int, or a long
 abbrev pub int_shift : ℤ → ℕ
 int_shift n = cast_unsigned w32 n % 32
 
 abbrev pub long_shift : ℤ → ℕ
 long_shift n = cast_unsigned w32 n % 64
 
+-- -1, 0 or 1, as lcmp gives it
 abbrev pub compared : ℤ → ℤ → ℤ
 compared a b = if int_lt a b then negsuc 0 else if int_lt b a then pos 1 else pos 0
 
@@ -88,6 +93,7 @@ long_shifted Left a b = int_shl w64 a (long_shift b)
 long_shifted Right a b = int_shr a (long_shift b)
 long_shifted Unsigned a b = cast_signed w64 (cast_unsigned w64 a / 2 ^ long_shift b)
 
+-- a division by zero throws, which is told elsewhere
 abbrev pub is_zero : ℤ → Bool
 is_zero n = int_eq n (pos 0)
 
@@ -100,9 +106,11 @@ abbrev pub long_quotient : Division → ℤ → ℤ → ℤ
 long_quotient Quotient a b = int_wrapping_div w64 a b
 long_quotient Remainder a b = int_rem a b
 
+-- l2i: the low four bytes, with the sign that they have as an int
 abbrev pub low_int : ℤ → ℤ
 low_int n = cast_signed w32 (cast_unsigned w64 n % 2 ^ 32)
 
+-- ineg, i2l, i2b, i2c and i2s; a char has no sign
 abbrev pub of_int : IntConversion → ℤ → Value
 of_int Negated n = Whole (int_wrapping_neg w32 n)
 of_int Widened n = Long n
@@ -110,12 +118,14 @@ of_int ToByte n = Whole (cast_signed w8 (cast_unsigned w32 n % 2 ^ 8))
 of_int ToChar n = Whole (pos (cast_unsigned w32 n % 2 ^ 16))
 of_int ToShort n = Whole (cast_signed w16 (cast_unsigned w32 n % 2 ^ 16))
 
+-- lneg and l2i
 abbrev pub of_long : LongConversion → ℤ → Value
 of_long LongNegated n = Long (int_wrapping_neg w64 n)
 of_long Narrowed n = Whole (low_int n)
 
 -- ---- tests of jumps
 
+-- what each test says of two ints, or of an int and 0
 abbrev pub holds : Comparison → ℤ → ℤ → Bool
 holds Equal a b = int_eq a b
 holds Unequal a b = not (int_eq a b)
@@ -124,6 +134,7 @@ holds NotLess a b = int_le b a
 holds Greater a b = int_lt b a
 holds NotGreater a b = int_le a b
 
+-- whether two references are the same object, or both null; None of values that are no references
 abbrev pub same_reference : Value → Value → Option Bool
 same_reference (Address a) (Address b) = Some (a == b)
 same_reference NullValue NullValue = Some true

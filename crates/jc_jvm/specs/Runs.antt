@@ -22,6 +22,7 @@ use Rattle.jc_jvm.specs.declared.world.Ending.{Ending}
 
 -- ---- failed checks: a checkcast whose reference isn't of its type
 
+-- 1 where the topmost value is a reference to what isn't of the type, and else 0; null is of each type, and a type that isn't there is not asked
 abbrev pub misfits : List ClassModel → List Cell → List Value → Option Shape → ℕ
 misfits classes heap (Address at ∷ rest) (Some shape) = if fits classes heap shape (Address at) then 0 else 1
 misfits classes heap _ _ = 0
@@ -52,6 +53,7 @@ pub record Run : Type 0 where
 abbrev pub rests : State → Run
 rests s = record { output = []; taken = 0; failed = 0; after = s }
 
+-- a byte put out, a byte taken, or failed checks before a run
 abbrev pub showing : Shown → Run → Run
 showing Quiet run = run
 showing (Puts byte) run = record run { output = byte ∷ run.output }
@@ -84,5 +86,6 @@ pub record Seen : Type 0 where
   pub taken : ℕ
   pub ending : Option Ending
 
+-- what is seen of it leaves out failed checks and the state
 abbrev pub seen_of : Run → Seen
 seen_of run = record { output = run.output; taken = run.taken; ending = ending_of run.after }

@@ -20,6 +20,7 @@ abbrev pub cell_with : ℕ → Value → Cell → Cell
 cell_with slot v (Instance class fields) = Instance class (slice_set fields slot v)
 cell_with slot v (Array of items) = Array of (slice_set items slot v)
 
+-- where nothing stands at the address, the heap stays
 abbrev pub heap_set : List Cell → ℕ → ℕ → Value → Option Cell → List Cell
 heap_set heap at slot v None = heap
 heap_set heap at slot v (Some cell) = slice_set heap at (cell_with slot v cell)
@@ -28,6 +29,7 @@ heap_set heap at slot v (Some cell) = slice_set heap at (cell_with slot v cell)
 abbrev pub heap_with : List Cell → ℕ → ℕ → Value → List Cell
 heap_with heap at slot v = heap_set heap at slot v (slice_get heap at)
 
+-- no slot is where nothing stands
 abbrev pub cell_has : ℕ → Option Cell → Bool
 cell_has slot None = false
 cell_has slot (Some cell) = nat_lt slot (length (slots_of cell))
@@ -38,6 +40,7 @@ has_slot heap at slot = cell_has slot (slice_get heap at)
 
 -- ---- static fields, by the numbers of the class and of the field
 
+-- the value of that field; it changes nothing to set a field that isn't there
 abbrev pub static_in : List (List Value) → ℕ → ℕ → Option Value
 static_in statics class field = option_and_then (λ (values : List Value). slice_get values field) (slice_get statics class)
 

@@ -17,6 +17,7 @@ units_of (Long n) = 2
 units_of (Address at) = 1
 units_of NullValue = 1
 
+-- the units of all these values
 abbrev pub units_in : List Value → ℕ
 units_in [] = 0
 units_in (v ∷ vs) = units_of v + units_in vs

@@ -45,6 +45,7 @@ main_of classes name =
 
 -- ---- arguments: a String of each, in order, and then their array
 
+-- the UTF-16 units of an argument
 abbrev pub units_of_text : List ℕ → List ℕ
 units_of_text text = flat_map encode_utf16 (chars text)
 
@@ -60,6 +61,7 @@ arguments_cell classes values = Array (shape_of_class (unwrap_or (string_class c
 
 -- ---- the state before the first step: the main class is initialised before main
 
+-- the frame of main waits for the initialisation; without room for its argument the machine is stuck
 abbrev pub main_waits : List ClassModel → ℕ → World → Option Frame → State
 main_waits classes k world (Some frame) = initialised classes k world (Caller frame ∷ [])
 main_waits classes k world None = Over Stuck

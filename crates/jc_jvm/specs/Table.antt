@@ -182,30 +182,37 @@ abbrev pub gives : ℕ → Frame → List Value → Option Value → Act
 gives next now rest (Some v) = pushes next now rest v
 gives next now rest None = Fails
 
+-- two ints or two longs, the second operand on top, give way to one value; with values of other sorts the table allows nothing
 abbrev pub int_pairs : Operator → ℕ → Frame → List Value → Act
 int_pairs how next now (Whole b ∷ Whole a ∷ rest) = pushes next now rest (Whole (int_of_two how a b))
 int_pairs how next now _ = Fails
 
+-- the same of two longs
 abbrev pub long_pairs : Operator → ℕ → Frame → List Value → Act
 long_pairs how next now (Long b ∷ Long a ∷ rest) = pushes next now rest (Long (long_of_two how a b))
 long_pairs how next now _ = Fails
 
+-- what is shifted is beneath the int that tells how far
 abbrev pub int_shifts : Shift → ℕ → Frame → List Value → Act
 int_shifts how next now (Whole b ∷ Whole a ∷ rest) = pushes next now rest (Whole (int_shifted how a b))
 int_shifts how next now _ = Fails
 
+-- a long shifted by the int on top of it
 abbrev pub long_shifts : Shift → ℕ → Frame → List Value → Act
 long_shifts how next now (Whole b ∷ Long a ∷ rest) = pushes next now rest (Long (long_shifted how a b))
 long_shifts how next now _ = Fails
 
+-- a divisor of zero throws an ArithmeticException
 abbrev pub int_quotients : Division → ℕ → Frame → List Value → Act
 int_quotients how next now (Whole b ∷ Whole a ∷ rest) = if is_zero b then throws Arithmetic now else pushes next now rest (Whole (int_quotient how a b))
 int_quotients how next now _ = Fails
 
+-- the same of two longs
 abbrev pub long_quotients : Division → ℕ → Frame → List Value → Act
 long_quotients how next now (Long b ∷ Long a ∷ rest) = if is_zero b then throws Arithmetic now else pushes next now rest (Long (long_quotient how a b))
 long_quotients how next now _ = Fails
 
+-- the topmost value gives way to what it is changed to
 abbrev pub of_ints : IntConversion → ℕ → Frame → List Value → Act
 of_ints how next now (Whole n ∷ rest) = pushes next now rest (of_int how n)
 of_ints how next now _ = Fails
@@ -214,21 +221,26 @@ abbrev pub of_longs : LongConversion → ℕ → Frame → List Value → Act
 of_longs how next now (Long n ∷ rest) = pushes next now rest (of_long how n)
 of_longs how next now _ = Fails
 
+-- lcmp: two longs give way to an int
 abbrev pub comparisons : ℕ → Frame → List Value → Act
 comparisons next now (Long b ∷ Long a ∷ rest) = pushes next now rest (Whole (compared a b))
 comparisons next now _ = Fails
 
+-- the value of the local, if it is of the instruction's sort, is pushed where there is room
 abbrev pub loads : Sort → ℕ → ℕ → Frame → Act
 loads sort local next now = gives next now now.stack.values (local_of_sort sort (slice_get now.locals local))
 
+-- the frame goes on with these locals; None where there is no such local
 abbrev pub keeps : ℕ → Frame → List Value → Option (List (Option Value)) → Act
 keeps next now rest (Some locals) = leaves next (record now { locals = locals }) rest
 keeps next now rest None = Fails
 
+-- the topmost value, if it is of the instruction's sort, is put into the local
 abbrev pub stores : Sort → ℕ → ℕ → Frame → List Value → Act
 stores sort local next now (v ∷ rest) = if is_of_sort sort v then keeps next now rest (with_local local v now.locals) else Fails
 stores sort local next now [] = Fails
 
+-- iinc: the local has to hold an int, which wraps
 abbrev pub steps : ℕ → ℤ → ℕ → Frame → Option (Option Value) → Act
 steps local by next now (Some (Some (Whole n))) = keeps next now now.stack.values (with_local local (Whole (int_wrapping_add w32 n by)) now.locals)
 steps local by next now _ = Fails
@@ -238,6 +250,7 @@ abbrev pub discards : ℕ → Frame → Option (List Value × List Value) → Ac
 discards next now (Some taken) = leaves next now taken.1
 discards next now None = Fails
 
+-- swap: neither value may be a long
 abbrev pub swaps : ℕ → Frame → List Value → Act
 swaps next now (a ∷ b ∷ rest) = if is_both_one_unit a b then leaves next now (b ∷ a ∷ rest) else Fails
 swaps next now _ = Fails
@@ -246,10 +259,12 @@ swaps next now _ = Fails
 abbrev pub copies_by : ℕ → Frame → List Value → Act
 copies_by next now values = if nat_le (units_in values) now.stack.limit then leaves next now values else Fails
 
+-- the copied values come twice, and what stood under them between the two
 abbrev pub copies_under : ℕ → Frame → List Value → Option (List Value × List Value) → Act
 copies_under next now copied (Some under) = copies_by next now (copied ++ (under.0 ++ (copied ++ under.1)))
 copies_under next now copied None = Fails
 
+-- the topmost units are copied; `under` is how many units beneath them the copy goes
 abbrev pub copies : Width → ℕ → Frame → Option (List Value × List Value) → Act
 copies under next now (Some taken) = copies_under next now taken.0 (units_taken under taken.1)
 copies under next now None = Fails
@@ -259,6 +274,7 @@ abbrev pub jumps : ℕ → ℕ → Frame → List Value → Bool → Act
 jumps to next now rest true = leaves to now rest
 jumps to next now rest false = leaves next now rest
 
+-- the topmost int against 0, or two ints, the second operand on top
 abbrev pub int_jumps : Comparison → ℕ → ℕ → Frame → List Value → Act
 int_jumps test to next now (Whole n ∷ rest) = jumps to next now rest (holds test n (pos 0))
 int_jumps test to next now _ = Fails
@@ -272,10 +288,12 @@ abbrev pub turned : Bool → Bool → Bool
 turned true test = not test
 turned false test = test
 
+-- by a test of references; where there is none, the table allows nothing
 abbrev pub reference_jumps : Bool → ℕ → ℕ → Frame → List Value → Option Bool → Act
 reference_jumps other to next now rest (Some test) = jumps to next now rest (turned other test)
 reference_jumps other to next now rest None = Fails
 
+-- if_acmpeq and if_acmpne, and ifnull and ifnonnull
 abbrev pub pair_jumps : Bool → ℕ → ℕ → Frame → List Value → Act
 pair_jumps other to next now (b ∷ a ∷ rest) = reference_jumps other to next now rest (same_reference a b)
 pair_jumps other to next now _ = Fails
@@ -313,15 +331,18 @@ abbrev pub alone_of : Group → Option Plain
 alone_of (Alone plain) = Some plain
 alone_of group = None
 
+-- bipush and sipush, whose number is pushed as an int
 abbrev pub with_number : Group → ℤ → Option Plain
 with_number Numbers n = Some (Push (Whole n))
 with_number group n = None
 
+-- ldc of an int and ldc2_w of a long; ldc of a string isn't among them, since it touches the heap
 abbrev pub with_constant : Group → Loaded → Option Plain
 with_constant Literals (LoadedWhole n) = Some (Push (Whole n))
 with_constant Longs (LoadedLong n) = Some (Push (Long n))
 with_constant group constant = None
 
+-- loads and stores of a local, and iinc
 abbrev pub on_local : Group → ℕ → Option Plain
 on_local (Loads sort) local = Some (Load sort local)
 on_local (Stores sort) local = Some (Store sort local)
@@ -331,6 +352,7 @@ abbrev pub by_step : Group → ℕ → ℤ → Option Plain
 by_step Steps local by = Some (Increment local by)
 by_step group local by = None
 
+-- jumps to this place, by their tests
 abbrev pub jump_to : Group → ℕ → Option Plain
 jump_to (IntJumps test) to = Some (JumpByInt test to)
 jump_to (IntPairJumps test) to = Some (JumpByInts test to)
@@ -339,6 +361,7 @@ jump_to (NullJumps other) to = Some (JumpByNull other to)
 jump_to Jumps to = Some (Jump to)
 jump_to group to = None
 
+-- None of an instruction that doesn't touch its frame alone, or whose operand isn't its own
 abbrev pub plain_of : Group → Operand → Option Plain
 plain_of group op.Nothing = alone_of group
 plain_of group (op.Number n) = with_number group n
@@ -353,6 +376,7 @@ abbrev pub case_of : List SwitchCase → ℤ → ℕ → ℕ
 case_of [] n otherwise = otherwise
 case_of (c ∷ cs) n otherwise = if int_le c.key n && int_le n c.key then c.at else case_of cs n otherwise
 
+-- lookupswitch takes the int on top; its cases go to places in the code
 abbrev pub switches : ℕ → List SwitchCase → Frame → List Value → Act
 switches otherwise cases now (Whole n ∷ rest) = leaves (case_of cases n otherwise) now rest
 switches otherwise cases now _ = Fails
@@ -367,6 +391,7 @@ initialised_first classes world now waiting (Some Failed) c step = MovesTo Quiet
 initialised_first classes world now waiting (Some Untouched) c step = MovesTo Quiet (initialised classes c world (Caller now ∷ waiting))
 initialised_first classes world now waiting None c step = stuck
 
+-- the same by the state that the class is in
 abbrev pub first_initialised : List ClassModel → World → Frame → List Waiting → ℕ → Step → Step
 first_initialised classes world now waiting c step = initialised_first classes world now waiting (state_of_class world c) c step
 
@@ -375,18 +400,22 @@ abbrev pub static_if : List ClassModel → ℕ × ℕ → Option FieldModel → 
 static_if classes place (Some f) = if is_static_field f then Some place else None
 static_if classes place None = None
 
+-- the class and the number of a static field, by its names (JVMS 5.4.3.2)
 abbrev pub static_field : List ClassModel → List ℕ → List ℕ → List ℕ → Option (ℕ × ℕ)
 static_field classes class name descriptor = option_and_then (λ place. static_if classes place (field_at classes place)) (field_of classes class name descriptor)
 
+-- getstatic: the field's class is initialised first, and then its value is pushed; without a field the machine is stuck
 abbrev pub static_loads : List ClassModel → Sort → World → ℕ → Frame → List Waiting → Option (ℕ × ℕ) → Step
 static_loads classes sort world next now waiting (Some place) =
     first_initialised classes world now waiting place.0 (acts classes waiting (world, field_pushed sort next now now.stack.values (statics_at world place)))
 static_loads classes sort world next now waiting None = stuck
 
+-- the field gets the topmost value, if that is of the field's sort
 abbrev pub static_kept : Sort → World → ℕ → Frame → ℕ × ℕ → List Value → Act_in
 static_kept sort world next now place (v ∷ rest) = if is_of_sort sort v then (with_static place v world, leaves next now rest) else (world, Fails)
 static_kept sort world next now place [] = (world, Fails)
 
+-- putstatic, in the same way
 abbrev pub static_stores : List ClassModel → Sort → World → ℕ → Frame → List Waiting → Option (ℕ × ℕ) → Step
 static_stores classes sort world next now waiting (Some place) =
     first_initialised classes world now waiting place.0 (acts classes waiting (static_kept sort world next now place now.stack.values))
@@ -396,6 +425,7 @@ static_stores classes sort world next now waiting None = stuck
 abbrev pub instance_slot : List ClassModel → List ℕ → List ℕ → List ℕ → Option ℕ
 instance_slot classes class name descriptor = option_and_then (λ (place : ℕ × ℕ). slot_of classes name descriptor place.0) (field_of classes class name descriptor)
 
+-- getfield and putfield by the slot in the object; without one the machine is stuck
 abbrev pub field_loads : List ClassModel → Sort → World → ℕ → Frame → List Waiting → Option ℕ → Step
 field_loads classes sort world next now waiting (Some slot) = acts classes waiting (world, field_loaded sort slot world next now now.stack.values)
 field_loads classes sort world next now waiting None = stuck
@@ -404,14 +434,17 @@ abbrev pub field_stores : List ClassModel → Sort → World → ℕ → Frame �
 field_stores classes sort world next now waiting (Some slot) = acts classes waiting (field_stored sort slot world next now now.stack.values)
 field_stores classes sort world next now waiting None = stuck
 
+-- the place of a method, if it is there and static
 abbrev pub static_method_if : List ClassModel → ℕ × ℕ → Option MethodModel → Option (ℕ × ℕ)
 static_method_if classes place (Some m) = if is_static_method m then Some place else None
 static_method_if classes place None = None
 
+-- the class and the number of a static method, by its names, in the class or in its superclasses (JVMS 5.4.3.3)
 abbrev pub static_method : List ClassModel → List ℕ → List ℕ → List ℕ → Option (ℕ × ℕ)
 static_method classes class name descriptor =
     option_and_then (λ place. static_method_if classes place (method_at classes place)) (option_and_then (method_of classes name descriptor) (class_named classes class))
 
+-- invokestatic: the method's class is initialised first, and then it is called with its arguments; without a method the machine is stuck
 abbrev pub static_calls : List ClassModel → List ℕ → World → ℕ → Frame → List Waiting → Option (ℕ × ℕ) → Step
 static_calls classes descriptor world next now waiting (Some target) =
     first_initialised classes world now waiting target.0 (called_statically classes target world next now waiting (arguments_of (sorts_of_call false descriptor) now.stack.values))
@@ -434,10 +467,12 @@ type_of_code (pos n) =
     if n == 11 then Some base.Long else None
 type_of_code _ = None
 
+-- newarray and anewarray by the type of their elements; without one the machine is stuck
 abbrev pub new_arrays : List ClassModel → World → ℕ → Frame → List Waiting → Option Shape → Step
 new_arrays classes world next now waiting (Some of) = acts classes waiting (array_made of world next now now.stack.values)
 new_arrays classes world next now waiting None = stuck
 
+-- multianewarray by the type of the array and the number of dimensions that get lengths
 abbrev pub new_nests : List ClassModel → ℕ → World → ℕ → Frame → List Waiting → Option Shape → Step
 new_nests classes dims world next now waiting (Some shape) = acts classes waiting (arrays_made shape dims world next now)
 new_nests classes dims world next now waiting None = stuck
@@ -461,6 +496,7 @@ abbrev pub top_of_sort : Sort → List Value → Option (Option Value)
 top_of_sort sort (v ∷ rest) = if is_of_sort sort v then Some (Some v) else None
 top_of_sort sort [] = None
 
+-- the return's sort has to be that of the method's result; None where it isn't, or where no such value is on top
 abbrev pub given_back : Option Sort → Option Sort → List Value → Option (Option Value)
 given_back None None values = Some None
 given_back (Some WholeSort) (Some WholeSort) values = top_of_sort WholeSort values
@@ -468,14 +504,17 @@ given_back (Some LongSort) (Some LongSort) values = top_of_sort LongSort values
 given_back (Some ReferenceSort) (Some ReferenceSort) values = top_of_sort ReferenceSort values
 given_back wanted result values = None
 
+-- the caller goes on with what is given, or the machine is stuck
 abbrev pub returns_by : List ClassModel → World → List Waiting → Option (Option Value) → Step
 returns_by classes world waiting (Some v) = MovesTo Quiet (returned classes world waiting v)
 returns_by classes world waiting None = stuck
 
+-- a return from a method, by the result in its descriptor
 abbrev pub returns : List ClassModel → World → Frame → List Waiting → Option Sort → Option MethodModel → Step
 returns classes world now waiting wanted (Some m) = returns_by classes world waiting (given_back wanted (result_sort m.descriptor) now.stack.values)
 returns classes world now waiting wanted None = stuck
 
+-- athrow throws the object on top; of null a NullPointerException (JVMS 6.5, athrow)
 abbrev pub throws_top : List ClassModel → World → Frame → List Waiting → List Value → Step
 throws_top classes world now waiting (Address at ∷ rest) = MovesTo Quiet (thrown classes world now waiting at)
 throws_top classes world now waiting (NullValue ∷ rest) = null_pointer classes world now waiting
@@ -516,10 +555,12 @@ row classes world next now waiting group operand = stuck
 
 -- ---- steps
 
+-- an instruction that touches its frame alone, or else one of the other rows
 abbrev pub grouped_row : List ClassModel → World → ℕ → Frame → List Waiting → Group → Operand → Option Plain → Step
 grouped_row classes world next now waiting group operand (Some plain) = acts classes waiting (world, plain_act plain next now)
 grouped_row classes world next now waiting group operand None = row classes world next now waiting group operand
 
+-- the instruction of this opcode; an unknown one leaves the machine stuck
 abbrev pub coded_row : List ClassModel → World → ℕ → Frame → List Waiting → Operand → Option Opcode → Step
 coded_row classes world next now waiting operand (Some code) =
     grouped_row classes world next now waiting (group_of code) operand (plain_of (group_of code) operand)

@@ -29,6 +29,7 @@ pub data State : Type 0 where
 
 -- ---- handlers
 
+-- a row without a class catches all; one with a name catches that class and those below, and nothing where there is no such class
 abbrev pub catches : List ClassModel → ℕ → Option (List ℕ) → Bool
 catches classes thrown None = true
 catches classes thrown (Some name) = elim (class_named classes name) [ Some wanted ↦ is_class_below classes thrown wanted | None ↦ false ]
@@ -48,11 +49,13 @@ abbrev pub caught_on : ℕ → Frame → World → List Waiting → Option Stack
 caught_on to now world waiting (Some stack) = Going world (record now { at = to; stack = stack }) waiting
 caught_on to now world waiting None = Over Stuck
 
+-- the frame's stack is emptied first
 abbrev pub caught : ℕ → ℕ → Frame → World → List Waiting → State
 caught address to now world waiting = caught_on to now world waiting (pushed (record now.stack { values = [] }) (Address address))
 
 -- ---- exceptions that the machine makes
 
+-- the names of the classes of these exceptions
 abbrev pub fault_name : Fault → List ℕ
 fault_name fault.Arithmetic = codes "java/lang/ArithmeticException"
 fault_name fault.ArrayIndexOutOfBounds = codes "java/lang/ArrayIndexOutOfBoundsException"
@@ -67,6 +70,7 @@ fault_name fault.NullPointer = codes "java/lang/NullPointerException"
 abbrev pub fault_class : List ClassModel → Fault → Option ℕ
 fault_class classes fault = class_named classes (fault_name fault)
 
+-- the class is java/lang/Error or below it
 abbrev pub is_error : List ClassModel → ℕ → Bool
 is_error classes k = elim (class_named classes (codes "java/lang/Error")) [ Some error ↦ is_class_below classes k error | None ↦ false ]
 
@@ -88,10 +92,12 @@ unwound classes (Initialising c ∷ waiting) world k address =
       | None ↦ Over Stuck
     ]
 
+-- an array is no exception
 abbrev pub class_of_cell : Option Cell → Option ℕ
 class_of_cell (Some (Instance class fields)) = Some class
 class_of_cell _ = None
 
+-- the class is java/lang/Throwable or below it
 abbrev pub is_throwable : List ClassModel → ℕ → Bool
 is_throwable classes k = elim (class_named classes (codes "java/lang/Throwable")) [ Some throwable ↦ is_class_below classes k throwable | None ↦ false ]
 
@@ -113,5 +119,6 @@ fault_among classes world waiting fault = elim (fault_class classes fault) [
   | None ↦ Over Stuck
 ]
 
+-- the same in a frame at its place
 abbrev pub fault_thrown : List ClassModel → World → Frame → List Waiting → Fault → State
 fault_thrown classes world now waiting fault = fault_among classes world (Caller now ∷ waiting) fault

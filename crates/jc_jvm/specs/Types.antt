@@ -22,6 +22,7 @@ use Rattle.jc_jvm.specs.declared.value.Value.TheVariants.{Whole, Long, Address, 
 
 -- ---- sorts of values
 
+-- int, long or reference, as instructions tell values apart
 abbrev pub sort_of_value : Value → Sort
 sort_of_value (Whole n) = WholeSort
 sort_of_value (Long n) = LongSort
@@ -46,6 +47,7 @@ abbrev pub sort_of_descriptor : List ℕ → Sort
 sort_of_descriptor [] = WholeSort
 sort_of_descriptor (u ∷ us) = if u == 74 then LongSort else if u == 76 || u == 91 then ReferenceSort else WholeSort
 
+-- the value that a field begins with
 abbrev pub zero_of_field : FieldModel → Value
 zero_of_field f = zero_of (sort_of_descriptor f.descriptor)
 
@@ -53,13 +55,13 @@ zero_of_field f = zero_of (sort_of_descriptor f.descriptor)
 abbrev pub new_fields : List ClassModel → ℕ → List Value
 new_fields classes k = map (λ (s : ℕ × FieldModel). zero_of_field s.1) (instance_fields classes k)
 
--- the sorts of a method's parameters
+-- the sort of a parameter
 abbrev pub sort_of_item : Item → Sort
 sort_of_item Integer = WholeSort
 sort_of_item LongItem = LongSort
 sort_of_item _ = ReferenceSort
 
--- the sort of a method's result, which stands behind the `)`; none for `V`
+-- the text behind the `)`
 abbrev pub behind_parameters : List ℕ → List ℕ
 behind_parameters [] = []
 behind_parameters (u ∷ us) = if u == 41 then us else behind_parameters us
@@ -67,11 +69,13 @@ behind_parameters (u ∷ us) = if u == 41 then us else behind_parameters us
 abbrev pub result_sort : List ℕ → Option Sort
 result_sort descriptor = if bytes_eq (behind_parameters descriptor) (codes "V") then None else Some (sort_of_descriptor (behind_parameters descriptor))
 
+-- of each parameter, as the verifier sees its type
 abbrev pub parameter_sorts : List ℕ → List Sort
 parameter_sorts descriptor = map sort_of_item (parameter_items descriptor)
 
 -- ---- types
 
+-- the type of the objects of a class
 abbrev pub shape_of_class : ℕ → Shape
 shape_of_class k = record { base = base.Class k; dims = 0 }
 
@@ -83,6 +87,7 @@ deeper s = record s { dims = s.dims + 1 }
 abbrev pub shallower : Shape → Shape
 shallower s = record s { dims = s.dims - 1 }
 
+-- the sort of the values of a type; every array is a reference
 abbrev pub sort_of_base : Base → Sort
 sort_of_base base.Long = LongSort
 sort_of_base (base.Class k) = ReferenceSort
@@ -101,6 +106,7 @@ primitive_of u =
     if u == 73 then Some base.Int else
     if u == 74 then Some base.Long else None
 
+-- the type itself, with no dimension
 abbrev pub based : Base → Shape
 based b = record { base = b; dims = 0 }
 
@@ -117,6 +123,7 @@ abbrev pub shape_named : List ClassModel → List ℕ → Option Shape
 shape_named classes [] = None
 shape_named classes (u ∷ us) = if u == 91 then shape_of_descriptor classes (u ∷ us) else option_map shape_of_class (class_named classes (u ∷ us))
 
+-- the type is the class of this name, if the classes have it
 abbrev pub is_class_named : List ClassModel → List ℕ → Base → Bool
 is_class_named classes name (base.Class k) = elim (class_named classes name) [ Some c ↦ k == c | None ↦ false ]
 is_class_named classes name _ = false
@@ -124,6 +131,7 @@ is_class_named classes name _ = false
 abbrev pub is_object : List ClassModel → Base → Bool
 is_object classes b = is_class_named classes (codes "java/lang/Object") b
 
+-- a primitive type is below itself alone
 abbrev pub is_base_below : List ClassModel → Base → Base → Bool
 is_base_below classes base.Boolean base.Boolean = true
 is_base_below classes base.Char base.Char = true
@@ -145,6 +153,7 @@ abbrev pub shape_of_cell : Cell → Shape
 shape_of_cell (Instance class fields) = shape_of_class class
 shape_of_cell (Array of items) = deeper of
 
+-- where nothing stands at the address, it is of no type
 abbrev pub is_cell_below : List ClassModel → Shape → Option Cell → Bool
 is_cell_below classes shape None = false
 is_cell_below classes shape (Some cell) = is_shape_below classes (shape_of_cell cell) shape
@@ -157,6 +166,7 @@ fits classes heap shape _ = false
 
 -- ---- names of types
 
+-- the units of descriptors (JVMS 4.3.2)
 abbrev pub letter_of : Base → ℕ
 letter_of base.Boolean = 90
 letter_of base.Char = 67
@@ -170,14 +180,16 @@ letter_of (base.Class k) = 76
 abbrev pub dotted : List ℕ → List ℕ
 dotted name = map (λ (u : ℕ). if u == 47 then 46 else u) name
 
+-- the name of a class with dots (JVMS 4.2.1, JLS 13.1)
 abbrev pub binary_name : List ClassModel → ℕ → List ℕ
 binary_name classes k = dotted (name_of classes k)
 
--- the name of a type as Class.getName gives it
+-- the descriptor of an element type (JVMS 4.3.2)
 abbrev pub descriptor_of_base : List ClassModel → Base → List ℕ
 descriptor_of_base classes (base.Class k) = 76 ∷ binary_name classes k ++ 59 ∷ []
 descriptor_of_base classes b = letter_of b ∷ []
 
+-- a class alone has its name without `L` and `;`
 abbrev pub name_of_base : List ClassModel → Base → List ℕ
 name_of_base classes (base.Class k) = binary_name classes k
 name_of_base classes b = letter_of b ∷ []

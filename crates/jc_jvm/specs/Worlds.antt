@@ -22,6 +22,7 @@ use Rattle.jc_jvm.specs.declared.world.World.{World}
 
 -- ---- objects and arrays; the address of a new one is the number of those before it
 
+-- the world with another heap, or with one cell more at its end
 abbrev pub with_heap : List Cell → World → World
 with_heap heap world = record world { heap = heap }
 
@@ -36,6 +37,7 @@ with_object classes k world = with_cell (Instance k (new_fields classes k)) worl
 abbrev pub zeros : Shape → ℕ → List Value
 zeros of n = replicate n (zero_of (sort_of_shape of))
 
+-- the elements have the type `of`
 abbrev pub with_array : Shape → ℕ → World → World
 with_array of n world = with_cell (Array of (zeros of n)) world
 
@@ -45,12 +47,14 @@ next_address world = length world.heap
 
 -- ---- strings: a char array, and then the String that holds it in its first field of that type
 
+-- the class String, and where a class's objects have their first char array
 abbrev pub string_class : List ClassModel → Option ℕ
 string_class classes = class_named classes (codes "java/lang/String")
 
 abbrev pub chars_slot : List ClassModel → ℕ → Option ℕ
 chars_slot classes k = position (λ (s : ℕ × FieldModel). bytes_eq s.1.descriptor (codes "[C")) (instance_fields classes k)
 
+-- the char array of a text, and the String that holds the one at this address
 abbrev pub chars_cell : List ℕ → Cell
 chars_cell text = Array (based base.Char) (map (λ (u : ℕ). Whole (pos u)) text)
 
@@ -71,17 +75,20 @@ abbrev pub interned_in : List Interned → List ℕ → Option ℕ
 interned_in [] text = None
 interned_in (i ∷ is) text = if bytes_eq i.text text then Some i.address else interned_in is text
 
+-- this text's literal is the String at this address from now on
 abbrev pub with_interned : List ℕ → ℕ → World → World
 with_interned text address world = record world { interned = world.interned ++ record { text = text; address = address } ∷ [] }
 
 -- ---- class states and static fields
 
+-- how far the initialisation of a class is; None of a number that is no class
 abbrev pub state_of_class : World → ℕ → Option ClassState
 state_of_class world k = slice_get world.states k
 
 abbrev pub with_state : ClassState → ℕ → World → World
 with_state state k world = record world { states = slice_set world.states k state }
 
+-- the value of the static field of this class and number, and the world with another one
 abbrev pub statics_at : World → ℕ × ℕ → Option Value
 statics_at world place = static_in world.statics place.0 place.1
 

@@ -25,6 +25,7 @@ use Rattle.jc_tree.specs.declared.statement.ResultType.TheVariants as result_of
 use Rattle.jc_tree.specs.declared.statement.Stmt.TheVariants as stmt_of
 use Rattle.jc_left_out.specs.LeftOut.{first_left_out_word, forms_of_stmt, left_out_of_declaration, left_out_of_expr, left_out_of_import, left_out_of_method, left_out_of_modifier, least_of, place_of}
 
+-- a keyword at an offset; where it ends does not matter here
 abbrev pub keyword : Key → ℕ → Token
 keyword k at = record { kind = kind_of.Key k; from = at; to = at; touches = false }
 
@@ -36,6 +37,7 @@ native_source = keyword key_of.Public 0 ∷ keyword key_of.Native 7 ∷ keyword 
 abbrev pub enum_source : List Token
 enum_source = keyword key_of.Class 0 ∷ keyword key_of.Enum 6 ∷ keyword key_of.Float 11 ∷ []
 
+-- an identifier of one letter, and a class type of that name, by the code of the letter and the offset
 abbrev pub letter_at : ℕ → ℕ → Ident
 letter_at code at = record { at = at; text = code ∷ [] }
 
@@ -57,6 +59,7 @@ inner_new = expr_of.InnerNew (expr_of.Name (letter_at 97 0)) (creation_of.Object
 abbrev pub marker : List ℕ → List Ident → Modifier
 marker name more = modifier_of.Annotation (record { at = 0; first = record { at = 1; text = name }; more = more; pairs = None })
 
+-- the word `static` at an offset
 abbrev pub static_at : ℕ → Modifier
 static_at at = modifier_of.Word at word_of.Static
 
@@ -64,12 +67,15 @@ static_at at = modifier_of.Word at word_of.Static
 abbrev pub class_of : List Modifier → ℕ → List Member → Declaration
 class_of modifiers at members = roll-Declaration (record { head = head_of.Class modifiers at (letter_at 65 at) [] None []; members = members })
 
+-- `interface I` with members, at the offset 0
 abbrev pub interface_of : List Member → Declaration
 interface_of members = roll-Declaration (record { head = head_of.Interface [] 0 (letter_at 73 10) [] []; members = members })
 
+-- `static @interface A {}`, with `static` at 2
 abbrev pub annotation_type : Declaration
 annotation_type = roll-Declaration (record { head = head_of.Annotation (static_at 2 ∷ []) 9 (letter_at 65 20); members = [] })
 
+-- `import a.*` at the offset 3, of static members or not
 abbrev pub an_import : Bool → Import
 an_import is_static = record { at = 3; is_static = is_static; first = letter_at 97 10; more = []; on_demand = true }
 
@@ -81,9 +87,11 @@ generic_head result = record { modifiers = []; params = Some (record { at = 5; f
 abbrev pub constructor_of : List Modifier → ℕ → ℕ → Member
 constructor_of modifiers code at = member_of.Method (record { modifiers = modifiers; params = None; result = None; name = letter_at code at; formals = []; throws = [] }) []
 
+-- an initialiser that is not static, at an offset
 abbrev pub initialiser_at : ℕ → Member
 initialiser_at at = member_of.Initialiser at false []
 
+-- which words and forms are left out of these tokens and trees, and where they stand
 pub record WorkedLeftOut : Type 0 where
   pub native_outside : first_left_out_word false native_source ≡ Some 1
   pub native_inside : first_left_out_word true native_source ≡ None

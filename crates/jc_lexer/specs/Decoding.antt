@@ -12,6 +12,8 @@ use Rattle.jc_lexer.specs.declared.symbol.TheConstants.{END, NOT_UTF8, BAD_ESCAP
 abbrev pub is_tail : ℕ → Bool
 is_tail b = nat_le 0x80 b && nat_le b 0xBF
 
+-- sequences of two, three and four bytes, whose first byte `utf8` has sorted. A byte that is lacking counts as 0, which goes on none.
+-- The second one is bounded so that none spells a character in more bytes than it needs, a surrogate, or one above 10FFFF
 abbrev pub two_bytes : List ℕ → Bool → Reading
 two_bytes bytes odd =
     let a = get_or bytes 0 0 in
@@ -48,9 +50,11 @@ utf8 bytes odd =
     else if nat_lt a 0xF5 then four_bytes bytes odd
     else NotUtf8
 
+-- JLS 3.3, HexDigit: its value, in capital or small letters; None of any other byte
 abbrev pub hex_digit : ℕ → Option ℕ
 hex_digit b = if nat_lt (digit_value b) 16 then Some (digit_value b) else None
 
+-- goes on with the value, or is None where there is none
 infixl 10 ◌>>=◌
 abbrev pub ◌>>=◌ : {A B : Type 0} → Option A → (A → Option B) → Option B
 o >>= f = option_and_then f o
@@ -68,6 +72,7 @@ four_digits bytes = do
 abbrev pub escape_marks : List ℕ → ℕ
 escape_marks bytes = prefix_len (λ (b : ℕ). b == 117) bytes
 
+-- an escape with so many `u`, malformed where its digits spell nothing; its own backslash isn't counted among those before the next one
 abbrev pub escaped : ℕ → Option ℕ → Reading
 escaped marks None = BadEscape
 escaped marks (Some code) = Read code (marks + 5) false
@@ -84,6 +89,7 @@ unit bytes odd =
     let backslash = get_or bytes 0 0 == 92 in
     if backslash && not odd && (get_or bytes 1 0 == 117) then escape bytes else utf8 bytes (backslash && not odd)
 
+-- JLS 3.1: a unit that is the second of a pair
 abbrev pub is_low : ℕ → Bool
 is_low c = nat_le 0xDC00 c && nat_le c 0xDFFF
 
@@ -94,6 +100,8 @@ paired first high taken (Read code len odd) =
 paired first high taken NotUtf8 = first
 paired first high taken BadEscape = first
 
+-- a high surrogate, which only an escape spells, is one character with a low one that is read right behind it;
+-- else it stands alone, and so does whatever else was read first
 abbrev pub with_second : List ℕ → Reading → Reading
 with_second bytes (Read code len odd) =
     if is_high code && nat_lt len (length bytes) then paired (Read code len odd) code len (unit (drop len bytes) odd) else Read code len odd
@@ -104,6 +112,7 @@ with_second bytes BadEscape = BadEscape
 unfoldable pub character : List ℕ → Bool → Reading
 character bytes odd = with_second bytes (unit bytes odd)
 
+-- the character that was read, before the text behind it; or the mark of what breaks the text off, which is its last symbol
 abbrev pub text_after : (ℕ → Bool → List Symbol) → ℕ → Reading → List Symbol
 text_after more at (Read code len odd) = record { code = code; from = at } ∷ more len odd
 text_after more at NotUtf8 = record { code = NOT_UTF8; from = at } ∷ []

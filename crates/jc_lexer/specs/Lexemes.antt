@@ -32,6 +32,7 @@ IsProgress (Lexeme kind len) = 0 < len
 IsProgress End = Unit {0}
 IsProgress (Fault fault) = Unit {0}
 
+-- the fault that the last symbol of a text marks, at its offset; where the text has no symbol, bytes at 0 that are no UTF-8
 abbrev pub fault_of_mark : Option Symbol → LexFault
 fault_of_mark (Some mark) = if mark.code == BAD_ESCAPE then BadEscape mark.from else NotUtf8 mark.from
 fault_of_mark None = NotUtf8 0
@@ -40,6 +41,7 @@ fault_of_mark None = NotUtf8 0
 unfoldable pub torn : List Symbol → LexFault
 torn text = fault_of_mark (slice_get text (length text - 1))
 
+-- the last symbol of a text marks the end of the source; a text without symbols counts as ended
 abbrev pub is_end_mark : Option Symbol → Bool
 is_end_mark (Some mark) = mark.code == END
 is_end_mark None = true
@@ -57,6 +59,7 @@ abbrev pub closing : ℕ → List Symbol → Option ℕ
 closing told [] = None
 closing told (s ∷ text) = if (s.code == 42) && (code_at text 0 == 47) then Some (told + 2) else closing (told + 1) text
 
+-- a comment as long as its `/*` and what goes on up to its `*/` and with it; without one the comment is open, or the text breaks off inside of it
 abbrev pub comment_of : List Symbol → Option ℕ → Step
 comment_of text (Some len) = Gap (len + 2)
 comment_of text None = if is_ended text then Fault (OpenComment (from_at text 0)) else Fault (torn text)
@@ -69,6 +72,7 @@ comment text = comment_of text (closing 0 (drop 2 text))
 abbrev pub part_length : List Symbol → ℕ
 part_length text = prefix_len (λ (s : Symbol). is_word_part s.code) text
 
+-- the lexeme that a word of so many symbols is, by its text in UTF-8
 abbrev pub word_step : List ℕ → ℕ → Step
 word_step text len = Lexeme (word_kind text) len
 
@@ -86,11 +90,13 @@ numeric text Malformed = Fault (BadLiteral (from_at text 0))
 numeric text Real = Fault (Floating (from_at text 0))
 numeric text Cut = Fault (torn text)
 
+-- the fault of a character or string literal: at the quote that opens it, or where the text breaks off
 abbrev pub flawed : Flaw → List Symbol → Step
 flawed Wrong text = Fault (BadLiteral (from_at text 0))
 flawed Open text = Fault (OpenText (from_at text 0))
 flawed Torn text = Fault (torn text)
 
+-- a literal by what stands behind the quote that opens it, which is one symbol more
 abbrev pub character_of : List Symbol → CharBody → Step
 character_of text (Shut unit len) = Lexeme (CharLit unit) (len + 1)
 character_of text (Amiss flaw) = flawed flaw text
@@ -99,6 +105,7 @@ character_of text (Amiss flaw) = flawed flaw text
 unfoldable pub character : List Symbol → Step
 character text = character_of text (char_body (drop 1 text))
 
+-- the same of a string literal
 abbrev pub string_of : List Symbol → StringBody → Step
 string_of text (Closed units len) = Lexeme (StringLit units) (len + 1)
 string_of text (Broken flaw) = flawed flaw text
@@ -107,6 +114,7 @@ string_of text (Broken flaw) = flawed flaw text
 unfoldable pub string_step : List Symbol → Step
 string_step text = string_of text (string_body (drop 1 text))
 
+-- a sign, or what is wrong with a character that begins none
 abbrev pub sign_of : List Symbol → Option Spelling → Step
 sign_of text (Some spelling) = Lexeme (Signed spelling.sign) spelling.len
 sign_of text None =

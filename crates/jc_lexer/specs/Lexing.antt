@@ -16,10 +16,12 @@ use Rattle.jc_lexer.specs.Symbols.{from_at}
 abbrev pub token : TokenKind → List Symbol → List Symbol → Token
 token kind text next = record { kind = kind; from = from_at text 0; to = from_at next 0; touches = begins_lexeme next }
 
+-- a token before those behind it, or the fault that stands behind it
 abbrev pub with_token : Token → Result (List Token) LexFault → Result (List Token) LexFault
 with_token t (Ok list) = Ok (t ∷ list)
 with_token t (Err fault) = Err fault
 
+-- the tokens of a text by what it begins with and the tokens behind that; white space and comments are none
 abbrev pub lexed_after : (ℕ → Result (List Token) LexFault) → List Symbol → Step → Result (List Token) LexFault
 lexed_after more text (Gap len) = more len
 lexed_after more text (Lexeme kind len) = with_token (token kind text (drop len text)) (more len)

@@ -11,6 +11,7 @@ use Rattle.jc_lexer.specs.declared.literal.StringBody.TheVariants.{Closed, Broke
 use Rattle.jc_lexer.specs.declared.symbol.Symbol.{Symbol}
 use Rattle.jc_lexer.specs.Symbols.{code_at, is_break, is_line_end}
 
+-- JLS 3.10.6, OctalDigit: `0` to `7`
 abbrev pub is_octal : ℕ → Bool
 is_octal c = nat_le 48 c && nat_le c 55
 
@@ -41,10 +42,12 @@ octal_escape text =
     else if nat_lt first 4 && is_octal third then One ((first * 8 + (second - 48)) * 8 + (third - 48)) 4
     else One (first * 8 + (second - 48)) 3
 
+-- a backslash and a letter with the unit that they spell, or why the letter goes on no literal where they spell none
 abbrev pub escaped : ℕ → Option ℕ → Element
 escaped letter (Some unit) = One unit 2
 escaped letter None = Flawed (flaw_at letter)
 
+-- JLS 3.10.6: what a backslash, at the start of the text, begins
 unfoldable pub escape_sequence : List Symbol → Element
 escape_sequence text =
     let letter = code_at text 1 in
@@ -71,10 +74,12 @@ abbrev pub IsWithin : ℕ → CharBody → Type 0
 IsWithin room (Shut unit len) = len ≤ room + 1
 IsWithin room (Amiss flaw) = Unit {0}
 
+-- the same of a string literal
 abbrev pub IsBodyWithin : ℕ → StringBody → Type 0
 IsBodyWithin room (Closed units len) = len ≤ room + 1
 IsBodyWithin room (Broken flaw) = Unit {0}
 
+-- a character literal by its one element, with the quote that closes it; a character of two units makes none (JLS 3.10.4)
 abbrev pub char_after : Element → List Symbol → CharBody
 char_after (One unit len) text = if code_at text len == 39 then Shut unit (len + 1) else Amiss (flaw_at (code_at text len))
 char_after (Pair high low) text = Amiss Wrong
@@ -84,10 +89,12 @@ char_after (Flawed flaw) text = Amiss flaw
 unfoldable pub char_body : List Symbol → CharBody
 char_body text = if code_at text 0 == 39 then Amiss Wrong else char_after (element_at text) text
 
+-- units that so many symbols spell, before the body behind them
 abbrev pub with_units : List ℕ → ℕ → StringBody → StringBody
 with_units units len (Closed more rest) = Closed (units ++ more) (len + rest)
 with_units units len (Broken flaw) = Broken flaw
 
+-- an element before the body that goes on behind its symbols
 abbrev pub string_after : (ℕ → StringBody) → Element → StringBody
 string_after more (One unit len) = with_units (unit ∷ []) len (more len)
 string_after more (Pair high low) = with_units (high ∷ low ∷ []) 1 (more 1)
@@ -99,5 +106,6 @@ string_from zero text = Broken Open
 string_from (suc n) text =
     if code_at text 0 == 34 then Closed [] 1 else string_after (λ len. string_from n (drop len text)) (element_at text)
 
+-- what stands behind the quote that opens a string literal; the bound is large enough, since each element takes a symbol
 abbrev pub string_body : List Symbol → StringBody
 string_body text = string_from (length text + 1) text

@@ -19,6 +19,7 @@ abbrev pub value_from : ℕ → ℕ → List Symbol → ℕ
 value_from base value [] = value
 value_from base value (s ∷ digits) = value_from base (if s.code == 95 then value else value * base + digit_value s.code) digits
 
+-- the value of digits behind those of a value; None where one is no digit of the base and no underscore, or where it is 2^64 or more
 unfoldable pub whole_from : ℕ → ℕ → List Symbol → Option ℕ
 whole_from base value digits =
     if list_all (is_digit_of base) digits && nat_lt (value_from base value digits) (2 ^ 64) then Some (value_from base value digits) else None
@@ -34,10 +35,12 @@ HasSymbols Malformed = Unit {0}
 HasSymbols Real = Unit {0}
 HasSymbols Cut = Unit {0}
 
+-- a whole literal of so many symbols, malformed where its digits have no value
 abbrev pub whole_of : Bool → ℕ → Option ℕ → Numeral
 whole_of decimal len (Some value) = Whole value decimal len
 whole_of decimal len None = Malformed
 
+-- the whole literal that digits spell in a base; `len` symbols are those of its prefix too, `decimal` says that it is in base 10
 abbrev pub whole : ℕ → Bool → ℕ → List Symbol → Numeral
 whole base decimal len digits = whole_of decimal len (whole_value base digits)
 
@@ -99,6 +102,7 @@ decimal_number text =
     else if (len == 0) || (code_at text (len - 1) == 95) then Malformed
     else decimal_after (fraction rest) (take len text)
 
+-- a hexadecimal literal by its digits and by what stands behind them; without digits it is malformed
 unfoldable pub hex_after : Tail → List Symbol → Numeral
 hex_after Follows digits = Real
 hex_after Broken digits = Cut
@@ -114,6 +118,7 @@ hex_number text =
     else if nat_lt 0 len && (code_at text (len - 1) == 95) then (if is_break (code_at rest 0) then Cut else Malformed)
     else hex_after (hex_tail (nat_lt 0 len) rest) (take len text)
 
+-- a binary literal by the value of its digits, which is None as in `whole_value`; `len` counts them without the `0b`
 unfoldable pub binary_after : Option ℕ → ℕ → List Symbol → Numeral
 binary_after None len text = Malformed
 binary_after (Some value) len text =

@@ -10,7 +10,7 @@ abbrev pub begins : Spelling → List Symbol → Bool
 begins s text =
     (code_at text 0 == s.first) && (nat_lt s.len 2 || (code_at text 1 == s.second)) && (nat_lt s.len 3 || (code_at text 2 == s.third))
 
--- the first sign of the table that a text begins with, which is the longest one
+-- the first sign of a list that a text begins with; of the table it is the longest one
 abbrev pub sign_in : List Spelling → List Symbol → Option Spelling
 sign_in [] text = None
 sign_in (s ∷ signs) text = if begins s text then Some s else sign_in signs text
@@ -25,5 +25,6 @@ abbrev pub IsLongest : List Symbol → Option Spelling → Type 0
 IsLongest text None = EachBegins SIGNS text (λ s. ⊥)
 IsLongest text (Some found) = (begins found text ≡ true) × EachBegins SIGNS text (λ s. s.len ≤ found.len)
 
+-- the sign of the table that a text begins with; None where it begins with none
 unfoldable pub sign_at : List Symbol → Option Spelling
 sign_at text = sign_in SIGNS text

@@ -20,6 +20,7 @@ is_word_start c = is_scalar c && (is_xid_start c || (c == 95))
 abbrev pub is_word_part : ℕ → Bool
 is_word_part c = is_scalar c && is_xid_continue c
 
+-- JLS 3.10.1: a digit `0` to `9`
 abbrev pub is_decimal : ℕ → Bool
 is_decimal c = nat_le 48 c && nat_le c 57
 
@@ -39,6 +40,7 @@ is_high c = nat_le 0xD800 c && nat_le c 0xDBFF
 abbrev pub is_space : ℕ → Bool
 is_space c = (c == 32) || (c == 9) || (c == 10) || (c == 13) || (c == 12)
 
+-- a character belongs to a class: white space, what goes on an end-of-line comment (JLS 3.7), or digits and underscores of base 10 or 16
 abbrev pub passes : Class → ℕ → Bool
 passes Space c = is_space c
 passes Line c = not (is_line_end c) && not (is_break c)
@@ -46,10 +48,12 @@ passes Digits c = nat_lt (digit_value c) 10 || (c == 95)
 passes HexDigits c = nat_lt (digit_value c) 16 || (c == 95)
 
 -- the code of the symbol at a place
+-- or the mark of a source's end where there is none
 abbrev pub code_at : List Symbol → ℕ → ℕ
 code_at text place = unwrap_or (option_map (λ (s : Symbol). s.code) (slice_get text place)) END
 
 -- the offset of the symbol at a place, where there is one
+-- and else 0
 abbrev pub from_at : List Symbol → ℕ → ℕ
 from_at text place = unwrap_or (option_map (λ (s : Symbol). s.from) (slice_get text place)) 0
 

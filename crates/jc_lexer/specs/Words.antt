@@ -8,6 +8,7 @@ use Rattle.jc_lexer.specs.declared.token.TokenKind.{TokenKind}
 use Rattle.jc_lexer.specs.declared.token.TokenKind.TheVariants.{Word, Key as Keyed}
 
 -- how a keyword is spelled
+-- `true`, `false` and `null`, which are literals in JLS 3.10.3 and 3.10.7, are among them
 abbrev pub spelling : Key → List ℕ
 spelling Abstract = codes "abstract"
 spelling Assert = codes "assert"
@@ -68,6 +69,7 @@ abbrev pub key_in : List Key → List ℕ → Option Key
 key_in [] text = None
 key_in (k ∷ keys) text = if bytes_eq (spelling k) text then Some k else key_in keys text
 
+-- the keyword that a text spells, or where it spells none the text as an identifier
 abbrev pub word_or_key : List ℕ → Option Key → TokenKind
 word_or_key text None = Word text
 word_or_key text (Some key) = Keyed key

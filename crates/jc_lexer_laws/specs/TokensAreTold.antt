@@ -45,10 +45,12 @@ abbrev pub EndsBefore : Token → List Token → Type 0
 EndsBefore t [] = Unit {0}
 EndsBefore t (next ∷ tokens) = (t.from < t.to) × (t.to ≤ next.from)
 
+-- each token ends where the next one begins or before it; of the last one nothing is told
 abbrev pub AreInOrder : List Token → Type 0
 AreInOrder [] = Unit {0}
 AreInOrder (t ∷ tokens) = EndsBefore t tokens × AreInOrder tokens
 
+-- what holds of every source that the lexer takes: its tokens don't overlap, and stand in its text as it says
 pub record TokensAreTold : Type 0 where
   pub in_order : (bytes : List ℕ) (tokens : List Token) → lexed bytes ≡ Ok tokens → AreInOrder tokens
   pub in_text : (bytes : List ℕ) (tokens : List Token) → lexed bytes ≡ Ok tokens → StandInOrder tokens (text_of bytes)

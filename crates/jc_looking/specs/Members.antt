@@ -22,10 +22,11 @@ abbrev pub with_repeated : Option ℕ → List ℕ → ℕ → Named → Named
 with_repeated None n c names = names
 with_repeated (Some d) n c names = with_first n c names
 
--- of each class what is known
+-- what is known, or nothing
 abbrev pub flat : Option (Option Named) → Option Named
 flat (Some o) = o
 flat None = None
 
+-- what a list says of class c; None where it isn't settled, or where there is no such class
 abbrev pub known_in : List (Option Named) → Knowledge
 known_in ks c = flat (slice_get ks c)

@@ -8,16 +8,19 @@ use Rattle.jc_looking.specs.declared.scene.Sight.{Sight}
 use Rattle.jc_looking.specs.declared.scene.Sight.TheVariants as sight
 use Rattle.jc_imports.specs.Imported.{demands_of}
 
+-- the sight of candidates: what they are, if they are one; two or more are several, the same ones or not
 abbrev pub sight_of : List Meaning → Sight
 sight_of [] = sight.Nothing
 sight_of (AClass c ∷ []) = sight.Class c
 sight_of (AVariable v ∷ []) = sight.Variable v
 sight_of (m ∷ n ∷ ms) = sight.Several
 
+-- the sight of a look-up, which asks where it isn't known yet what a class inherits
 abbrev pub seen : Look → Sight
 seen None = sight.Asks
 seen (Some ms) = sight_of ms
 
+-- a class or a variable, if there is one, and nothing otherwise
 abbrev pub class_sight : Option ℕ → Sight
 class_sight None = sight.Nothing
 class_sight (Some c) = sight.Class c
@@ -34,6 +37,7 @@ next (sight.Class c) s = sight.Class c
 next (sight.Variable v) s = sight.Variable v
 next sight.Several s = sight.Several
 
+-- a layer with this sight decides; one that asks does too, since what it would have isn't known
 abbrev pub is_found : Sight → Bool
 is_found sight.Nothing = false
 is_found sight.Asks = true
@@ -51,6 +55,7 @@ with_class (sight.Class d) c = cond (d == c) (sight.Class d) sight.Several
 with_class (sight.Variable v) c = sight.Variable v
 with_class sight.Several c = sight.Several
 
+-- all these classes, one after the other
 abbrev pub gathered : Sight → List ℕ → Sight
 gathered s [] = s
 gathered s (c ∷ cs) = gathered (with_class s c) cs
@@ -61,10 +66,12 @@ open_in H a n (InPackage p) = open_class H a (named n (types_of_package H p))
 open_in H a n (AtClass c) = open_class H a (named n (declared_of H c))
 open_in H a n Nowhere = []
 
+-- from all these places, in their order
 abbrev pub open_in_all : Heads → Asker → List ℕ → List Found → List ℕ
 open_in_all H a n [] = []
 open_in_all H a n (f ∷ fs) = open_in H a n f ++ open_in_all H a n fs
 
+-- who asks in a unit outside of its types
 abbrev pub unit_asker : Heads → ℕ → Asker
 unit_asker H u = record { «package» = unit_package H u; top = None }
 
@@ -84,14 +91,17 @@ part_seen H K (sight.Class c) p = seen (member H K c p)
 part_seen H K (sight.Variable v) p = sight.Nothing
 part_seen H K sight.Several p = sight.Several
 
+-- further parts, one after the other
 abbrev pub parts_seen : Heads → Knowledge → List (List ℕ) → Sight → Sight
 parts_seen H K [] s = s
 parts_seen H K (p ∷ ps) s = parts_seen H K ps (part_seen H K s p)
 
+-- behind the class, if there is one, and otherwise with a longer package name
 abbrev pub class_or_longer : (ℕ → Sight) → Sight → Option ℕ → Sight
 class_or_longer behind longer (Some c) = behind c
 class_or_longer behind longer None = longer
 
+-- further parts behind a package: from the first one on that names a type; nothing where none does
 abbrev pub packages_seen : Heads → Knowledge → List ℕ → List (List ℕ) → Sight
 packages_seen H K p [] = sight.Nothing
 packages_seen H K p (n ∷ ns) =
@@ -107,6 +117,7 @@ name_seen H K n ps sight.Several = parts_seen H K ps sight.Several
 
 -- ---- the classes that parts name
 
+-- the class that is seen; nothing for any other sight
 abbrev pub class_in : Sight → List ℕ
 class_in (sight.Class c) = c ∷ []
 class_in sight.Asks = []
@@ -114,6 +125,7 @@ class_in sight.Nothing = []
 class_in (sight.Variable v) = []
 class_in sight.Several = []
 
+-- the classes that a name names, part by part, behind what its first part is; and below those of one that begins with a package
 abbrev pub passed_seen : Heads → Knowledge → List (List ℕ) → Sight → List ℕ
 passed_seen H K [] s = class_in s
 passed_seen H K (p ∷ ps) s = class_in s ++ passed_seen H K ps (part_seen H K s p)
@@ -127,6 +139,7 @@ passed_packages_seen H K p [] = []
 passed_packages_seen H K p (n ∷ ns) =
     passed_or_longer_seen (λ c. passed_seen H K ns (sight.Class c)) (passed_packages_seen H K (p ++ codes "." ++ n) ns) (named n (types_of_package H p))
 
+-- the classes that a name names whose first part is seen so; where that is nothing, it begins with a package
 abbrev pub name_passed : Heads → Knowledge → List ℕ → List (List ℕ) → Sight → List ℕ
 name_passed H K n ps sight.Nothing = passed_packages_seen H K n ps
 name_passed H K n ps sight.Asks = passed_seen H K ps sight.Asks

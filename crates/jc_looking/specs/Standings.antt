@@ -7,6 +7,7 @@ use Rattle.jc_declares.specs.Looking.{Asker, Look, Knowledge, or_next, one_varia
 use Rattle.jc_looking.specs.declared.scene.Standing.{Standing}
 use Rattle.jc_looking.specs.declared.scene.Standing.TheVariants as standing
 
+-- who asks in a package, inside of a type of a unit or (None) outside of all types
 abbrev pub asking : List ℕ → Option ℕ → Asker
 asking p top = record { «package» = p; top = top }
 
@@ -17,6 +18,7 @@ find_at H K (standing.Head c) n = in_head H K c n
 find_at H K (standing.Body c) n = in_body H K c n
 find_at H K (standing.Method m c) n = or_next (one_variable (named n (method_variables H m))) (in_body H K c n)
 
+-- in a head, one asks from the classes round it; in a method, from the body of its class
 abbrev pub asker_at : Heads → Standing → Asker
 asker_at H (standing.Unit u) = asking (unit_package H u) None
 asker_at H (standing.Head c) = head_asker H c

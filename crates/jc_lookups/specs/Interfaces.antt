@@ -5,6 +5,7 @@ use Rattle.std.specs.declared.option.Option.TheVariants.{Some, None}
 use Rattle.jc_class_out.specs.declared.model.ClassModel.{ClassModel}
 use Rattle.jc_jvm.specs.Classes.{or_else}
 
+-- the names of the direct superinterfaces of a class, in their order; a number that is no class has none
 abbrev pub interface_names : List ClassModel → ℕ → List (List ℕ)
 interface_names classes k = elim (slice_get classes k) [ Some c ↦ c.interfaces | None ↦ [] ]
 

@@ -19,6 +19,7 @@ found_above classes name descriptor steps class at =
     or_else (among_names (field_on classes name descriptor (steps - 1)) (class_named classes) (drop at (interface_names classes class)))
     (option_and_then (field_on classes name descriptor (steps - 1)) (super_of classes class))
 
+-- a task that leaves a class finds nothing; of several tasks the first that finds something counts
 abbrev pub task_finds : List ClassModel → List ℕ → List ℕ → Task → Option (ℕ × ℕ)
 task_finds classes name descriptor (Visit steps class) = field_on classes name descriptor steps class
 task_finds classes name descriptor (Climb steps class at) = found_above classes name descriptor steps class at
@@ -34,6 +35,7 @@ Says classes name descriptor before (Visit steps class) = Unit {0}
 Says classes name descriptor before (Climb steps class at) = before ≡ None → field_on classes name descriptor steps class ≡ found_above classes name descriptor steps class at
 Says classes name descriptor before (Leave steps class) = before ≡ None → field_on classes name descriptor steps class ≡ None
 
+-- the same of tasks one after the other, each behind what the earlier ones find
 abbrev pub AllSay : List ClassModel → List ℕ → List ℕ → Option (ℕ × ℕ) → List Task → Type 0
 AllSay classes name descriptor before [] = Unit {0}
 AllSay classes name descriptor before (t ∷ ts) = Says classes name descriptor before t × AllSay classes name descriptor (or_else before (task_finds classes name descriptor t)) ts

@@ -16,6 +16,7 @@ abbrev pub one_raw : ℕ → List Ty → Bool
 one_raw n [] = false
 one_raw n (v ∷ vs) = not (length (args_of v) == n) || one_raw n vs
 
+-- the argument at a place, and `?` where there is none
 abbrev pub or_any : Option Arg → Arg
 or_any (Some a) = a
 or_any None = Any
@@ -25,10 +26,12 @@ abbrev pub column : ℕ → List Ty → List Arg
 column i [] = []
 column i (v ∷ vs) = or_any (slice_get (args_of v) i) ∷ column i vs
 
+-- each of these arguments is the same as a
 abbrev pub all_same : Arg → List Arg → Bool
 all_same a [] = true
 all_same a (b ∷ bs) = same_args b a && all_same a bs
 
+-- the type of an argument that bounds it from above; None of `?` and of `? super U`
 abbrev pub upper_at : ArgLayer → Option Ty
 upper_at (Arg-F.Exact t) = Some t
 upper_at (Arg-F.Extends t) = Some t
@@ -43,6 +46,7 @@ abbrev pub behind : List Ty → Option (List Ty) → Option (List Ty)
 behind ts None = None
 behind ts (Some us) = Some (ts ++ us)
 
+-- an upper bound before others, None where one is missing
 abbrev pub with_upper : Option Ty → Option (List Ty) → Option (List Ty)
 with_upper None os = None
 with_upper (Some t) os = behind (t ∷ []) os
@@ -52,6 +56,7 @@ abbrev pub uppers : List Arg → Option (List Ty)
 uppers [] = Some []
 uppers (a ∷ args) = with_upper (upper_of a) (uppers args)
 
+-- f of the upper bounds, and `?` where an argument has none
 abbrev pub joined_uppers : (List Ty → Arg) → Option (List Ty) → Arg
 joined_uppers f None = Any
 joined_uppers f (Some ts) = f ts
@@ -61,6 +66,7 @@ abbrev pub joined : (List Ty → Arg) → List Arg → Arg
 joined f [] = Any
 joined f (a ∷ args) = if all_same a args then a else joined_uppers f (uppers (a ∷ args))
 
+-- place by place from place i on, for each parameter of the class
 abbrev pub joined_from : (List Ty → Arg) → List Ty → ℕ → List VarId → List Arg
 joined_from f vs i [] = []
 joined_from f vs i (p ∷ ps) = joined f (column i vs) ∷ joined_from f vs (i + 1) ps

@@ -18,16 +18,19 @@ use Rattle.jc_judge.specs.Meeting.{as_one}
 use Rattle.jc_lub.specs.Uncaptured.{up_view}
 use Rattle.jc_lub.specs.Columns.{joined_views}
 
+-- each of these types is the same as t
 abbrev pub all_same_types : Ty → List Ty → Bool
 all_same_types t [] = true
 all_same_types t (u ∷ us) = same u t && all_same_types t us
 
 -- ---- the classes above all
 
+-- the ids of these classes, counted from k
 abbrev pub numbers_from : ℕ → List ClassDecl → List ClassId
 numbers_from k [] = []
 numbers_from k (c ∷ cs) = numbered k ∷ numbers_from (k + 1) cs
 
+-- each of these types has a supertype of class k as it stands, or is of that class
 abbrev pub is_above_all : Table → List Bounds → List Ty → ClassId → Bool
 is_above_all T env [] k = true
 is_above_all T env (t ∷ ts) k = is_some (up_view T env k t) && is_above_all T env ts k
@@ -36,6 +39,7 @@ is_above_all T env (t ∷ ts) k = is_some (up_view T env k t) && is_above_all T 
 unfoldable pub common : Table → List Bounds → List Ty → List ClassId
 common T env ts = filter (is_above_all T env ts) (numbers_from 0 T.classes)
 
+-- class k is above class j, and another one
 abbrev pub is_over : Table → ClassId → ClassId → Bool
 is_over T k j = not (j.0 == k.0) && is_some (view T k (Raw j))
 
@@ -44,6 +48,7 @@ abbrev pub has_below : Table → List ClassId → ClassId → Bool
 has_below T [] k = false
 has_below T (j ∷ js) k = is_over T k j || has_below T js k
 
+-- a class, or an interface, below which there is no other one of `all`
 abbrev pub least_class : Table → List ClassId → ClassId → Bool
 least_class T all k = not (is_interface T k) && not (has_below T all k)
 
@@ -54,6 +59,7 @@ least_interface T all k = is_interface T k && not (has_below T all k)
 unfoldable pub candidates : Table → List ClassId → List ClassId
 candidates T all = filter (least_class T all) all ++ filter (least_interface T all) all
 
+-- a list of the type, if there is one
 abbrev pub if_there : Option Ty → List Ty
 if_there None = []
 if_there (Some t) = t ∷ []
@@ -73,6 +79,7 @@ by_supers T env f ts = as_one (map (joined_at T env f ts) (candidates T (common 
 
 -- ---- arrays and null
 
+-- of the n + 1 dimensions of an array those whose elements are references: the last isn't over a primitive type
 abbrev pub depth_over : Ty → ℕ → ℕ
 depth_over t n = if is_primitive t then n else n + 1
 
@@ -84,14 +91,17 @@ depth_at _ = 0
 unfoldable pub depth : Ty → ℕ
 depth t = depth_at (out-Ty t)
 
+-- the least depth of these types, and n where that is less
 abbrev pub shared_with : ℕ → List Ty → ℕ
 shared_with n [] = n
 shared_with n (t ∷ ts) = shared_with (min n (depth t)) ts
 
+-- the dimensions that are arrays of references in all of these types; 0 for no types
 abbrev pub shared : List Ty → ℕ
 shared [] = 0
 shared (t ∷ ts) = shared_with (depth t) ts
 
+-- of n + 1 dimensions over u d are taken away; what isn't an array stays
 abbrev pub stripped_at : ℕ → Ty → Layer → Ty
 stripped_at d t (Ty-F.Array u n) = lowered u (n + 1 - d)
 stripped_at d t _ = t
@@ -100,6 +110,7 @@ stripped_at d t _ = t
 unfoldable pub stripped : ℕ → Ty → Ty
 stripped d t = stripped_at d t (out-Ty t)
 
+-- an array of d dimensions of t; t itself where d is 0
 abbrev pub over : ℕ → Ty → Ty
 over zero t = t
 over (suc d) t = array_over d t
@@ -113,9 +124,11 @@ abbrev pub unless_same : (List Ty → Ty) → List Ty → Ty
 unless_same f [] = NullTy
 unless_same f (t ∷ ts) = if all_same_types t ts then t else f (t ∷ ts)
 
+-- each type but the null type
 abbrev pub not_null : Ty → Bool
 not_null t = not (is_null t)
 
+-- for types that aren't all the same: as many dimensions as they share, over the intersection of what is left
 abbrev pub arrays_and_supers : Table → List Bounds → (List Ty → Arg) → List Ty → Ty
 arrays_and_supers T env f ts = across (by_supers T env f) (shared ts) ts
 
@@ -128,5 +141,6 @@ abbrev pub join : Table → List Bounds → ℕ → List Ty → Arg
 join T env zero ts = Any
 join T env (suc d) ts = Extends (through T env (join T env d) ts)
 
+-- unequal arguments are joined once: in what `? extends` has then, unequal ones are `?` (JLS 15.12.2.7)
 abbrev pub lub : Table → List Bounds → List Ty → Ty
 lub T env ts = through T env (join T env 1) ts

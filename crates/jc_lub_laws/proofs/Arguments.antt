@@ -1,5 +1,5 @@
 -- Each argument of one place is contained in what the place gets.
-use Rattle.std.proofs.Common.{◌≡◌, inl, inr, ◌+◌, ◌==◌, ◌||◌, ◌&&◌, not, ℕ, zero, suc, Bool, true, false, Option, Some, None, List, [], ◌∷◌, length, drop, slice_get, refl, sym, ap, subst, ◌∙◌, if◌then◌else◌, arith}
+use Rattle.std.proofs.Common.{◌≡◌, inl, inr, ◌+◌, ◌==◌, ◌||◌, not, ℕ, zero, suc, Bool, true, false, Option, Some, None, List, [], ◌∷◌, length, drop, slice_get, refl, sym, ap, subst, ◌∙◌, if◌then◌else◌, arith}
 use Rattle.jc_rules.proofs.Truths.{and_first, and_second, equal_numbers}
 use Rattle.jc_types.specs.declared.form.Arg.{Arg, Arg-F, out-Arg}
 use Rattle.jc_types.specs.declared.form.Arg.TheVariants.{Any, outs-Any}

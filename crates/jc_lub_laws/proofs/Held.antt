@@ -22,7 +22,7 @@ use Rattle.jc_header_rules.specs.Checked.{IsAmong, IsOver}
 use Rattle.jc_lub_laws.specs.Under.{IsIn, as_it_is, any, extending, AllIn}
 use Rattle.jc_lub_laws.proofs.Closing.{close_arg, closing}
 use Rattle.jc_lub_laws.proofs.Homs.{Hom, substitution, composed, agree_on, narrow, over_along}
-use Rattle.jc_lub_laws.proofs.Layers.{as_exact, as_any, as_extends, as_super, as_variable}
+use Rattle.jc_lub_laws.proofs.Layers.{as_exact, as_any, as_extends, as_super, as_variable, exact_parts as exact_both}
 
 -- ---- arguments that are the same
 
@@ -36,9 +36,6 @@ alike_at a b _ _ e f s = cc
 pub alike : (a b : Arg) → same_args a b ≡ true → a ≡ b
 unfolding same_args
 alike a b s = alike_at a b (out-Arg a) (out-Arg b) refl refl s
-
-exact_both : (t u : Ty) → Exact t ≡ Exact u → t ≡ u
-exact_both t u e = let o : Arg-F.Exact t ≡ Arg-F.Exact u = sym (outs-Exact t) ∙ ap out-Arg e ∙ outs-Exact u in cc
 
 null_is_not_raw : NullTy ≡ Raw (numbered 0) → ⊥
 null_is_not_raw e = let o : Ty-F.NullTy ≡ Ty-F.Raw (numbered 0) = sym outs-NullTy ∙ ap out-Ty e ∙ outs-Raw (numbered 0) in cc

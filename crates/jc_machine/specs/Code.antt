@@ -43,6 +43,7 @@ end_of at ins = if nat_le (at + size_of at ins) 65535 then Some (at + size_of at
 abbrev pub place_of : ℕ → Ins → Option Placed
 place_of at ins = option_and_then (λ next. option_map (λ row. record { row = row; next = next }) (row_of ins)) (end_of at ins)
 
+-- the place of the first instruction, if there is one
 abbrev pub first_place : ℕ → List Ins → Option Placed
 first_place at [] = None
 first_place at (i ∷ is) = place_of at i

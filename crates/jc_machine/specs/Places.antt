@@ -15,6 +15,7 @@ places_from at [] = []
 places_from at (i ∷ is) =
     if nat_le (at + size_of at i) 65535 then place_of at i ∷ (replicate (size_of at i - 1) None ++ places_from (at + size_of at i) is) else []
 
+-- a method without code has no rows; those of a class's methods, and of all classes, are in their order
 abbrev pub places_of_code : Option CodeModel → List (Option Placed)
 places_of_code None = []
 places_of_code (Some code) = places_from 0 code.ins

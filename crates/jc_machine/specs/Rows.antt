@@ -26,6 +26,7 @@ is_push code = code == 0x10 || code == 0x11
 abbrev pub is_load_constant : ℕ → Bool
 is_load_constant code = code == 0x12 || code == 0x13
 
+-- only ints are loaded yet
 abbrev pub constant_row : ℕ → Loaded → Option Row
 constant_row code (LoadedWhole n) = if is_load_constant code then Some (Push n) else None
 constant_row code (LoadedLong n) = None
@@ -36,6 +37,7 @@ abbrev pub is_member : List ℕ → List ℕ → List ℕ → List ℕ → List 
 is_member wanted_class wanted_name wanted_descriptor class name descriptor =
     bytes_eq class wanted_class && bytes_eq name wanted_name && bytes_eq descriptor wanted_descriptor
 
+-- the three members that the machine knows
 abbrev pub is_out : List ℕ → List ℕ → List ℕ → Bool
 is_out = is_member (codes "java/lang/System") (codes "out") (codes "Ljava/io/PrintStream;")
 
@@ -52,7 +54,7 @@ member_row code class name descriptor =
     if code == 0xb6 && is_write class name descriptor then Some WriteByte else
     if code == 0xb7 && is_object_constructor class name descriptor then Some Construct else None
 
--- aload
+-- the row of an instruction by its operand: of those with a local only `aload`
 abbrev pub operand_row : ℕ → Operand → Option Row
 operand_row code Nothing = plain_row code
 operand_row code (Number n) = if is_push code then Some (Push n) else None

@@ -35,6 +35,7 @@ run_turn Goes s rest = rest s
 run_turn (Puts byte) s rest = first (byte ∷ []) (rest s)
 run_turn (Ends ran) s rest = record { output = []; ending = ran; after = s }
 
+-- by the move of the first step
 abbrev pub run_after : Move → (State → Seen) → Seen
 run_after move rest = run_turn (turn_of move.0) move.1 rest
 

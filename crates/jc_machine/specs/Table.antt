@@ -109,6 +109,7 @@ is_threw _ = false
 
 -- ---- the machine
 
+-- a machine with an ending is over, whatever its frames are
 abbrev pub state_by : Option Ending → Active → List Active → State
 state_by (Some ending) now callers = Over ending
 state_by None now callers = Going now callers

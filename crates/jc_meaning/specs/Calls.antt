@@ -48,6 +48,7 @@ frame_of P m receiver types = frame_with P m (class_part P m receiver ++ binding
 abbrev pub first_locals : TypedProgram → MethodId → List Value → List Value
 first_locals P m given = given ++ replicate (locals_of P m - length given) Null
 
+-- the body in a frame and variables of its own; behind it the caller has its own again
 abbrev pub run_method : TypedProgram → Bodies → MethodId → Option (Object Ty) → List Value → List Ty → TypedRun Value
 run_method P body m receiver given types =
     in_frame (first_locals P m given) (frame_of P m receiver types) (bind (body m) answer_of)
@@ -68,6 +69,7 @@ entered P called own v =
     if same_erased called own then give v else
     checked (typed_keeping P.table) P.table P.known EntryGuard own v
 
+-- each argument by the declared types of its parameter
 abbrev pub entered_all : TypedProgram → List Ty → List Ty → List Value → TypedRun (List Value)
 entered_all P (c ∷ cs) (o ∷ os) (v ∷ vs) =
     bind (entered P (erasure P.table [] c) (erasure P.table [] o) v) (λ w.
@@ -81,6 +83,7 @@ answered P (Some called) (Some own) v =
     checked (typed_keeping P.table) P.table P.known EntryGuard (erasure P.table [] called) v
 answered P _ _ v = give v
 
+-- the selected body; where the class has none, the program is none that was checked
 abbrev pub call_selected : TypedProgram → Bodies → MethodId → Option MethodId → ℕ → Object Ty → List Value → List Ty → TypedRun Value
 call_selected P body m None a o args types = wrong
 call_selected P body m (Some own) a o args types =

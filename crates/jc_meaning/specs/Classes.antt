@@ -15,9 +15,11 @@ use Rattle.jc_meaning.specs.Programs.{initialiser_of}
 use Rattle.jc_meaning.specs.Calls.{Bodies, call_static}
 use Rattle.jc_meaning.specs.Steps.{Ready}
 
+-- how far the initialisation of a class is, from now on
 abbrev pub set_readiness : ClassId → Readiness → TypedRun (Unit {0})
 set_readiness k state = change (λ s. record s { classes = slice_set s.classes k.0 state })
 
+-- a superclass is made ready for use; where there is none, nothing is done
 abbrev pub if_superclass : Ready → Option ClassId → TypedRun (Unit {0})
 if_superclass ready None = give tt
 if_superclass ready (Some k) = ready k
@@ -26,6 +28,7 @@ if_superclass ready (Some k) = ready k
 abbrev pub superclass_first : TypedProgram → Ready → ClassId → TypedRun (Unit {0})
 superclass_first P ready k = if is_interface P.table k then give tt else if_superclass ready (superclass_of P.table k)
 
+-- the static initialiser of the class, if it has one (JLS 12.4.2, step 9)
 abbrev pub run_initialiser : TypedProgram → Bodies → Option MethodId → TypedRun (Unit {0})
 run_initialiser P body None = give tt
 run_initialiser P body (Some m) = bind (call_static P body m [] []) (λ v. give tt)
@@ -56,5 +59,6 @@ use_class P first Begun = give tt
 use_class P first IsReady = give tt
 use_class P first Failed = raise (typed_keeping P.table) P.table P.known.thrown.no_class
 
+-- .. which the state says; an untouched class is initialised by `first`
 abbrev pub ready_by : TypedProgram → (ClassId → TypedRun (Unit {0})) → ClassId → TypedRun (Unit {0})
 ready_by P first k = bind (look (λ s. slice_get s.classes k.0)) (use_class P (first k))

@@ -62,9 +62,11 @@ module _ (P : TypedProgram) (r : Inner) where
   values_of [] = give []
   values_of (o ∷ os) = bind (value_of o) (λ v. bind (values_of os) (λ vs. give (v ∷ vs)))
 
+  -- the same of a list of operands as a tree holds it
   abbrev pub values : Operands → TypedRun (List Value)
   values os = values_of (operand_list os)
 
+  -- the first computation where the boolean is true, and else the second; a value that is a long or a reference is wrong
   abbrev pub choose : {A : Type 0} → Bool → TypedRun A → TypedRun A → TypedRun A
   choose true m n = m
   choose false m n = n
@@ -81,6 +83,7 @@ module _ (P : TypedProgram) (r : Inner) where
   abbrev pub get_static : FieldId → TypedRun Value
   get_static f = behind (r.ready (field_class T f)) (look (λ s. slice_get s.statics f.0))
 
+  -- .. and its change
   abbrev pub set_static : FieldId → Value → TypedRun (Unit {0})
   set_static f v = behind (r.ready (field_class T f)) (change (λ s. record s { statics = slice_set s.statics f.0 v }))
 
@@ -91,6 +94,7 @@ module _ (P : TypedProgram) (r : Inner) where
       bind (object_at a) (λ o.
       bind (some_or_wrong (slot_of T f)) (λ slot. some_or_wrong (slice_get o.parts slot))))
 
+  -- .. and its change
   abbrev pub set_field : FieldId → Value → Value → TypedRun (Unit {0})
   set_field f of_it v =
       bind (address_of keeping T P.known of_it) (λ a.
@@ -103,12 +107,14 @@ module _ (P : TypedProgram) (r : Inner) where
       bind (object_at a) (λ o.
       bind (place_of keeping T P.known o index) (λ n. some_or_wrong (slice_get o.parts n))))
 
+  -- .. and its change, which tests that an array of references can have the value (JLS 10.5)
   abbrev pub set_element : Value → Value → Value → TypedRun (Unit {0})
   set_element array index v =
       bind (address_of keeping T P.known array) (λ a.
       bind (object_at a) (λ o.
       bind (place_of keeping T P.known o index) (λ n. store keeping T P.known a o n v)))
 
+  -- the length of an array; null throws (JLS 10.7, 15.11.1)
   abbrev pub length_of : Value → TypedRun Value
   length_of array =
       bind (address_of keeping T P.known array) (λ a.
@@ -128,6 +134,7 @@ module _ (P : TypedProgram) (r : Inner) where
   printer_of p printed.Long = p.of_long
   printer_of p printed.Reference = p.of_object
 
+  -- by the two calls, for which String is initialised first
   abbrev pub text_of : Printed → Value → TypedRun Value
   text_of as_it v =
       behind (r.ready P.known.string)
@@ -177,6 +184,7 @@ module _ (P : TypedProgram) (r : Inner) where
   target_of (FieldVariable of_it f) = bind (value_of of_it) (λ v. give (ToField v f))
   target_of (ElementVariable array index) = bind (value_of array) (λ a. bind (value_of index) (λ i. give (ToElement a i)))
 
+  -- the value that a variable has, and another value for it
   abbrev pub read_target : Target → TypedRun Value
   read_target (ToLocal n) = local n
   read_target (ToStatic f) = get_static f
@@ -207,6 +215,7 @@ module _ (P : TypedProgram) (r : Inner) where
   first_value [] = wrong
   first_value (v ∷ vs) = give v
 
+  -- a static call initialises the class first (JLS 12.4.1); for the others the first value of the receiver is the object
   abbrev pub call_with : CallKind → MethodId → List Value → List Value → List Ty → TypedRun Value
   call_with Static m receiver args types = behind (r.ready (method_class T m)) (call_static P r.body m args types)
   call_with Virtual m receiver args types = bind (first_value receiver) (λ v. call_virtual P r.body m v args types)
@@ -233,6 +242,7 @@ module _ (P : TypedProgram) (r : Inner) where
   fill a at zero m = give tt
   fill a at (suc n) m = behind (bind m (set_part a at)) (fill a (suc at) n m)
 
+  -- the element type of an array type; another type is its own
   abbrev pub or_same : Ty → Option Ty → Ty
   or_same t (Some u) = u
   or_same t None = t
@@ -240,6 +250,7 @@ module _ (P : TypedProgram) (r : Inner) where
   abbrev pub element_type : Ty → Ty
   element_type t = or_same t (element t)
 
+  -- .. by the lengths that are left; with the last one the elements are as new
   abbrev pub arrays : Ty → List ℕ → TypedRun Value
   arrays t [] = give NullValue
   arrays t (n ∷ []) = bind (new_array t n) (λ a. give (Address a))
@@ -260,6 +271,7 @@ module _ (P : TypedProgram) (r : Inner) where
   fill_with a at (o ∷ os) =
       bind (value_of o) (λ v. behind (set_element (Address a) (Whole (pos at)) v) (fill_with a (suc at) os))
 
+  -- what a form does, by its kind; `ty` is the static type of the expression
   abbrev pub form_of : Place → Ty → Form → TypedRun Value
   form_of place ty (Fixed before value) = behind (values before) (constant_value value)
   form_of place ty Null = give NullValue
@@ -318,6 +330,7 @@ module _ (P : TypedProgram) (r : Inner) where
   abbrev pub nth_type : List Ty → ℕ → Option Ty
   nth_type ts n = slice_get ts n
 
+  -- the argument of the object's kept type; None for null, and where the type has no such argument
   abbrev pub said_by : TypedState → Capture → Option (Object Ty) → Option Ty
   said_by s c None = None
   said_by s c (Some o) = slice_get (arguments_as T c.class o.kept) c.at
@@ -326,15 +339,18 @@ module _ (P : TypedProgram) (r : Inner) where
   object_of s (Address a) = slice_get s.heap a
   object_of s _ = None
 
+  -- where no value says it, it stands for its lower bound or the null type
   abbrev pub said_or : TypedState → CaptureId → Option Ty → Ty
   said_or s c (Some t) = t
   said_or s c None = unsaid s.frame.variables s.frame.captured (captured_of P s.frame.method) c
 
+  -- each of these variables, in their order
   abbrev pub capture : Value → List Capture → TypedRun (Unit {0})
   capture v [] = give tt
   capture v (c ∷ cs) =
       behind (λ u s. set_captured c.capture (said_or s c.capture (said_by s c (object_of s v))) u s) (capture v cs)
 
+  -- a value, which is noted if its form is one of those
   abbrev pub noted : Bool → Place → Ty → Value → TypedRun Value
   noted true place ty v = note place ty v
   noted false place ty v = give v

@@ -22,9 +22,11 @@ use Rattle.jc_meaning.specs.declared.frame.Frame.{Frame}
 use Rattle.jc_meaning.specs.declared.frame.Read.{Read}
 use Rattle.jc_heaps.specs.Making.{Keeping}
 
+-- a state whose objects keep types, with the frame of the running method and the record of what was read
 abbrev pub TypedState : Type 0
 TypedState = State Ty Frame (List Read)
 
+-- a computation on such a state
 abbrev pub TypedRun : Type 0 → Type 0
 TypedRun A = Run TypedState A
 
@@ -33,6 +35,7 @@ abbrev pub bound_to : VarId → List Binding → Ty
 bound_to v [] = NullTy
 bound_to v (b ∷ bs) = if b.variable.0 == v.0 then b.stands_for else bound_to v bs
 
+-- .. by the outermost layer of the type, in which the variables are replaced already
 abbrev pub close_step : List Binding → List Ty → Ty-F Arg Ty → Ty
 close_step vars captured (Ty-F.Variable v) = bound_to v vars
 close_step vars captured (Ty-F.Captured c) = get_or captured c.0 NullTy
@@ -49,6 +52,7 @@ bindings [] ts = []
 bindings (v ∷ vs) [] = record { variable = v; stands_for = NullTy } ∷ bindings vs []
 bindings (v ∷ vs) (t ∷ ts) = record { variable = v; stands_for = t } ∷ bindings vs ts
 
+-- the type of an argument; the null type where it is a wildcard
 abbrev pub exact_or_null : Arg-F Arg Ty → Ty
 exact_or_null (Arg-F.Exact t) = t
 exact_or_null _ = NullTy
@@ -56,6 +60,7 @@ exact_or_null _ = NullTy
 abbrev pub exact_types : List Arg → List Ty
 exact_types args = map (λ a. exact_or_null (out-Arg a)) args
 
+-- the arguments of a class type; none for another type
 abbrev pub arguments_at : Ty-F Arg Ty → List Ty
 arguments_at (Ty-F.Class id args) = exact_types args
 arguments_at _ = []
@@ -72,6 +77,7 @@ arguments_as T k kept = arguments_in (view T k kept)
 abbrev pub class_bindings : Table → ClassId → Ty → List Binding
 class_bindings T k kept = bindings (vars_of T k) (arguments_as T k kept)
 
+-- by the outermost layer of the type
 abbrev pub kept_at : Table → Ty → Ty-F Arg Ty → Ty
 kept_at T t (Ty-F.Raw k) = Class k (replicate (length (vars_of T k)) (Exact NullTy))
 kept_at T t _ = t
@@ -80,6 +86,7 @@ kept_at T t _ = t
 unfoldable pub kept_by : Table → Ty → Ty
 kept_by T t = kept_at T t (out-Ty t)
 
+-- by the outermost layer of the type, in which the raw types are replaced already
 abbrev pub unbounded_step : Table → Ty-F Arg Ty → Ty
 unbounded_step T (Ty-F.Raw k) = Class k (replicate (length (vars_of T k)) Any)
 unbounded_step T layer = roll-Ty layer
@@ -106,6 +113,7 @@ closed t u s = give (closed_in s t) u s
 abbrev pub closed_all : List Ty → TypedRun (List Ty)
 closed_all ts u s = give (map (closed_in s) ts) u s
 
+-- a lower bound with what its variables stand for, or the null type where there is none
 abbrev pub lower_or_null : List Binding → List Ty → Option Ty → Ty
 lower_or_null vars captured None = NullTy
 lower_or_null vars captured (Some l) = close vars captured l
@@ -114,6 +122,7 @@ lower_or_null vars captured (Some l) = close vars captured l
 abbrev pub unsaid : List Binding → List Ty → List Bounds → CaptureId → Ty
 unsaid vars captured env c = lower_or_null vars captured (lower_bound_of env c)
 
+-- those before stand for `captured` already
 abbrev pub unsaid_on : List Binding → List Bounds → List Ty → List Bounds → List Ty
 unsaid_on vars env captured [] = captured
 unsaid_on vars env captured (b ∷ bs) = unsaid_on vars env (captured ++ lower_or_null vars captured b.lower ∷ []) bs
@@ -122,5 +131,6 @@ unsaid_on vars env captured (b ∷ bs) = unsaid_on vars env (captured ++ lower_o
 abbrev pub unsaid_all : List Binding → List Bounds → List Ty
 unsaid_all vars env = unsaid_on vars env [] env
 
+-- what a captured variable stands for from now on in the running method
 abbrev pub set_captured : CaptureId → Ty → TypedRun (Unit {0})
 set_captured c t = change (λ s. record s { frame = record s.frame { captured = slice_set s.frame.captured c.0 t } })

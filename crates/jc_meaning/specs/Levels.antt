@@ -24,6 +24,7 @@ Holds_at below Arg-F.Any a = Unit {0}
 Holds_at below (Arg-F.Extends u) a = below a u
 Holds_at below (Arg-F.Super l) a = below l a
 
+-- argument by argument, up to the end of the shorter list
 abbrev pub AllHeld : Relation → List Arg → List Ty → Type 0
 AllHeld below [] ks = Unit {0}
 AllHeld below (a ∷ args) [] = Unit {0}
@@ -46,6 +47,7 @@ Views T k id ks = (view T id k ≡ Some (Class id (map Exact ks))) × (length ks
 -- that it has a view as; it fits a class type whose arguments hold those of its view; arrays go by their elements; an intersection
 -- asks all of its parts
 mutual
+  -- one type, by one of these
   pub data FitsOver (T : Table) (below : Relation) (k : Ty) : Ty → Type 0 where
     to_object : {t : Ty} → is_object t ≡ true → FitsOver T below k t
     to_raw : {t : Ty} {id : ClassId} {v : Ty} → class_of t ≡ Some id → is_raw T t ≡ true → view T id k ≡ Some v → FitsOver T below k t
@@ -54,6 +56,7 @@ mutual
     to_array : {t a b : Ty} → element k ≡ Some a → element t ≡ Some b → is_primitive a ≡ false → is_primitive b ≡ false → below a b → FitsOver T below k t
     to_meet : {t : Ty} {parts : List Ty} → out-Ty t ≡ Ty-F.Meet parts → FitsAll T below k parts → FitsOver T below k t
 
+  -- .. and each type of a list, which are the parts of an intersection
   pub data FitsAll (T : Table) (below : Relation) (k : Ty) : List Ty → Type 0 where
     none : FitsAll T below k []
     more : {t : Ty} {ts : List Ty} → FitsOver T below k t → FitsAll T below k ts → FitsAll T below k (t ∷ ts)
@@ -63,6 +66,7 @@ abbrev pub BelowAll : Relation → Ty → List Ty → Type 0
 BelowAll below k [] = Unit {0}
 BelowAll below k (b ∷ bs) = below k b × BelowAll below k bs
 
+-- `vars` and `by` are all parameters and their arguments; the lists behind them are those still to be looked at
 abbrev pub ArgsSound : Table → Relation → List VarId → List Ty → List VarId → List Ty → Type 0
 ArgsSound T below vars by [] ks = Unit {0}
 ArgsSound T below vars by (p ∷ ps) [] = Unit {0}
@@ -82,6 +86,7 @@ unfoldable pub BelowAt : Table → ℕ → Ty → Ty → Type 0
 BelowAt T zero s t = PrimitivesBelow s t
 BelowAt T (suc n) s t = BelowAt T n s t × ((k : Ty) → SoundOver T (BelowAt T n) k → FitsOver T (BelowAt T n) k s → FitsOver T (BelowAt T n) k t)
 
+-- a kept type fits a type, and is sound, at a level; at level 0 it fits each type that isn't primitive, and is sound
 abbrev pub FitsAt : Table → ℕ → Ty → Ty → Type 0
 FitsAt T zero k t = is_primitive t ≡ false
 FitsAt T (suc n) k t = FitsOver T (BelowAt T n) k t

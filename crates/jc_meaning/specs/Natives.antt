@@ -31,6 +31,7 @@ native_of n m =
     if m.0 == n.read_byte.0 then Some ReadByte else
     if m.0 == n.halt.0 then Some Halt else None
 
+-- the letter of a primitive type in the name of an array class (JVMS 4.3.2)
 abbrev pub letter_of : Primitive → List ℕ
 letter_of primitive.Boolean = codes "Z"
 letter_of primitive.Byte = codes "B"
@@ -39,11 +40,13 @@ letter_of primitive.Char = codes "C"
 letter_of primitive.Int = codes "I"
 letter_of primitive.Long = codes "J"
 
+-- a class as an element stands between `L` and `;`
 abbrev pub element_name : Table → Base → List ℕ
 element_name T (base.Prim p) = letter_of p
 element_name T (base.Class k) = codes "L" ++ binary_of T k ++ codes ";"
 element_name T base.NullTy = []
 
+-- the name of a class; a primitive type, which no object is of, has none
 abbrev pub plain_name : Table → Base → List ℕ
 plain_name T (base.Class k) = binary_of T k
 plain_name T _ = []
@@ -52,10 +55,12 @@ plain_name T _ = []
 abbrev pub name_of : Table → Erased → List ℕ
 name_of T e = if e.dims == 0 then plain_name T e.base else replicate e.dims 91 ++ element_name T e.base
 
+-- the address that a reference holds; null and a number are wrong
 abbrev pub address_in : {S : Type 0} → Value → Run S ℕ
 address_in (Address a) = give a
 address_in _ = wrong
 
+-- the int that a variable holds
 abbrev pub whole_in : {K F R : Type 0} → ℕ → Run (State K F R) ℤ
 whole_in n = bind (local n) (λ v. some_or_wrong (whole_of v))
 

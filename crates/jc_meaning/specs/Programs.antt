@@ -35,6 +35,7 @@ abbrev pub body_in : TypedMethod → Option Body → Option (List Stmt)
 body_in m None = None
 body_in m (Some b) = Some (stmt_list (stmts_of m.nodes b.call) ++ stmt_list (stmts_of m.nodes b.initialisers) ++ stmt_of m.nodes b.rest ∷ [])
 
+-- .. of a method by its number; None where it has no body, or there is no such method
 abbrev pub body_of_method : Option TypedMethod → Option (List Stmt)
 body_of_method (Some m) = body_in m m.body
 body_of_method None = None
@@ -42,6 +43,7 @@ body_of_method None = None
 abbrev pub body_of : TypedProgram → MethodId → Option (List Stmt)
 body_of P m = body_of_method (slice_get P.methods m.0)
 
+-- none where there is no such method
 abbrev pub bounds_in : Option TypedMethod → List Bounds
 bounds_in (Some m) = m.captured.bounds
 bounds_in None = []
@@ -50,6 +52,7 @@ bounds_in None = []
 abbrev pub captured_of : TypedProgram → MethodId → List Bounds
 captured_of P m = bounds_in (slice_get P.methods m.0)
 
+-- how many variables a method has, the receiver and the parameters among them; none where there is no such method
 abbrev pub locals_in : Option TypedMethod → ℕ
 locals_in (Some m) = length m.locals
 locals_in None = 0
@@ -61,6 +64,7 @@ locals_of P m = locals_in (slice_get P.methods m.0)
 abbrev pub method_class : Table → MethodId → ClassId
 method_class T m = or_object (method_owner_of T m)
 
+-- whether a method is a static initialiser
 abbrev pub is_static_initialiser : MethodKind → Bool
 is_static_initialiser StaticInitialiser = true
 is_static_initialiser _ = false
@@ -69,6 +73,7 @@ abbrev pub initialises : Option MethodKind → Bool
 initialises (Some kind) = is_static_initialiser kind
 initialises None = false
 
+-- the first of these methods that is one
 abbrev pub first_initialiser : Table → List MethodId → Option MethodId
 first_initialiser T [] = None
 first_initialiser T (m ∷ ms) = if initialises (method_kind_of T m) then Some m else first_initialiser T ms
@@ -77,6 +82,7 @@ first_initialiser T (m ∷ ms) = if initialises (method_kind_of T m) then Some m
 abbrev pub initialiser_of : Table → ClassId → Option MethodId
 initialiser_of T k = first_initialiser T (methods_of T k)
 
+-- the body for this method among those that are listed for the class; None where none is
 abbrev pub selected_in : MethodId → List Selection → Option MethodId
 selected_in m [] = None
 selected_in m (s ∷ ss) = if s.method.0 == m.0 then Some s.body else selected_in m ss

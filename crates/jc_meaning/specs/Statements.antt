@@ -41,6 +41,7 @@ module _ (P : TypedProgram) (r : Inner) (run : Stmt → TypedRun Completion) (k 
   set_first n [] = give tt
   set_first n (v ∷ vs) = set_local n v
 
+  -- the declared variables of a statement, from the first one on
   abbrev pub declare : Declared → TypedRun (Unit {0})
   declare NoDeclared = give tt
   declare (MoreDeclared before place n value) = behind (declare before) (bind (values P r value) (set_first n))
@@ -58,12 +59,14 @@ module _ (P : TypedProgram) (r : Inner) (run : Stmt → TypedRun Completion) (k 
   after_body own (Continued t) go_on = if t == own then go_on else give (Last (Continued t))
   after_body own (Returned v) go_on = give (Last (Returned v))
 
+  -- another turn, and the end of a loop whose test doesn't hold
   abbrev pub again : TypedRun (Turn (Unit {0}))
   again = give (Again tt)
 
   abbrev pub ended : {I : Type 0} → TypedRun (Turn I)
   ended = give (Last Normal)
 
+  -- a turn of `while` and `for`, with the test first and the update last, and one of `do`, with the test last (JLS 14.12 to 14.14)
   abbrev pub while_turn : ℕ → TypedRun Value → TypedRun Completion → TypedRun (Unit {0}) → TypedRun (Turn (Unit {0}))
   while_turn own test body update =
       bind test (λ v. if_true P r v (bind body (λ c. after_body own c (behind update again))) ended)
@@ -71,6 +74,7 @@ module _ (P : TypedProgram) (r : Inner) (run : Stmt → TypedRun Completion) (k 
   abbrev pub do_turn : ℕ → TypedRun Completion → TypedRun Value → TypedRun (Turn (Unit {0}))
   do_turn own body test = bind body (λ c. after_body own c (bind test (λ v. if_true P r v again ended)))
 
+  -- turns whose number is bounded by the depth
   abbrev pub loop : (Unit {0} → TypedRun (Turn (Unit {0}))) → TypedRun Completion
   loop turn = turns k turn tt
 
@@ -85,10 +89,12 @@ module _ (P : TypedProgram) (r : Inner) (run : Stmt → TypedRun Completion) (k 
       behind (capture P r v captures)
       (bind (note P r place ty v) (λ w. bind (steps P r.body r.ready ss w) (set_local n)))
 
+  -- whether an index is less than the length of the array
   abbrev pub is_before : ℕ → Value → TypedRun Bool
   is_before i (Whole n) = give (int_lt (pos i) n)
   is_before i _ = wrong
 
+  -- a turn of an enhanced `for` at an index of an array, and one over an iterator (JLS 14.14.2); the length is read at each turn
   abbrev pub array_turn : ℕ → Value → (Value → TypedRun (Unit {0})) → TypedRun Completion → ℕ → TypedRun (Turn ℕ)
   array_turn own array take body i =
       bind (length_of P r array) (λ n.
@@ -127,6 +133,7 @@ module _ (P : TypedProgram) (r : Inner) (run : Stmt → TypedRun Completion) (k 
   or_else (Some n) other = Some n
   or_else None other = other
 
+  -- the statements behind the label; none where there is no label
   abbrev pub run_from : List Stmt → Option ℕ → TypedRun Completion
   run_from ss None = give Normal
   run_from ss (Some n) = run_all (drop n ss)
@@ -144,6 +151,7 @@ module _ (P : TypedProgram) (r : Inner) (run : Stmt → TypedRun Completion) (k 
   is_any_of e [] = false
   is_any_of e (t ∷ ts) = if is_of P.table e (erasure P.table [] t) then true else is_any_of e ts
 
+  -- the clauses from the first one on; where none takes the exception, `other` is done
   abbrev pub caught : Catches → ℕ → Erased → TypedRun Completion → TypedRun Completion
   caught NoCatches a e other = other
   caught (MoreCatches before place n types body) a e other =
@@ -152,6 +160,7 @@ module _ (P : TypedProgram) (r : Inner) (run : Stmt → TypedRun Completion) (k 
   abbrev pub catch : Catches → ℕ → TypedRun Completion
   catch catches a = bind (object_at a) (λ o. caught catches a (keeping.erased o.kept) (throw a))
 
+  -- a block with its catch clauses
   abbrev pub try : Stmt → Catches → TypedRun Completion
   try body catches = both_ways (run body) give (catch catches)
 
@@ -167,9 +176,11 @@ module _ (P : TypedProgram) (r : Inner) (run : Stmt → TypedRun Completion) (k 
   abbrev pub initialise : FieldId → Value → TypedRun (Unit {0})
   initialise f v = if is_static P.table f then set_static P r f v else bind (local 0) (λ o. set_field P r f o v)
 
+  -- a computation whose value is dropped, so that it completes normally
   abbrev pub normally : {A : Type 0} → TypedRun A → TypedRun Completion
   normally m = behind m (give Normal)
 
+  -- what a statement does, by its kind
   abbrev pub form_act : Place → StmtForm → TypedRun Completion
   form_act place Empty = give Normal
   form_act place (Block ss) = run_all (stmt_list ss)

@@ -36,6 +36,7 @@ boxed P body ready box v = behind (ready box.class) (call_static P body box.make
 abbrev pub unboxed : TypedProgram → Bodies → BoxedIn → Value → TypedRun Value
 unboxed P body box v = call_direct P body box.value v [] []
 
+-- one step: a conversion of numbers, a call for a box, a test of a reference, and no act at all for a step up
 abbrev pub step : TypedProgram → Bodies → Ready → Step → Value → TypedRun Value
 step P body ready (Widen to) v = some_or_wrong (converted to v)
 step P body ready (Narrow to) v = some_or_wrong (converted to v)

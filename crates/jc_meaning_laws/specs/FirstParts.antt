@@ -22,6 +22,7 @@ shown_by (Exited code s) = Some s.shown
 shown_by (Going s) = Some s.shown
 shown_by Wrong = None
 
+-- what is shown later begins with what was shown; what is wrong stays so, and what isn't yet can be wrong later
 abbrev pub GoesOn : Option Shown → Option Shown → Type 0
 GoesOn None q = q ≡ None
 GoesOn (Some p) None = Unit {0}

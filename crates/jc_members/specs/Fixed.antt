@@ -11,6 +11,7 @@ use Rattle.jc_overriding.specs.declared.view.MethodView.{MethodView}
 use Rattle.jc_overriding.specs.Signatures.{has_no_variables, same_all}
 use Rattle.jc_overriding.specs.Viewing.{plain}
 
+-- there are no type parameters
 abbrev pub has_none : List VarId → Bool
 has_none [] = true
 has_none (v ∷ vs) = false
@@ -19,6 +20,7 @@ has_none (v ∷ vs) = false
 unfoldable pub is_own_erasure : Table → Ty → Bool
 is_own_erasure T t = same (plain T t) t
 
+-- each of these types is its own erasure
 abbrev pub are_own_erasures : Table → List Ty → Bool
 are_own_erasures T [] = true
 are_own_erasures T (t ∷ ts) = is_own_erasure T t && are_own_erasures T ts

@@ -14,6 +14,7 @@ use Rattle.jc_members.specs.Below.{replaces}
 abbrev pub has_method : Table → Ty → MethodId → Bool
 has_method T t m = is_viewed (view_of_owner T t (method_owner_of T m))
 
+-- a list of the method, where the type declares or may inherit it and its class is above the type; else the empty list
 abbrev pub if_candidate : Table → Ty → MethodId → List MethodId
 if_candidate T t m = cond (is_candidate T t m && has_method T t m) (m ∷ []) []
 
@@ -27,6 +28,7 @@ abbrev pub replaced_by : Table → MethodId → List MethodId → Bool
 replaced_by T m [] = false
 replaced_by T m (w ∷ ws) = replaces T w m || replaced_by T m ws
 
+-- of these those that none of `all` overrides or hides
 abbrev pub remaining_in : Table → List MethodId → List MethodId → List MethodId
 remaining_in T all [] = []
 remaining_in T all (m ∷ ms) = cond (replaced_by T m all) [] (m ∷ []) ++ remaining_in T all ms
@@ -48,6 +50,7 @@ marked_by T w [] fs = []
 marked_by T w (m ∷ ms) [] = []
 marked_by T w (m ∷ ms) (f ∷ fs) = (f || replaces T w m) ∷ marked_by T w ms fs
 
+-- .. by one of these methods
 abbrev pub marked_by_all : Table → List MethodId → List MethodId → List Bool → List Bool
 marked_by_all T [] ms fs = fs
 marked_by_all T (w ∷ ws) ms fs = marked_by_all T ws ms (marked_by T w ms fs)
@@ -58,6 +61,7 @@ kept_by [] fs = []
 kept_by (m ∷ ms) [] = []
 kept_by (m ∷ ms) (f ∷ fs) = cond f [] (m ∷ []) ++ kept_by ms fs
 
+-- as many marks as there are methods, none of them set
 abbrev pub unmarked : List MethodId → List Bool
 unmarked [] = []
 unmarked (m ∷ ms) = false ∷ unmarked ms

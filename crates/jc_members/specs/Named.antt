@@ -7,6 +7,7 @@ use Rattle.jc_types.specs.Names.{named}
 use Rattle.jc_overriding.specs.Overriding.{has_name}
 use Rattle.jc_members.specs.declared.named.MethodIndex.{MethodIndex}
 
+-- a list of method i, where it has this name; else the empty list
 abbrev pub if_named : Table → List ℕ → ℕ → List MethodId
 if_named T name i = cond (has_name T name (record { 0 = i })) (record { 0 = i } ∷ []) []
 
@@ -19,6 +20,7 @@ named_from T name i (suc n) = if_named T name i ++ named_from T name (suc i) n
 abbrev pub all_named : Table → List ℕ → List MethodId
 all_named T name = named_from T name 0 (length T.methods)
 
+-- the methods of a group; none where it has no number, or there is no group of that number
 abbrev pub group_in : Option (List MethodId) → List MethodId
 group_in None = []
 group_in (Some ids) = ids
@@ -27,6 +29,7 @@ abbrev pub group_at : List (List MethodId) → Option ℕ → List MethodId
 group_at groups None = []
 group_at groups (Some g) = group_in (slice_get groups g)
 
+-- the methods that an index has for a name: those of the group whose number the name has
 abbrev pub ids_in : List (List ℕ × ℕ) → List (List MethodId) → List ℕ → List MethodId
 ids_in names groups name = group_at groups (named name names)
 
@@ -39,6 +42,7 @@ pub record IsNumbered (names : List (List ℕ × ℕ)) (n : ℕ) : Type 0 where
   pub below : (q : List ℕ) (g : ℕ) → named q names ≡ Some g → g < n
   pub apart : (q r : List ℕ) (g : ℕ) → named q names ≡ Some g → named r names ≡ Some g → bytes_eq q r ≡ true
 
+-- with a method more in group g, which has these so far; unchanged where there is no such group
 abbrev pub pushed_in : ℕ → MethodId → List (List MethodId) → Option (List MethodId) → List (List MethodId)
 pushed_in g id groups None = groups
 pushed_in g id groups (Some ids) = slice_set groups g (ids ++ id ∷ [])

@@ -17,6 +17,7 @@ picked test i (suc n) = cond (test i) (i ∷ []) [] ++ picked test (suc i) n
 
 -- ---- the methods that a class declares
 
+-- class k declares method n; a method without a class counts as one of Object, class 0
 abbrev pub is_owned : Table → ℕ → ℕ → Bool
 is_owned T k n = (owner T (record { 0 = n })).0 == k
 
@@ -24,6 +25,7 @@ is_owned T k n = (owner T (record { 0 = n })).0 == k
 abbrev pub owned : Table → ℕ → List ℕ
 owned T k = picked (is_owned T k) 0 (length T.methods)
 
+-- the methods of a group; none where there is no such group
 abbrev pub numbers_in : Option (List ℕ) → List ℕ
 numbers_in None = []
 numbers_in (Some ns) = ns
@@ -31,6 +33,7 @@ numbers_in (Some ns) = ns
 abbrev pub numbers_at : List (List ℕ) → ℕ → List ℕ
 numbers_at groups k = numbers_in (slice_get groups k)
 
+-- with a method more of class k, which has these so far; unchanged where there is no such group
 abbrev pub pushed_in : ℕ → ℕ → List (List ℕ) → Option (List ℕ) → List (List ℕ)
 pushed_in k n groups None = groups
 pushed_in k n groups (Some ns) = slice_set groups k (ns ++ n ∷ [])
@@ -46,6 +49,7 @@ pub record IsOwnerIndex (T : Table) (index : OwnerIndex) : Type 0 where
 
 -- ---- the methods of several classes
 
+-- the methods of these classes, class by class
 abbrev pub gathered : List (List ℕ) → List ℕ → List ℕ
 gathered groups [] = []
 gathered groups (k ∷ ks) = numbers_at groups k ++ gathered groups ks
@@ -60,6 +64,7 @@ abbrev pub ascends_from : ℕ → List ℕ → Bool
 ascends_from x [] = true
 ascends_from x (y ∷ ys) = nat_lt x y && ascends_from y ys
 
+-- .. from the first on
 abbrev pub ascends : List ℕ → Bool
 ascends [] = true
 ascends (x ∷ xs) = ascends_from x xs
@@ -74,6 +79,7 @@ are_all index above k ks = above.is_whole && is_some (get nat_eq above.views k.0
 abbrev pub stands_in : Table → ClassId → MethodId → Bool
 stands_in T k m = same_class (owner T m) k || is_viewed (view T (owner T m) (own_type T k))
 
+-- .. for a method's number
 abbrev pub is_standing : Table → ClassId → ℕ → Bool
 is_standing T k n = stands_in T k (record { 0 = n })
 
@@ -81,9 +87,11 @@ is_standing T k n = stands_in T k (record { 0 = n })
 abbrev pub standing_numbers : Table → ClassId → List ℕ
 standing_numbers T k = picked (is_standing T k) 0 (length T.methods)
 
+-- numbers as methods
 abbrev pub ids_of : List ℕ → List MethodId
 ids_of [] = []
 ids_of (n ∷ ns) = record { 0 = n } ∷ ids_of ns
 
+-- the methods that class k or a class above it declares, in the order of the table
 abbrev pub standing : Table → ClassId → List MethodId
 standing T k = ids_of (standing_numbers T k)

@@ -13,6 +13,7 @@ use Rattle.jc_name_index.specs.declared.index.Index.{Index}
 
 -- ---- where each declaration is noted, and under which name
 
+-- under a name in the space of the innermost class; nowhere for a type of a unit
 abbrev pub inside_first : List ℕ → List ℕ → Option (ℕ × List ℕ)
 inside_first [] name = None
 inside_first (c ∷ round) name = Some (c, name)
@@ -21,6 +22,7 @@ inside_first (c ∷ round) name = Some (c, name)
 abbrev pub as_member : ClassHead → Option (ℕ × List ℕ)
 as_member c = inside_first c.round c.name
 
+-- under a name in the space of its unit, if no class is round it
 abbrev pub outside_all : List ℕ → ℕ → List ℕ → Option (ℕ × List ℕ)
 outside_all [] unit name = Some (unit, name)
 outside_all (c ∷ round) unit name = None
@@ -33,9 +35,11 @@ as_top c = outside_all c.round c.unit c.name
 abbrev pub as_package : UnitHead → Option (ℕ × List ℕ)
 as_package u = Some (0, u.«package»)
 
+-- the number of the first unit of a package; None where no unit is of it
 abbrev pub package_number : Heads → List ℕ → Option ℕ
 package_number H p = named p (picked as_package 0 0 H.units)
 
+-- under a name in the space of a package, which has the number of its first unit; nowhere where there is none
 abbrev pub in_numbered : Option ℕ → List ℕ → Option (ℕ × List ℕ)
 in_numbered None name = None
 in_numbered (Some k) name = Some (k, name)
@@ -57,6 +61,7 @@ abbrev pub numbered_named : List Named → Option ℕ → List ℕ → Option �
 numbered_named spaces None n = None
 numbered_named spaces (Some k) n = space_named spaces k n
 
+-- under a name in the space of the class, or of the method, that owns it
 abbrev pub of_class : Owner → List ℕ → Option (ℕ × List ℕ)
 of_class (owner.Class c) name = Some (c.0, name)
 of_class (owner.Method m) name = None
@@ -65,6 +70,7 @@ abbrev pub of_method : Owner → List ℕ → Option (ℕ × List ℕ)
 of_method (owner.Class c) name = None
 of_method (owner.Method m) name = Some (m.0, name)
 
+-- a type parameter in its class, or in its method
 abbrev pub as_class_variable : VariableHead → Option (ℕ × List ℕ)
 as_class_variable v = of_class v.owner v.name
 

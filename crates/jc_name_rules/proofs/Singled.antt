@@ -12,7 +12,7 @@ use Rattle.jc_declares.specs.Heads.{Named}
 use Rattle.jc_declares.specs.Knowing.{is_some}
 use Rattle.jc_declares.specs.HeadBreaks.{some_in, other_single, is_imported_twice}
 use Rattle.jc_declares.specs.Looking.{Found, single_of, singles, imported}
-use Rattle.jc_name_index.proofs.SpacesNoted.{or_next, named_joined}
+use Rattle.jc_name_index.proofs.SpacesNoted.{or_next, named_joined, or_none as or_nothing}
 use Rattle.jc_name_rules.specs.declared.singles.Singles.{Singles}
 use Rattle.jc_name_rules.specs.Singles.{AreSingles, other_in, other_by, with_single, with_first_or, with_entries, is_twice_among}
 
@@ -52,10 +52,6 @@ named_one b m n c e = ap (λ (x : Bool). if x then Some c else None) e
 -- a name behind others is found where it isn't among them
 named_more : (m n : List ℕ) (c : ℕ) (xs : Named) (b : Bool) → bytes_eq m n ≡ b → named m (xs ++ (n, c) ∷ []) ≡ or_next (named m xs) (if b then Some c else None)
 named_more m n c xs b e = named_joined m xs ((n, c) ∷ []) ∙ ap (or_next (named m xs)) (named_one b m n c e)
-
-or_nothing : (o : Option ℕ) → or_next o None ≡ o
-or_nothing None = refl
-or_nothing (Some x) = refl
 
 named_besides : (m n : List ℕ) (c : ℕ) (xs : Named) → bytes_eq m n ≡ false → named m (xs ++ (n, c) ∷ []) ≡ named m xs
 named_besides m n c xs e = named_more m n c xs false e ∙ or_nothing (named m xs)

@@ -7,6 +7,7 @@ use Rattle.jc_declares.specs.declared.heads.FieldHead.{FieldHead}
 use Rattle.jc_declares.specs.declared.heads.Heads.{Heads}
 use Rattle.jc_declares.specs.Heads.{class_variables, method_variables}
 
+-- a field in the space of its class, under its name
 abbrev pub as_field : FieldHead → Option (ℕ × List ℕ)
 as_field f = Some (f.class, f.name)
 

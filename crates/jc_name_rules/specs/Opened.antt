@@ -3,6 +3,7 @@ use Rattle.std.specs.Prelude.{ℕ, Bool, true, ◌&&◌, List, [], ◌∷◌}
 use Rattle.jc_declares.specs.declared.heads.Heads.{Heads}
 use Rattle.jc_declares.specs.Looking.{Asker, Found, InPackage, AtClass, Nowhere, is_accessible, next_part}
 
+-- what was found may be named by one who asks: a class by its access, a package and nothing in any case
 abbrev pub found_open : Heads → Asker → Found → Bool
 found_open H a (AtClass c) = is_accessible H a c
 found_open H a (InPackage p) = true

@@ -20,5 +20,6 @@ abbrev pub IsSitesStop : Sites → Stop Refusal → Type 0
 IsSitesStop S (stop_of.Refused refused) = IsLeast (BreaksNames S) refused
 IsSitesStop S stop_of.WantOfMemory = Unit {0}
 
+-- the same, of units; want of memory may stop it at any time, and says nothing of them
 abbrev pub IsNamesStop : List SourceUnit → Stop Refusal → Type 0
 IsNamesStop units stop = IsSitesStop (sites_of units) stop

@@ -19,9 +19,9 @@ use Rattle.jc_tree.specs.declared.types.BaseTree.{BaseTree, BaseTree-F, out-Base
 use Rattle.jc_tree.specs.declared.types.ClassTree.{ClassTree, out-ClassTree}
 use Rattle.jc_tree.specs.declared.types.TypeArg.{TypeArg}
 use Rattle.jc_tree.specs.declared.types.TypePart.{TypePart}
-use Rattle.jc_tree.specs.declared.types.TypeTree.{TypeTree, out-TypeTree}
+use Rattle.jc_tree.specs.declared.types.TypeTree.{TypeTree}
 use Rattle.jc_tree.specs.Offsets.{base_first, first_offset_of_base, first_offset_of_arg, first_offset_of_class, first_offset_of_part, first_offset_of_type, modifiers_first, params_first, result_first, first_offset_of_head, first_offset_of_method}
-use Rattle.jc_tree.proofs.OffsetsOfTypes.{first_offset_of_base-out, first_offset_of_class-parts, first_offset_of_part-parts, first_offset_of_type-parts}
+use Rattle.jc_tree.proofs.OffsetsOfTypes.{first_offset_of_base-out, first_offset_of_class-parts, first_offset_of_part-parts}
 use Rattle.jc_grammar.specs.Told.{Told, Spelled, sign, ident, key, key_at, after_commas, commas, brackets}
 use Rattle.jc_grammar.specs.Types.{base_told, base_tokens, arg_tokens, class_tokens, part_tokens, type_tokens}
 use Rattle.jc_grammar.specs.Parts.{if_some, modifiers_tokens, after_ands, bounds_tokens, param_tokens, params_tokens, params_of_tokens, formal_tokens, initialised, var_tokens, local_tokens, result_tokens, extended, keyed_list, head_tokens, method_tokens}
@@ -30,8 +30,9 @@ use Rattle.jc_grammar.proofs.Framed.{Frames, nothing, token, seq, all_frame, com
 use Rattle.jc_grammar.proofs.FramedExpressions.{init_frames}
 use Rattle.jc_grammar.proofs.FramedParts.{modifiers_frame, head_frames}
 use Rattle.jc_grammar.proofs.FramedTypes.{class_frames, type_frames}
-use Rattle.jc_grammar.proofs.TokensOfTypes.{base_tokens-out, class_tokens-parts, part_tokens-parts, type_tokens-parts}
+use Rattle.jc_grammar.proofs.TokensOfTypes.{base_tokens-out, class_tokens-parts, part_tokens-parts}
 use Rattle.jc_declares.specs.Sites.{listed_params, params_of_head}
+use Rattle.jc_grammar.proofs.Begun.{type_begins}
 
 -- From these tokens those are reached, and on the way each of the offsets is that of a token: of a later one each, or, where several may stand at one, of a later
 -- one or the same.
@@ -90,9 +91,6 @@ base_layer (BaseTree-F.Class class) r = class_begins class r
 
 base_begins : (base : BaseTree) (r : List Told) → BeginsAt (first_offset_of_base base) (base_tokens base r)
 base_begins base r = along _ _ _ _ (first_offset_of_base-out base) (at_rest _ _ r (base_tokens-out base)) (base_layer (out-BaseTree base) r)
-
-type_begins : (ty : TypeTree) (r : List Told) → BeginsAt (first_offset_of_type ty) (type_tokens ty r)
-type_begins ty r = along _ _ _ _ (first_offset_of_type-parts ty) (type_tokens-parts ty r) (base_begins (out-TypeTree ty).base _)
 
 -- ---- where heads begin
 

@@ -27,6 +27,7 @@ files_of entries = map file_of entries
 
 -- ---- what a form that never fails tells
 
+-- all that the form holds is told, of each of the four kinds: the files of a shelf, class files, bytes not taken yet, bytes put out
 abbrev pub sure_files : SureShelf → Option Files
 sure_files shelf = Some (files_of shelf.files)
 
@@ -41,6 +42,7 @@ sure_out paper = Some paper.out.items
 
 -- ---- what a form that fails at given calls tells
 
+-- the same as the form that never fails within it, whichever calls fail
 abbrev pub mem_files : MemShelf → Option Files
 mem_files shelf = sure_files shelf.inner
 

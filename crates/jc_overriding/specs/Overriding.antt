@@ -19,6 +19,7 @@ use Rattle.jc_overriding.specs.declared.view.MethodView.{MethodView}
 use Rattle.jc_overriding.specs.Viewing.{class_view, own_type, view_of_method, is_static}
 use Rattle.jc_overriding.specs.Signatures.{subsignature}
 
+-- a method proper; what has no kind in the table is none
 abbrev pub is_method_kind : MethodKind → Bool
 is_method_kind method_kind.Method = true
 is_method_kind _ = false
@@ -31,9 +32,11 @@ kind_in None = false
 abbrev pub is_method : Table → MethodId → Bool
 is_method T m = kind_in (method_kind_of T m)
 
+-- a method that isn't static
 abbrev pub is_instance : Table → MethodId → Bool
 is_instance T m = is_method T m && not (is_static T m)
 
+-- the access of a method; one that the table doesn't have counts as private
 abbrev pub access_in : Option Modifiers → Access
 access_in (Some m) = m.access
 access_in None = access.Private
@@ -41,6 +44,7 @@ access_in None = access.Private
 abbrev pub access_of : Table → MethodId → Access
 access_of T m = access_in (method_modifiers_of T m)
 
+-- the modifiers of a method have `abstract`, written or implied; a method that the table doesn't have isn't abstract
 abbrev pub abstract_in : Option Modifiers → Bool
 abstract_in (Some m) = m.is_abstract
 abstract_in None = false
@@ -48,6 +52,7 @@ abstract_in None = false
 abbrev pub is_abstract : Table → MethodId → Bool
 is_abstract T m = abstract_in (method_modifiers_of T m)
 
+-- the class of a method, and Object (class 0) where it has none
 abbrev pub or_object : Option ClassId → ClassId
 or_object (Some k) = k
 or_object None = record { 0 = 0 }
@@ -55,6 +60,7 @@ or_object None = record { 0 = 0 }
 abbrev pub owner : Table → MethodId → ClassId
 owner T m = or_object (method_owner_of T m)
 
+-- two classes are one, by their numbers
 abbrev pub same_class : ClassId → ClassId → Bool
 same_class k l = k.0 == l.0
 
@@ -66,9 +72,11 @@ is_open_to access.Protected same_package = true
 is_open_to access.Package same_package = same_package
 is_open_to access.Private same_package = false
 
+-- class k may inherit method m, by m's access and the packages of both; that m's class is above k isn't asked
 abbrev pub is_inheritable : Table → ClassId → MethodId → Bool
 is_inheritable T k m = is_open_to (access_of T m) (bytes_eq (package_of T k) (package_of T (owner T m)))
 
+-- there is a view: some class is one of the type's supertypes, or its own class
 abbrev pub is_viewed : Option Ty → Bool
 is_viewed None = false
 is_viewed (Some t) = true
@@ -77,6 +85,7 @@ is_viewed (Some t) = true
 abbrev pub is_above : Table → ClassId → ClassId → Bool
 is_above T k l = not (same_class k l) && is_viewed (view T l (own_type T k))
 
+-- the first is a subsignature of the second, where both are there
 abbrev pub subsignature_of : Table → Option MethodView → Option MethodView → Bool
 subsignature_of T (Some a) (Some b) = subsignature T a b
 subsignature_of T _ _ = false
@@ -101,6 +110,7 @@ hides T m n =
 abbrev pub is_own : Table → Ty → MethodId → Bool
 is_own T t m = is_class (owner T m) (class_of t)
 
+-- a class may inherit a method; a type without a class has whatever isn't private
 abbrev pub inherits_in : Table → Option ClassId → MethodId → Bool
 inherits_in T None m = is_open_to (access_of T m) true
 inherits_in T (Some k) m = is_inheritable T k m
@@ -109,9 +119,11 @@ inherits_in T (Some k) m = is_inheritable T k m
 abbrev pub is_candidate : Table → Ty → MethodId → Bool
 is_candidate T t m = is_method T m && (is_own T t m || inherits_in T (class_of t) m)
 
+-- the method's name is this one, byte by byte
 abbrev pub has_name : Table → List ℕ → MethodId → Bool
 has_name T name m = bytes_eq (method_name_of T m) name
 
+-- a list of the method's view, where the method is wanted and a candidate; else the empty list
 abbrev pub with_view : Table → (MethodId → Bool) → Ty → MethodId → Option MethodView → List MethodView
 with_view T wanted t m None = []
 with_view T wanted t m (Some v) = cond (wanted m && is_candidate T t m) (v ∷ []) []
@@ -122,13 +134,16 @@ candidates_from T wanted t i [] = []
 candidates_from T wanted t i (d ∷ ds) =
     with_view T wanted t (record { 0 = i }) (view_of_method T t (record { 0 = i })) ++ candidates_from T wanted t (suc i) ds
 
+-- the same of all methods of the table
 abbrev pub candidates : Table → (MethodId → Bool) → Ty → List MethodView
 candidates T wanted t = candidates_from T wanted t 0 T.methods
 
+-- one of these overrides or hides the method of v
 abbrev pub replaced : Table → MethodView → List MethodView → Bool
 replaced T v [] = false
 replaced T v (w ∷ ws) = overrides T w.id v.id || hides T w.id v.id || replaced T v ws
 
+-- of these those that none of `all` overrides or hides
 abbrev pub without_replaced : Table → List MethodView → List MethodView → List MethodView
 without_replaced T all [] = []
 without_replaced T all (v ∷ vs) = cond (replaced T v all) [] (v ∷ []) ++ without_replaced T all vs
@@ -143,6 +158,7 @@ members T t name = remaining T (candidates T (has_name T name) t)
 
 -- ---- the body that a class has
 
+-- the class of the first declared supertype, which of a class is its superclass; None where there is none, or it has no class
 abbrev pub superclass : Table → ClassId → Option ClassId
 superclass T k = first_class (supers_of T k)
   where
@@ -161,14 +177,17 @@ stands_for T k n m =
     (n.0 == m.0)
     || (is_instance T n && is_instance T m && is_member_of T k n && is_inheritable T (owner T n) m && subsignature_of T (class_view T k n) (class_view T k m))
 
+-- the first of these methods that stands for m in class k, whether it has a body or not
 abbrev pub declared_for : Table → ClassId → MethodId → List MethodId → Option MethodId
 declared_for T k m [] = None
 declared_for T k m (n ∷ ns) = if stands_for T k n m then Some n else declared_for T k m ns
 
+-- the first of these methods that stands for m in class k and isn't abstract
 abbrev pub body_for : Table → ClassId → MethodId → List MethodId → Option MethodId
 body_for T k m [] = None
 body_for T k m (n ∷ ns) = if not (is_abstract T n) && stands_for T k n m then Some n else body_for T k m ns
 
+-- the first of two methods that is there
 abbrev pub or_further : Option MethodId → Option MethodId → Option MethodId
 or_further (Some n) further = Some n
 or_further None further = further
@@ -177,6 +196,7 @@ or_further None further = further
 abbrev pub standing_in : Table → ClassId → MethodId → List MethodId → Option MethodId
 standing_in T k m ns = or_further (body_for T k m ns) (declared_for T k m ns)
 
+-- what is found in a superclass, if there is one
 abbrev pub in_superclass : (ClassId → Option MethodId) → Option ClassId → Option MethodId
 in_superclass f None = None
 in_superclass f (Some c) = f c
@@ -186,6 +206,7 @@ unfoldable pub standing_within : Table → ℕ → ClassId → MethodId → Clas
 standing_within T zero k m c = None
 standing_within T (suc n) k m c = or_further (standing_in T k m (methods_of T c)) (in_superclass (standing_within T n k m) (superclass T c))
 
+-- a method unless it is abstract
 abbrev pub if_body : Table → Option MethodId → Option MethodId
 if_body T None = None
 if_body T (Some n) = cond (is_abstract T n) None (Some n)

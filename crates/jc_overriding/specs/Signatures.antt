@@ -15,12 +15,14 @@ use Rattle.jc_types.specs.Substitution.{subst}
 use Rattle.jc_overriding.specs.declared.view.MethodView.{MethodView}
 use Rattle.jc_overriding.specs.Viewing.{erased_type}
 
+-- as many types on both sides, the same place by place
 abbrev pub same_all : List Ty → List Ty → Bool
 same_all [] [] = true
 same_all [] (t ∷ ts) = false
 same_all (s ∷ ss) [] = false
 same_all (s ∷ ss) (t ∷ ts) = same s t && same_all ss ts
 
+-- a type is among these types, and each of some types is among others
 abbrev pub is_one_of : Ty → List Ty → Bool
 is_one_of s [] = false
 is_one_of s (t ∷ ts) = same s t || is_one_of s ts
@@ -33,12 +35,14 @@ all_one_of (s ∷ ss) ts = is_one_of s ts && all_one_of ss ts
 abbrev pub same_bounds : List Ty → List Ty → Bool
 same_bounds ss ts = all_one_of ss ts && all_one_of ts ss
 
+-- as many type parameters on both sides, with the same bounds place by place
 abbrev pub same_lists : List (List Ty) → List (List Ty) → Bool
 same_lists [] [] = true
 same_lists [] (t ∷ ts) = false
 same_lists (s ∷ ss) [] = false
 same_lists (s ∷ ss) (t ∷ ts) = same_bounds s t && same_lists ss ts
 
+-- type parameters as types
 abbrev pub variables : List VarId → List Ty
 variables vars = map (λ v. Variable v) vars
 
@@ -46,6 +50,7 @@ variables vars = map (λ v. Variable v) vars
 abbrev pub adapted : MethodView → MethodView → Ty → Ty
 adapted a b t = subst b.vars (variables a.vars) t
 
+-- both methods have one name, byte by byte
 abbrev pub same_name : Table → MethodView → MethodView → Bool
 same_name T a b = bytes_eq (method_name_of T a.id) (method_name_of T b.id)
 
@@ -54,6 +59,7 @@ abbrev pub same_signature : MethodView → MethodView → Bool
 same_signature a b =
     (length a.vars == length b.vars) && same_lists a.bounds (map (map (adapted a b)) b.bounds) && same_all a.params (map (adapted a b) b.params)
 
+-- a signature without type parameters
 abbrev pub has_no_variables : MethodView → Bool
 has_no_variables a = length a.vars == 0
 
@@ -62,6 +68,7 @@ abbrev pub first_or : Ty → List Ty → Ty
 first_or t [] = t
 first_or t (b ∷ bounds) = b
 
+-- .. of v, where it is one of these type parameters; t where it is none of them, or has no bound
 abbrev pub first_bound : Ty → VarId → List VarId → List (List Ty) → Ty
 first_bound t v (w ∷ vars) (bs ∷ bounds) = cond (v.0 == w.0) (first_or t bs) (first_bound t v vars bounds)
 first_bound t v _ _ = t
@@ -73,6 +80,7 @@ leftmost_at further b t (Ty-F.Variable v) = further (first_bound t v b.vars b.bo
 leftmost_at further b t (Ty-F.Array of_it n) = array_over n (further of_it)
 leftmost_at further b t _ = t
 
+-- .. at most n times, as a bound may be a type parameter again
 unfoldable pub leftmost : MethodView → ℕ → Ty → Ty
 leftmost b zero t = t
 leftmost b (suc n) t = leftmost_at (leftmost b n) b t (out-Ty t)
@@ -81,6 +89,7 @@ leftmost b (suc n) t = leftmost_at (leftmost b n) b t (out-Ty t)
 abbrev pub erased_within : Table → List Bounds → MethodView → Ty → Ty
 erased_within T env b t = erased_type T (erasure T env (leftmost b (length b.vars + 1) t))
 
+-- .. without an environment
 abbrev pub erased_in : Table → MethodView → Ty → Ty
 erased_in T b t = erased_within T [] b t
 

@@ -23,19 +23,23 @@ use Rattle.jc_overriding.specs.declared.view.MethodView.{MethodView}
 
 -- ---- erasure as a type (JLS 4.6)
 
+-- a class as a type without arguments: raw where the class has parameters (JLS 4.8)
 abbrev pub plain_class : Table → ClassId → List VarId → Ty
 plain_class T k [] = Class k []
 plain_class T k (v ∷ vars) = Raw k
 
+-- an erased type without its dimensions, as a type
 abbrev pub base_type : Table → Base → Ty
 base_type T (base.Prim p) = Prim p
 base_type T (base.Class k) = plain_class T k (vars_of T k)
 base_type T base.NullTy = NullTy
 
+-- an array of n dimensions of t; t itself where n is 0
 abbrev pub with_dims : ℕ → Ty → Ty
 with_dims zero t = t
 with_dims (suc n) t = array_over n t
 
+-- an erased type as a type
 abbrev pub erased_type : Table → Erased → Ty
 erased_type T e = with_dims e.dims (base_type T e.base)
 
@@ -45,6 +49,7 @@ plain T t = erased_type T (erasure T [] t)
 
 -- ---- how a type sees what one of its supertypes declares
 
+-- with these types for these type parameters, or erased (`Raised`), as members of a raw type are (JLS 4.8)
 pub data Seeing : Type 0 where
   With : List VarId → List Ty → Seeing
   Raised : Seeing
@@ -54,13 +59,16 @@ abbrev pub seeing_by : Table → List VarId → Option (List Arg) → Seeing
 seeing_by T vars None = Raised
 seeing_by T vars (Some args) = With vars (exacts args)
 
+-- the parameters of the class of a class type; of any other type there are none
 abbrev pub vars_at : Table → Ty-F Arg Ty → List VarId
 vars_at T (Ty-F.Class id args) = vars_of T id
 vars_at T _ = []
 
+-- how a type sees the members of its own class
 abbrev pub seeing_of : Table → Ty → Seeing
 seeing_of T t = seeing_by T (vars_at T (out-Ty t)) (arguments T t)
 
+-- the bounds of each type parameter of a list, with types for the parameters of the class
 abbrev pub bounds_with : Table → List VarId → List Ty → List VarId → List (List Ty)
 bounds_with T vars by list = map (λ v. map (subst vars by) (bounds_of T v)) list
 
@@ -94,6 +102,7 @@ viewed_plain T m =
 abbrev pub declared_view : Table → MethodId → MethodView
 declared_view T m = viewed_with T m [] []
 
+-- the modifiers of a method have `static`, written or implied; a method that the table doesn't have isn't static
 abbrev pub static_in : Option Modifiers → Bool
 static_in (Some m) = m.is_static
 static_in None = false
@@ -107,10 +116,12 @@ viewed_by T m true s = declared_view T m
 viewed_by T m false (With vars by) = viewed_with T m vars by
 viewed_by T m false Raised = viewed_plain T m
 
+-- a method by the view of a type as the method's class, if it has one
 abbrev pub viewed_in : Table → MethodId → Option Ty → Option MethodView
 viewed_in T m None = None
 viewed_in T m (Some v) = Some (viewed_by T m (is_static T m) (seeing_of T v))
 
+-- the view of a type as the class of a method; None where it has none, or the method has no class
 abbrev pub view_of_owner : Table → Ty → Option ClassId → Option Ty
 view_of_owner T t None = None
 view_of_owner T t (Some k) = view T k t

@@ -1,5 +1,5 @@
 -- Level after level of binary operators, the tightest first: a level whose operators cannot begin behind an operand adds nothing to it.
-use Rattle.std.proofs.Common.{◌≡◌, ℕ, ◌-◌, ◌<◌, ◌≤◌, ◌^◌, min, false, ◌==◌, ◌||◌, map, List, [], ◌∷◌, length, Result, Ok, Err, refl, ap, ◌∙◌, ⊎_elim, arith}
+use Rattle.std.proofs.Common.{◌≡◌, ℕ, ◌-◌, ◌<◌, ◌≤◌, ◌^◌, min, false, ◌||◌, map, List, [], ◌∷◌, length, Result, Ok, Err, refl, ap, ◌∙◌, ⊎_elim, arith}
 use Rattle.std.specs.Prelude.{IfOk}
 use Rattle.std.proofs.lemmas.Bool.{cases_lt, or_parts}
 use Rattle.jc_lexer.specs.declared.token.Key.TheVariants as key_of

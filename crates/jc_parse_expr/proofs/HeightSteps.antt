@@ -1,5 +1,5 @@
 -- Heights by those of the parts, as calls that count them use them.
-use Rattle.std.proofs.Common.{◌≡◌, ℕ, suc, ◌+◌, min, max, List, [], ◌∷◌, ◌++◌, map, ap, ◌∙◌, arith}
+use Rattle.std.proofs.Common.{◌≡◌, ℕ, ◌+◌, max, List, [], ◌∷◌, ◌++◌, map, ap, ◌∙◌, arith}
 use Rattle.jc_tree.specs.declared.types.BaseTree.TheVariants as anBaseTree
 use Rattle.jc_tree.specs.declared.types.TypeArg.TheVariants as anTypeArg
 use Rattle.jc_tree.specs.declared.expression.Creation.TheVariants as anCreation
@@ -9,12 +9,7 @@ use Rattle.jc_tree.specs.declared.expression.SkipPart.TheVariants as anSkipPart
 use Rattle.jc_tree.specs.Heights.{capped, most}
 use Rattle.jc_tree.proofs.HeightsOfTypes.{base_height-out, arg_height-out, class_height-parts, part_height-parts, type_height-parts}
 use Rattle.jc_tree.proofs.HeightsOfExpressions.{skip_part_height-out, skip_height-parts, creation_height-out, creation_height-Object, creation_height-Sized, expr_height-out, expr_height-Call, expr_height-SuperCall, expr_height-Invoke, init_height-out, array_height-parts}
-
-pub capped_max : (a b : ℕ) → capped (max a b) ≡ max (capped a) (capped b)
-capped_max a b = omega arith
-
-pub capped_suc : (a : ℕ) → capped (suc a) ≡ min (capped a + 1) 4294967295
-capped_suc a = omega arith
+use Rattle.jc_tree.proofs.Capped.{capped_max, capped_suc}
 
 pub ruleset types = (capped_max, capped_suc, base_height-out, anBaseTree.outs-Primitive, anBaseTree.outs-Class, arg_height-out, anTypeArg.outs-Exact, anTypeArg.outs-Any, anTypeArg.outs-Extends, anTypeArg.outs-Super, class_height-parts, part_height-parts, type_height-parts)
 

@@ -8,22 +8,26 @@ use Rattle.jc_reading.specs.declared.reading.Halt.TheVariants as halt_of
 use Rattle.jc_parse_expr.specs.declared.measured.Measured.{Measured}
 use Rattle.jc_parse_expr.specs.Nodes.{assign_node, conditional_node}
 
--- the tokens behind both, and the nearer reach
+-- the tokens behind both, and the further reach
 abbrev pub Both : {A B C : Type 0} → (A → B → C) → Found A → Found B → Found C → Type 0
 Both node first more r = (r.value ≡ node first.value more.value) × (r.rest.now ≡ more.rest.now) × (r.left ≡ min first.left more.left)
 
+-- the node of both, where memory isn't wanting
 abbrev pub Built : {A B C : Type 0} → (A → B → C) → Found A → Found B → Result (Found C) Halt → Type 0
 Built node first more (Ok r) = Both node first more r
 Built node first more (Err halt) = halt ≡ halt_of.WantOfMemory
 
+-- the first value as it is, where what stopped behind it has `left` tokens from its reach on
 abbrev pub Alone : {A : Type 0} → Found A → ℕ → Result (Found A) Halt → Type 0
 Alone first left (Ok r) = (r.value ≡ first.value) × (r.rest.now ≡ first.rest.now) × (r.left ≡ min first.left left)
 Alone first left (Err halt) = ⊥
 
+-- nothing is built, as memory is wanting
 abbrev pub Wants : {C : Type 0} → Result (Found C) Halt → Type 0
 Wants (Ok r) = ⊥
 Wants (Err halt) = halt ≡ halt_of.WantOfMemory
 
+-- nothing is built, and `left` tokens are left from the reach on
 abbrev pub Stops : {C : Type 0} → ℕ → Result (Found C) Halt → Type 0
 Stops left (Ok r) = ⊥
 Stops left (Err halt) = halt ≡ halt_of.Stopped left
@@ -40,9 +44,11 @@ Joined node first (Ok more) result = Built node first more result
 Joined node first (Err (halt_of.Stopped left)) result = Stops (min first.left left) result
 Joined node first (Err halt_of.WantOfMemory) result = Wants result
 
+-- an assignment of its target and of what stands behind it
 abbrev pub assign_right : Measured Expr → (AssignOp × Measured Expr) → Measured Expr
 assign_right v p = assign_node v p.0 p.1
 
+-- both values as a pair
 abbrev pub pair_of : {A B : Type 0} → A → B → A × B
 pair_of a b = (a, b)
 

@@ -104,6 +104,7 @@ takes_more ts =
     one_of (sign_code sign_of.LeftParen ∷ []) ts || one_of (sign_code sign_of.Dot ∷ []) ts || one_of (sign_code sign_of.LeftBracket ∷ []) ts || one_of (sign_code sign_of.Increment ∷ []) ts
     || one_of (sign_code sign_of.Decrement ∷ []) ts
 
+-- an identifier, which no keyword is
 abbrev pub is_name : TokenKind → Bool
 is_name (kind_of.Word text) = true
 is_name _ = false
@@ -119,6 +120,7 @@ plain_op_codes = sign_code sign_of.Not ∷ sign_code sign_of.Tilde ∷ []
 
 -- parts of operators that the code reads by a function of their own
 
+-- a `>` that touches what is behind it, and a `=`
 abbrev pub touching_equal_run : Run (Unit {0} × Unit {0})
 touching_equal_run = in_turn touching_run (of_kind (sign_code sign_of.Assign))
 
@@ -126,13 +128,16 @@ touching_equal_run = in_turn touching_run (of_kind (sign_code sign_of.Assign))
 abbrev pub greater_run : Run (Either (Unit {0} × Unit {0}) (Unit {0}))
 greater_run = preferring touching_equal_run (of_kind (sign_code sign_of.Greater))
 
+-- `>=` (JLS 15.20.1), or `>`
 abbrev pub greater_made : Either (Unit {0} × Unit {0}) (Unit {0}) → BinaryOp
 greater_made (This p) = binary_of.GreaterEqual
 greater_made (That u) = binary_of.Greater
 
+-- two signs `>`, the first of which touches the second
 abbrev pub touching_greater_run : Run (Unit {0} × Unit {0})
 touching_greater_run = in_turn touching_run (of_kind (sign_code sign_of.Greater))
 
+-- behind the first `>` of a shift to the right: two more or one (JLS 15.19)
 abbrev pub right_run : Run (Either (Unit {0} × Unit {0}) (Unit {0}))
 right_run = preferring touching_greater_run (of_kind (sign_code sign_of.Greater))
 
@@ -140,6 +145,7 @@ abbrev pub right_made : Either (Unit {0} × Unit {0}) (Unit {0}) → BinaryOp
 right_made (This p) = binary_of.ShiftRightZero
 right_made (That u) = binary_of.ShiftRight
 
+-- behind two touching `>`: "=", or ">" and "=" (JLS 15.26.2)
 abbrev pub ShiftAssign : Type 0
 ShiftAssign = Either (Unit {0}) (Unit {0} × Unit {0})
 
@@ -177,14 +183,16 @@ operands_run level_of.Shift h next = any_number (operand_run level_of.Shift next
 operands_run level_of.Plus h next = any_number (operand_run level_of.Plus next)
 operands_run level_of.Times h next = any_number (operand_run level_of.Times next)
 
+-- a first operand alone where nothing stands behind it, and else a chain
 abbrev pub chain_of : (Expr × List Operand) → Expr
 chain_of (first, []) = first
 chain_of (first, operand ∷ more) = expr_of.Chain first (operand ∷ more)
 
+-- an operand with its height
 abbrev pub measured_operand : Operand → Measured Operand
 measured_operand operand = of_height operand (operand_height operand)
 
--- a comparison, where the one before it and its last token are such
+-- a comparison behind another one: whether type arguments could follow the type of that one, and whether its last token is a `>` that touches
 abbrev pub next_operand_run : ℕ → Run Expr → Bool → Bool → Run Operand
 next_operand_run h next opened touched = as_new compared_operand (next_comparison_run h next opened touched)
 
@@ -196,6 +204,7 @@ prefixed_run first bare ts = noting (length ts) (becoming (λ (p : List PrefixOp
 abbrev pub cast_type_run : ℕ → Run TypeTree
 cast_type_run h = as_new before_it (in_turn (type_run h) (of_kind (sign_code sign_of.RightParen)))
 
+-- a cast at the place of its parenthesis
 abbrev pub cast_made : CastParts → Expr
 cast_made p = expr_of.Cast p.0 p.1.0.0 p.1.1
 
@@ -203,6 +212,7 @@ cast_made p = expr_of.Cast p.0 p.1.0.0 p.1.1
 abbrev pub branches_run : Levels → Run (Unit {0} × (Expr × (Unit {0} × Expr)))
 branches_run low = in_turn (of_kind (sign_code sign_of.Question)) (in_turn low.expr (in_turn (of_kind (sign_code sign_of.Colon)) low.conditional))
 
+-- what stands behind a test or a target, with its heights
 abbrev pub measured_branches : (Unit {0} × (Expr × (Unit {0} × Expr))) → Measured Expr × Measured Expr
 measured_branches p = (measured p.1.0, measured p.1.1.1)
 
@@ -213,6 +223,7 @@ measured_right p = (p.0, measured p.1)
 abbrev pub otherwise_run : Levels → Run Expr
 otherwise_run low = as_new behind_it (in_turn (of_kind (sign_code sign_of.Colon)) low.conditional)
 
+-- a binary operand has no type at its end
 abbrev pub open_over : Operand-F Creation Expr Init Operand ArrayInit → Bool
 open_over (Operand-F.Binary op right) = false
 open_over (Operand-F.InstanceOf ty) = takes_args ty

@@ -1,12 +1,8 @@
 -- Trees with their heights, which are counted as the trees are built.
 use Rattle.std.specs.Prelude.{ℕ, List, map}
 use Rattle.jc_tree.specs.declared.expression.ArrayInit.{ArrayInit}
-use Rattle.jc_tree.specs.declared.expression.Creation.{Creation}
 use Rattle.jc_tree.specs.declared.expression.Expr.{Expr}
-use Rattle.jc_tree.specs.declared.expression.Init.{Init}
 use Rattle.jc_tree.specs.declared.expression.Operand.{Operand}
-use Rattle.jc_tree.specs.declared.expression.Skip.{Skip}
-use Rattle.jc_tree.specs.declared.expression.SkipPart.{SkipPart}
 use Rattle.jc_tree.specs.Heights.{capped, most, array_height, expr_height, operand_height}
 use Rattle.jc_parse_expr.specs.declared.measured.Measured.{Measured}
 
@@ -14,6 +10,7 @@ use Rattle.jc_parse_expr.specs.declared.measured.Measured.{Measured}
 abbrev pub of_height : {A : Type 0} → A → ℕ → Measured A
 of_height tree n = record { tree = tree; height = capped n }
 
+-- expressions and array initialisers with their heights
 abbrev pub measured : Expr → Measured Expr
 measured e = of_height e (expr_height e)
 

@@ -1,6 +1,7 @@
 -- What is read of statements takes a token, and its reach is not behind what is left.
 use Rattle.std.proofs.Common.{◌≡◌, ℕ, zero, suc, ◌≤◌, List, [], ◌∷◌, length, inl, inr, false, refl, sym, subst, ⊎_elim, arith}
-use Rattle.jc_parse_parts.proofs.PartInsides.{class_inside}
+use Rattle.jc_parse_expr.proofs.PrimeNears.{near_class}
+use Rattle.jc_parse_parts.proofs.PartInsides.{modifier_ahead}
 use Rattle.jc_lexer.specs.declared.token.Key.TheVariants as key_of
 use Rattle.jc_lexer.specs.declared.token.Sign.TheVariants as sign_of
 use Rattle.jc_lexer.specs.declared.token.Token.{Token}
@@ -15,18 +16,15 @@ use Rattle.jc_reading.proofs.Turns.{lawful_ahead}
 use Rattle.jc_expr_laws.specs.ExprReading.{exprs, readers}
 use Rattle.jc_expr_laws.proofs.ExprWhole.{expr_laws}
 use Rattle.jc_unit_laws.specs.UnitReading.{Level, expr_in_run, arm_made, arm_run, parens_run, braced_run, case_run, catch_made, catch_run}
-use Rattle.jc_unit_laws.specs.MemberReading.{levels, member_run}
+use Rattle.jc_unit_laws.specs.MemberReading.{levels}
 use Rattle.jc_unit_laws.proofs.Levels.{known}
 use Rattle.jc_unit_laws.proofs.SimpleStatements.{LevelLaws, body_coded, body_law, case_item_coded, case_item_law, first_coded, first_law, item_coded, item_law, other_coded}
 use Rattle.jc_unit_laws.proofs.Switches.{case_coded, case_laws}
 use Rattle.jc_parse_type.specs.TypeReading.{class_run}
-use Rattle.jc_tree.specs.declared.statement.Modifier.{Modifier}
 use Rattle.jc_part_laws.specs.PartReading.{modifier_run, modifiers_run}
-use Rattle.jc_part_laws.proofs.ModifierForms.{modifier_form, modifier_laws}
 use Rattle.jc_reading.specs.Reach.{Ahead, GoesAhead, Near}
 use Rattle.jc_reading.proofs.Nears.{ahead_as, ahead_near, ahead_picking, ahead_turn, near_each, near_as, near_either, near_picking, near_room, near_turn, near_any}
 use Rattle.jc_parse_heads.specs.UnitCode.{braced_items_run, braces_list, branch_of, branch_once_run}
-use Rattle.jc_parse_heads.proofs.LevelAdvances.{member_advances}
 
 void_ahead : (A : Type 0) (c : Coded A) → Void A c → GoesAhead c.run
 void_ahead A c v ts = subst (λ (m : Read A). Ahead ts m) (sym (v.stops ts)) (omega arith)
@@ -52,9 +50,6 @@ first_ahead h = law_ahead Stmt (first_coded h (levels exprs h)) refl (first_law 
 pub group_ahead : (h : ℕ) → GoesAhead (case_run exprs h (levels exprs h))
 group_ahead h = lawful_ahead Clause (formed (case_coded exprs h (levels exprs h))) (case_laws exprs expr_laws h (levels exprs h) (laws h)) refl
 
-pub member_ahead : (h : ℕ) → GoesAhead (member_run exprs h (levels exprs h))
-member_ahead h = member_advances h
-
 pub braced_inside : (h : ℕ) → Near (braced_run (levels exprs h).item)
 braced_inside h =
     near_turn (of_kind (sign_code sign_of.LeftBrace)) _ (near_picking _)
@@ -64,20 +59,17 @@ pub braced_items_inside : (h : ℕ) → Near (braced_items_run h)
 unfolding braced_items_run
 braced_items_inside h = near_as braces_list _ (braced_inside h)
 
-pub modifier_ahead : (h : ℕ) → GoesAhead (modifier_run exprs h)
-modifier_ahead h = lawful_ahead Modifier (modifier_form exprs h) (modifier_laws exprs h expr_laws) refl
-
-modifiers_inside : (h : ℕ) → Near (modifiers_run exprs h)
+pub modifiers_inside : (h : ℕ) → Near (modifiers_run exprs h)
 modifiers_inside h = near_any (modifier_run exprs h) (ahead_near (modifier_run exprs h) (modifier_ahead h))
 
 pub catch_ahead : (h : ℕ) → GoesAhead (catch_run exprs h (levels exprs h))
 unfolding catch_run
 catch_ahead h =
     ahead_as catch_made _
-    (ahead_turn (at_kind (key_code key_of.Catch)) _ (ahead_picking _) (near_turn (of_kind (sign_code sign_of.LeftParen)) _ (near_picking _) (near_turn (modifiers_run exprs h) _ (modifiers_inside h) (near_turn (class_run h) _ (class_inside h)
-    (near_turn (each_behind sign_of.Or (class_run h)) _ (near_each sign_of.Or (class_run h) (class_inside h)) (near_turn an_ident_at _ (near_picking _) (near_turn (of_kind (sign_code sign_of.RightParen)) (braced_run (levels exprs h).item) (near_picking _) (braced_inside h))))))))
+    (ahead_turn (at_kind (key_code key_of.Catch)) _ (ahead_picking _) (near_turn (of_kind (sign_code sign_of.LeftParen)) _ (near_picking _) (near_turn (modifiers_run exprs h) _ (modifiers_inside h) (near_turn (class_run h) _ (near_class h)
+    (near_turn (each_behind sign_of.Or (class_run h)) _ (near_each sign_of.Or (class_run h) (near_class h)) (near_turn an_ident_at _ (near_picking _) (near_turn (of_kind (sign_code sign_of.RightParen)) (braced_run (levels exprs h).item) (near_picking _) (braced_inside h))))))))
 
-expr_inside : (h : ℕ) → Near (exprs.expr h)
+pub expr_inside : (h : ℕ) → Near (exprs.expr h)
 unfolding readers
 expr_inside zero ts = omega arith
 expr_inside (suc h) ts = (expr_laws.expr h).within ts

@@ -6,7 +6,8 @@ use Rattle.jc_lexer.specs.declared.token.Token.{Token}
 use Rattle.jc_reading.specs.Kinds.{key_code, sign_code}
 use Rattle.jc_reading.specs.Reading.{Read, Found, Stopped, Run, becoming, as_new, in_turn, of_kind, at_kind, before_it}
 use Rattle.jc_parse_heads.specs.HeadCode.{opened_run}
-use Rattle.jc_parse_heads.proofs.Joinings.{first_made, grouped, remade, second_made, split_behind, split_here, Splits}
+use Rattle.jc_parse_heads.proofs.Joinings.{first_made, grouped, second_made, split_behind, split_here, Splits}
+use Rattle.jc_parse_expr.proofs.PairSteps.{remade}
 
 -- both are made of others
 pub both_made : {A B D G E : Type 0} (make : (A × B) → E) (fa : A → D) (fb : B → G) (node : (D × G) → E) (same : (a : A) (b : B) → make (a, b) ≡ node (fa a, fb b)) (m : Run A) (n : Run B) (ts : List Token) → as_new make (in_turn m n) ts ≡ as_new node (in_turn (as_new fa m) (as_new fb n)) ts

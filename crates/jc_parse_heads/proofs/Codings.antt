@@ -31,7 +31,7 @@ use Rattle.jc_parse_nodes.specs.declared.heads.Named.{Named}
 use Rattle.jc_parse_nodes.specs.declared.heads.Shape.{Shape}
 use Rattle.jc_parse_nodes.specs.declared.heads.Shape.TheVariants as shape_is
 use Rattle.jc_parse_nodes.specs.declared.heads.Signature.{Signature}
-use Rattle.jc_parse_heads.proofs.Joinings.{remade}
+use Rattle.jc_parse_expr.proofs.PairSteps.{remade}
 
 -- a name and a signature
 abbrev signed : (Ident × Signature) → Named

@@ -19,7 +19,8 @@ use Rattle.jc_parse_nodes.specs.declared.trees.Vars.{Vars}
 use Rattle.jc_parse_nodes.specs.declared.pieces.Typed.{Typed}
 use Rattle.jc_parse_heads.specs.UnitCode.{ended_effect_run, ended_strict_run, ended_vars_run, listed, local_or_effect_run, roomy_modifiers_run, typed_made, typed_or_run, typed_run}
 use Rattle.jc_parse_nodes.specs.Nodes.{bare_local, locals_of}
-use Rattle.jc_parse_heads.proofs.Joinings.{first_made, grouped, noted_made, remade, room_gone, room_there, second_made, second_same, split_behind, split_here, split_room}
+use Rattle.jc_parse_heads.proofs.Joinings.{first_made, grouped, noted_made, room_gone, room_there, second_made, second_same, split_behind, split_here, split_room}
+use Rattle.jc_parse_expr.proofs.PairSteps.{remade}
 
 pub ended_effect_is : (h : ℕ) (ts : List Token) → ended_effect_run h ts ≡ ended_strict_run h ts
 unfolding ended_effect_run ended_strict_run

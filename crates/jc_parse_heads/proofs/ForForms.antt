@@ -34,7 +34,8 @@ use Rattle.jc_parse_nodes.specs.declared.head_parts.ForNamed.{ForNamed}
 use Rattle.jc_parse_nodes.specs.declared.head_parts.ForTyped.{ForTyped}
 use Rattle.jc_parse_nodes.specs.declared.pieces.ForOpening.{ForOpening}
 use Rattle.jc_parse_heads.proofs.Chains.{behind_opened, ended_step, flat, same_self}
-use Rattle.jc_parse_heads.proofs.Joinings.{Splits, cut, first_made, first_read, grouped, remade, room_gone, room_there, second_made, second_same, split_behind, split_here}
+use Rattle.jc_parse_heads.proofs.Joinings.{Splits, cut, first_made, first_read, grouped, room_gone, room_there, second_made, second_same, split_behind, split_here}
+use Rattle.jc_parse_expr.proofs.PairSteps.{remade}
 
 -- what is read in the same way but for a sign before it
 

@@ -1,6 +1,7 @@
 -- What is read of a `for` up to its body has its reach not behind what is left.
-use Rattle.std.proofs.Common.{ℕ, zero, suc, Bool, true, false, cond, ◌≤◌, List, [], ◌∷◌, length, arith}
-use Rattle.jc_parse_parts.proofs.PartInsides.{type_inside, dims_inside, var_inside}
+use Rattle.std.proofs.Common.{ℕ, zero, suc, ◌≤◌, List, [], ◌∷◌, length, arith}
+use Rattle.jc_parse_expr.proofs.PrimeNears.{near_dims}
+use Rattle.jc_parse_parts.proofs.PartInsides.{assigned_inside, modifier_ahead, type_inside, var_inside}
 use Rattle.jc_lexer.specs.declared.token.Key.TheVariants as key_of
 use Rattle.jc_lexer.specs.declared.token.Sign.TheVariants as sign_of
 use Rattle.jc_lexer.specs.declared.token.Token.{Token}
@@ -10,27 +11,20 @@ use Rattle.jc_reading.specs.Further.{tried, with_room}
 use Rattle.jc_parse_type.specs.TypeReading.{dims_run, type_run}
 use Rattle.jc_part_laws.specs.PartReading.{modifier_run, modifiers_run, var_run}
 use Rattle.jc_expr_laws.specs.ExprReading.{exprs}
-use Rattle.jc_expr_laws.proofs.ExprWhole.{expr_laws}
 use Rattle.jc_unit_laws.specs.UnitReading.{effect_in_run, expr_in_run, for_head_made, for_head_run, for_named_run, for_rest_run, semicolon_run}
 use Rattle.jc_reading.specs.Reach.{Within, Near}
-use Rattle.jc_reading.proofs.Nears.{ahead_near, near_as, near_commas, near_each, near_either, near_perhaps, near_picking, near_room, near_turn}
+use Rattle.jc_reading.proofs.Nears.{ahead_near, near_as, near_commas, near_each, near_either, near_perhaps, near_picking, near_room, near_turn, within_cond}
 use Rattle.jc_parse_heads.specs.UnitCode.{for_opening, for_opening_run}
 use Rattle.jc_parse_heads.specs.Beginnings.{modifier_codes}
 use Rattle.jc_parse_heads.specs.HeadCode.{effecting_run, given_run, kinds_run, moded_run, resting_run, colon_codes, each_kind_run, tried_run}
-use Rattle.jc_parse_heads.proofs.Aheads.{modifier_ahead}
+use Rattle.jc_parse_heads.proofs.Aheads.{expr_inside, modifiers_inside}
 use Rattle.jc_parse_heads.proofs.ForUpdates.{effect_inside}
-use Rattle.jc_parse_heads.proofs.HeadInsides.{modifiers_inside, value_inside}
 
 semicolon : Near semicolon_run
 semicolon = near_picking _
 
-init_inside : (k : ℕ) → Near (exprs.init (suc k))
-init_inside k ts = (expr_laws.init k).within ts
-
 given_inside : (h : ℕ) → Near (given_run h)
-unfolding with_room
-given_inside zero = near_perhaps (with_room zero (in_turn (of_kind (sign_code sign_of.Assign)) (exprs.init zero))) (λ ts. omega arith)
-given_inside (suc k) = near_perhaps (with_room (suc k) (in_turn (of_kind (sign_code sign_of.Assign)) (exprs.init (suc k)))) (λ ts. near_turn (of_kind (sign_code sign_of.Assign)) (exprs.init (suc k)) (near_picking _) (init_inside k) ts)
+given_inside h = near_perhaps (with_room h (in_turn (of_kind (sign_code sign_of.Assign)) (exprs.init h))) (assigned_inside h)
 
 updating_inside : (h : ℕ) → Near (effect_in_run exprs h)
 unfolding with_room
@@ -40,18 +34,18 @@ updating_inside (suc k) ts = effect_inside k ts
 rest_inside : (h : ℕ) → Near (for_rest_run exprs h)
 unfolding for_rest_run
 rest_inside h =
-    near_turn semicolon_run _ semicolon (near_turn (perhaps (expr_in_run exprs h)) _ (near_perhaps (expr_in_run exprs h) (near_room h (exprs.expr h) (value_inside h)))
+    near_turn semicolon_run _ semicolon (near_turn (perhaps (expr_in_run exprs h)) _ (near_perhaps (expr_in_run exprs h) (near_room h (exprs.expr h) (expr_inside h)))
     (near_turn semicolon_run (perhaps (commas_run (effect_in_run exprs h))) semicolon (near_perhaps (commas_run (effect_in_run exprs h)) (near_commas (effect_in_run exprs h) (updating_inside h)))))
 
 kinds_inside : (h : ℕ) → Near (kinds_run h)
 kinds_inside h =
     near_either colon_codes (each_kind_run h) (in_turn (given_run h) (resting_run h))
-    (near_turn (of_kind (sign_code sign_of.Colon)) (exprs.expr h) (near_picking _) (value_inside h))
+    (near_turn (of_kind (sign_code sign_of.Colon)) (exprs.expr h) (near_picking _) (expr_inside h))
     (near_turn (given_run h) (resting_run h) (given_inside h) (near_turn (each_behind sign_of.Comma (var_run exprs h)) (for_rest_run exprs h) (near_each sign_of.Comma (var_run exprs h) (var_inside h)) (rest_inside h)))
 
 named_inside : (h : ℕ) → Near (for_named_run exprs h)
 unfolding for_named_run
-named_inside h = near_turn an_ident_at (in_turn dims_run (kinds_run h)) (near_picking _) (near_turn dims_run (kinds_run h) dims_inside (kinds_inside h))
+named_inside h = near_turn an_ident_at (in_turn dims_run (kinds_run h)) (near_picking _) (near_turn dims_run (kinds_run h) near_dims (kinds_inside h))
 
 moded_inside : (h : ℕ) → Near (moded_run h)
 moded_inside h =
@@ -67,17 +61,13 @@ near_note : {A B : Type 0} (ts q : List Token) (l : ℕ) (f : A → B) (m : Read
 near_note ts q l f (Found a r k) e g w = (omega (arith, w.0), omega (arith, w.1, g))
 near_note ts q l f (Stopped k) e g w = omega (arith, w, e, g)
 
-near_choice : {A : Type 0} (ts : List Token) (b : Bool) (m n : Read A) → Within (length ts) m → Within (length ts) n → Within (length ts) (cond b m n)
-near_choice ts true m n v w = v
-near_choice ts false m n v w = w
-
 near_tried : {A B C : Type 0} (codes : List ℕ) (ts : List Token) (m : Read A) (k : Run C) (n : Run B) → Within (length ts) m → Near k → Near n → Within (length ts) (tried codes ts m k n)
 near_tried {A = A} {B = B} {C = C} codes ts (Found a r l) k n w v u =
     let near : l ≤ length ts = omega (arith, w.0, w.1) in
     let same : length ts ≤ length ts = omega arith in
     let one : C → Either (A × C) B = λ c. This (a, c) in
     let other : B → Either (A × C) B = λ b. That b in
-    near_choice ts (one_of codes r) (noting l (becoming one (k r))) (noting l (becoming other (n ts))) (near_note ts r l one (k r) near w.1 (v r)) (near_note ts ts l other (n ts) near same (u ts))
+    within_cond (length ts) (one_of codes r) (noting l (becoming one (k r))) (noting l (becoming other (n ts))) (near_note ts r l one (k r) near w.1 (v r)) (near_note ts ts l other (n ts) near same (u ts))
 near_tried {A = A} {B = B} {C = C} codes ts (Stopped l) k n w v u =
     let same : length ts ≤ length ts = omega arith in
     let other : B → Either (A × C) B = λ b. That b in

@@ -1,12 +1,12 @@
 -- Updates of a `for` and the right parenthesis behind them, as the code reads them.
-use Rattle.std.proofs.Common.{◌≡◌, ℕ, zero, suc, ◌≤◌, ◌<◌, min, Bool, true, false, cond, List, [], ◌∷◌, length, Some, None, refl, sym, ap, ◌∙◌, subst, ⊎_elim, arith}
+use Rattle.std.proofs.Common.{◌≡◌, ℕ, zero, suc, ◌≤◌, ◌<◌, min, true, false, List, [], ◌∷◌, length, Some, None, refl, sym, ap, ◌∙◌, subst, ⊎_elim, arith}
 use Rattle.std.proofs.lemmas.Bool.{false≢true, cases_Bool, eqb-true, eq-eqb, or_left}
 use Rattle.std.specs.Prelude.{◌==◌, ◌||◌}
 use Rattle.jc_lexer.specs.declared.token.Sign.TheVariants as sign_of
 use Rattle.jc_lexer.specs.declared.token.Token.{Token}
 use Rattle.jc_tree.specs.declared.expression.Expr.{Expr}
-use Rattle.jc_reading.specs.Kinds.{kind_code, sign_code, front_code, one_of}
-use Rattle.jc_reading.specs.Reading.{Read, Found, Stopped, Run, noting, becoming, joined, ◌>>=◌, on_pick, perhaps_from, of_kind, before_it, each_behind, first_and_more, commas_run}
+use Rattle.jc_reading.specs.Kinds.{sign_code, front_code, one_of}
+use Rattle.jc_reading.specs.Reading.{Read, Found, Stopped, Run, noting, becoming, joined, ◌>>=◌, perhaps_from, before_it, each_behind, first_and_more, commas_run}
 use Rattle.jc_reading.specs.Further.{with_room}
 use Rattle.jc_reading.proofs.Signs.{apart_sets}
 use Rattle.jc_reading.proofs.Steps.{Refuses, reach}
@@ -22,6 +22,7 @@ use Rattle.jc_reading.specs.Reach.{Within, Near}
 use Rattle.jc_reading.proofs.Nears.{near_commas}
 use Rattle.jc_parse_heads.proofs.Joinings.{room_gone, room_there}
 use Rattle.jc_parse_heads.specs.HeadCode.{effects_run, effects_in_run, no_updates, parens_end, updates_made, updates_run}
+use Rattle.jc_parse_expr.proofs.Quiets.{kind_quiet as kind_gone}
 
 -- an effect
 
@@ -91,10 +92,6 @@ other_code : (code n : ℕ) → ((code == n) || false) ≡ false → (n == code)
 other_code code n e =
     ⊎_elim (λ (t : (n == code) ≡ true). absurd (false≢true (sym e ∙ or_left (code == n) false (eq-eqb code n (sym (eqb-true n code t))))))
     (λ (f : (n == code) ≡ false). f) (cases_Bool (n == code))
-
-kind_gone : (code : ℕ) (ts : List Token) → one_of (code ∷ []) ts ≡ false → of_kind code ts ≡ Stopped (length ts)
-kind_gone code [] e = refl
-kind_gone code (t ∷ q) e = ap (λ (b : Bool). on_pick (cond b (Some tt) None) q) (other_code code (kind_code t.kind) e)
 
 end_stops : (ts : List Token) → one_of Close ts ≡ false → parens_end ts ≡ Stopped (length ts)
 end_stops ts e = kind_gone (sign_code sign_of.RightParen) ts e

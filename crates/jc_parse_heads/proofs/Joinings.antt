@@ -1,7 +1,6 @@
 -- How what is read one behind the other goes together.
 use Rattle.std.proofs.Common.{◌≡◌, ℕ, zero, suc, min, true, false, List, length, Result, Ok, Err, IfOk, ◌≤◌, refl, sym, ap, ◌∙◌, subst, arith}
 use Rattle.std.proofs.lemmas.Bool.{cond-true, cond-false}
-use Rattle.jc_lexer.specs.declared.token.Sign.{Sign}
 use Rattle.jc_lexer.specs.declared.token.Token.{Token}
 use Rattle.jc_reading.specs.declared.reading.Found as answer
 use Rattle.jc_reading.specs.declared.reading.Halt.{Halt}
@@ -12,6 +11,8 @@ use Rattle.jc_reading.specs.Reading.{Read, Found, Stopped, Run, noting, becoming
 use Rattle.jc_reading.specs.Further.{with_room, either_one}
 use Rattle.jc_unit_laws.specs.UnitReading.{or_others}
 use Rattle.jc_parse_nodes.specs.Joins.{behind, Joined}
+use Rattle.jc_parse_expr.proofs.JoinedSteps.{wants}
+use Rattle.jc_parse_expr.proofs.PairSteps.{remade}
 
 -- a reach that is noted
 
@@ -21,9 +22,6 @@ noted_halts left halt_of.WantOfMemory m h = tt
 
 pub found_same : {A : Type 0} (m : Read A) (a b : A) (q r : List Token) (l k : ℕ) → m ≡ Found a q l → b ≡ a → r ≡ q → k ≡ l → m ≡ Found b r k
 found_same m a b q r l k e f g h = e ∙ ap (λ x. Found x q l) (sym f) ∙ ap (λ x. Found b x l) (sym g) ∙ ap (λ x. Found b r x) (sym h)
-
-pub wants : {A : Type 0} (m : Read A) (halt : Halt) → halt ≡ halt_of.WantOfMemory → Halts halt m
-wants m halt e = subst (λ (h : Halt). Halts h m) (sym e) tt
 
 -- halts go on
 
@@ -121,9 +119,6 @@ module _ {A B D E : Type 0} (make : (A × B) → E) (fd : B → D) (node : (A ×
   second_made m n ts = second_read (m ts) n
 
 -- made of what was made
-pub remade : {A B C : Type 0} (f : A → B) (g : B → C) (h : A → C) (m : Read A) → ((a : A) → g (f a) ≡ h a) → becoming g (becoming f m) ≡ becoming h m
-remade f g h (Found a r l) e = ap (λ c. Found c r l) (e a)
-remade f g h (Stopped l) e = refl
 
 -- the whole is made of what is made of the first part, and of the last one
 pub grouped : {P D C G E : Type 0} (T : Run P) (F : Run D) (N : Run C) (w : (D × C) → P) (make : P → E) (fd : D → G) (node : (G × C) → E) → Splits T F N w → ((d : D) (c : C) → make (w (d, c)) ≡ node (fd d, c)) → (ts : List Token) → as_new make T ts ≡ as_new node (in_turn (as_new fd F) N) ts

@@ -26,7 +26,8 @@ use Rattle.jc_parse_heads.specs.UnitCode.{braced_items_run, braces_list, coded_m
 use Rattle.jc_parse_nodes.specs.declared.heads.MemberHead.{MemberHead}
 use Rattle.jc_parse_nodes.specs.declared.heads.MemberHead.TheVariants as head_of
 use Rattle.jc_parse_heads.proofs.Codings.{coded_is, finish_noting}
-use Rattle.jc_parse_heads.proofs.Joinings.{either_this, either_that, first_made, grouped, remade, second_made, second_same, split_behind, split_here}
+use Rattle.jc_parse_heads.proofs.Joinings.{either_this, either_that, first_made, grouped, second_made, second_same, split_behind, split_here}
+use Rattle.jc_parse_expr.proofs.PairSteps.{remade}
 
 -- the head, and what stands behind it
 

@@ -11,7 +11,7 @@ use Rattle.jc_tree.specs.declared.statement.ClauseHead.TheVariants as clause_of
 use Rattle.jc_tree.specs.declared.statement.Stmt.{Stmt}
 use Rattle.jc_tree.specs.declared.statement.Stmt.TheVariants as stmt_of
 use Rattle.jc_reading.specs.Kinds.{sign_code, key_code, one_of}
-use Rattle.jc_reading.specs.Reading.{Stopped, Run, becoming, ◌>>=◌, as_new, in_turn, any_number, perhaps, of_kind, at_kind, an_ident_at, before_it, This, That, either}
+use Rattle.jc_reading.specs.Reading.{Stopped, Run, becoming, as_new, in_turn, any_number, perhaps, of_kind, at_kind, an_ident_at, before_it, This, That, either}
 use Rattle.jc_reading.specs.Further.{with_room}
 use Rattle.jc_expr_laws.specs.ExprReading.{exprs}
 use Rattle.jc_unit_laws.specs.UnitReading.{Braces, CaseLabel, Level, arm_made, arm_run, block_made, block_run, braced_run, break_made, break_run, case_made, case_run, continue_made, continue_run, expr_in_run, for_head_run, for_made, for_run, label_run, labeled_made, parens_run, return_made, return_run, semicolon_run, switch_made, switch_run, throw_made, throw_run, while_made, while_run}

@@ -7,9 +7,11 @@ use Rattle.jc_lexer.specs.declared.token.TokenKind.TheVariants as kind_of
 use Rattle.jc_reading.specs.Kinds.{key_code, sign_code}
 use Rattle.jc_part_laws.specs.PartReading.{modifier_word_codes}
 
+-- the codes of the tokens that a modifier begins with: `@`, or a word (JLS 8.1.1, 8.3.1, 8.4.3)
 abbrev pub modifier_codes : List ℕ
 modifier_codes = sign_code sign_of.At ∷ modifier_word_codes
 
+-- and those that a declaration of a type begins with, its modifiers among them
 abbrev pub declaration_codes : List ℕ
 declaration_codes = key_code key_of.Class ∷ key_code key_of.Interface ∷ modifier_codes
 

@@ -52,6 +52,7 @@ opened_run key = as_new before_it (in_turn (at_kind (key_code key)) (of_kind (si
 
 -- catches
 
+-- the name of the variable of a catch, and the right parenthesis
 unfoldable pub closed_name_run : Run Ident
 closed_name_run = as_new before_it (in_turn an_ident_at (of_kind (sign_code sign_of.RightParen)))
 
@@ -62,12 +63,14 @@ caught_made p = record { more = map behind_it p.0; name = p.1.0 }
 unfoldable pub caught_run : ℕ → Run Caught
 caught_run h = as_new caught_made (in_turn (each_behind sign_of.Or (class_run h)) (in_turn an_ident_at (of_kind (sign_code sign_of.RightParen))))
 
+-- all types that a catch names, and the name (JLS 14.20)
 abbrev pub caught_types_made : (ClassTree × (List (Unit {0} × ClassTree) × (Ident × Unit {0}))) → CaughtTypes
 caught_types_made p = record { first = p.0; more = map behind_it p.1.0; name = p.1.1.0 }
 
 unfoldable pub caught_types_run : ℕ → Run CaughtTypes
 caught_types_run h = as_new caught_types_made (in_turn (class_run h) (in_turn (each_behind sign_of.Or (class_run h)) (in_turn an_ident_at (of_kind (sign_code sign_of.RightParen)))))
 
+-- the same behind modifiers, as the head of a clause
 abbrev pub catch_head_made : (List Modifier × (ClassTree × (List (Unit {0} × ClassTree) × (Ident × Unit {0})))) → ClauseHead
 catch_head_made p = clause_of.Catch p.0 p.1.0 (map behind_it p.1.1.0) p.1.1.1.0
 
@@ -76,6 +79,7 @@ catch_head_run h = as_new catch_head_made (in_turn (modifiers_run exprs h) (in_t
 
 -- resources
 
+-- a resource's name with `=`; with its value behind that; and with its type before it (JLS 14.20.3)
 unfoldable pub assigned_name_run : Run Ident
 assigned_name_run = as_new before_it (in_turn an_ident_at (of_kind (sign_code sign_of.Assign)))
 
@@ -95,6 +99,7 @@ typed_value_run h = as_new typed_value_made (in_turn (type_run h) (in_turn an_id
 abbrev pub one_resource_run : ℕ → Run Resource
 one_resource_run h = resource_run exprs h (levels exprs h)
 
+-- resources behind the first one, and all of them, with whether a semicolon stands behind the last
 abbrev pub more_resources_made : (List (Unit {0} × Resource) × Bool) → MoreResources
 more_resources_made p = record { more = map behind_it p.0; trailing = p.1 }
 
@@ -109,6 +114,7 @@ some_resources_run h = as_new some_resources_made (in_turn (one_resource_run h) 
 
 -- heads of `for`
 
+-- what stands behind the first semicolon of a `for`: a test or none, a semicolon, and updates or none (JLS 14.14.1)
 abbrev pub Test : Type 0
 Test = Option Expr × (Unit {0} × Option (List Expr))
 
@@ -118,6 +124,7 @@ updating_run h = perhaps (commas_run (effect_in_run exprs h))
 abbrev pub testing_run : ℕ → Run Test
 testing_run h = in_turn (perhaps (expr_in_run exprs h)) (in_turn semicolon_run (updating_run h))
 
+-- the right parenthesis
 abbrev pub parens_end : Run (Unit {0})
 parens_end = of_kind (sign_code sign_of.RightParen)
 
@@ -136,6 +143,7 @@ updates_made p = or_no_effects p.0
 unfoldable pub updates_run : ℕ → Run (List Expr)
 updates_run h = as_new updates_made (in_turn (updating_run h) parens_end)
 
+-- no updates, made of a token alone
 abbrev pub no_updates : Unit {0} → List Expr
 no_updates u = []
 
@@ -146,12 +154,14 @@ for_update_made p = or_no_effects p.0.1
 unfoldable pub for_update_run : ℕ → Run (List Expr)
 for_update_run h = as_new for_update_made (in_turn (in_turn semicolon_run (updating_run h)) parens_end)
 
+-- a test or none, a semicolon, the updates or none, and the right parenthesis
 abbrev pub for_test_made : (Test × Unit {0}) → ForTail
 for_test_made p = record { test = p.0.0; update = or_no_effects p.0.1.1 }
 
 unfoldable pub for_test_run : ℕ → Run ForTail
 for_test_run h = as_new for_test_made (in_turn (testing_run h) parens_end)
 
+-- from the first semicolon on: the test and the updates; and below, with the right parenthesis
 abbrev pub tail_of : ForRest → ForTail
 tail_of r = record { test = r.1.0; update = or_no_effects r.1.1.1 }
 
@@ -161,17 +171,21 @@ for_tail_made p = tail_of p.0
 unfoldable pub for_tail_run : ℕ → Run ForTail
 for_tail_run h = as_new for_tail_made (in_turn (for_rest_run exprs h) parens_end)
 
+-- a basic `for` without an initialisation (JLS 14.14.1)
 abbrev pub empty_head : ForTail → ForHead
 empty_head tail = for_of.Basic (init_of.Effects []) tail.test tail.update
 
 -- a first variable and what is behind it
 
+-- further variables, and then the test and the updates
 abbrev pub Rest : Type 0
 Rest = List (Unit {0} × Var) × ForRest
 
+-- what stands behind the first variable: a colon and an expression, or its initialiser or none, and the rest (JLS 14.14)
 abbrev pub Kind : Type 0
 Kind = Either (Unit {0} × Expr) (Option (Unit {0} × Init) × Rest)
 
+-- the rest, and what stands behind the first variable, as nodes
 abbrev pub more_of : Rest → ForMore
 more_of r = record { more = map behind_it r.0; test = r.1.1.0; update = or_no_effects r.1.1.1.1 }
 
@@ -179,6 +193,7 @@ abbrev pub kind_of : Kind → ForKind
 kind_of (This q) = kind_is.Each q.1
 kind_of (That q) = kind_is.Basic (or_no_initial q.0) (more_of q.1)
 
+-- the reads of these: the rest, the initialiser or none, the colon with its expression, and either of the two kinds, told by the colon
 abbrev pub resting_run : ℕ → Run Rest
 resting_run h = in_turn (each_behind sign_of.Comma (var_run exprs h)) (for_rest_run exprs h)
 
@@ -194,6 +209,7 @@ colon_codes = sign_code sign_of.Colon ∷ []
 abbrev pub kinds_run : ℕ → Run Kind
 kinds_run h = either colon_codes (each_kind_run h) (in_turn (given_run h) (resting_run h))
 
+-- the expression of an enhanced `for` and the right parenthesis; and below, the same with the colon before it (JLS 14.14.2)
 unfoldable pub closed_expr_run : ℕ → Run Expr
 closed_expr_run h = as_new before_it (in_turn (exprs.expr h) parens_end)
 
@@ -203,9 +219,11 @@ for_each_made p = p.0.1
 unfoldable pub for_each_run : ℕ → Run Expr
 for_each_run h = as_new for_each_made (in_turn (each_kind_run h) parens_end)
 
+-- what an expression behind a colon makes of it
 abbrev pub each_kind : Expr → ForKind
 each_kind e = kind_is.Each e
 
+-- the rest up to the right parenthesis; and below, with the initialiser or none before it
 abbrev pub for_more_made : (Rest × Unit {0}) → ForMore
 for_more_made p = more_of p.0
 
@@ -218,6 +236,7 @@ for_vars_made p = kind_of (That p.0)
 unfoldable pub for_vars_run : ℕ → Run ForKind
 for_vars_run h = as_new for_vars_made (in_turn (in_turn (given_run h) (resting_run h)) parens_end)
 
+-- what stands behind the first variable, up to the right parenthesis; and below, with the brackets before it
 abbrev pub for_kind_made : (Kind × Unit {0}) → ForKind
 for_kind_made p = kind_of p.0
 
@@ -230,6 +249,7 @@ for_dims_made p = record { dims = p.0.0; kind = kind_of p.0.1 }
 unfoldable pub for_dims_run : ℕ → Run ForDims
 for_dims_run h = as_new for_dims_made (in_turn (in_turn dims_run (kinds_run h)) parens_end)
 
+-- the name of the first variable and all behind it, up to the right parenthesis; and below, with its type before it
 abbrev pub named_of : (Ident × (ℕ × Kind)) → ForNamed
 named_of p = record { name = p.0; dims = p.1.0; kind = kind_of p.1.1 }
 
@@ -247,6 +267,7 @@ for_typed_run h = as_new for_typed_made (in_turn (in_turn (type_run h) (for_name
 
 -- the head that a variable makes with its modifiers and its type
 
+-- an enhanced `for` has the one variable; a basic one declares it with its initialiser and further ones
 abbrev pub kind_head : List Modifier → TypeTree → Ident → ℕ → ForKind → ForHead
 kind_head modifiers ty name dims (kind_is.Each e) = for_of.Enhanced modifiers ty name dims e
 kind_head modifiers ty name dims (kind_is.Basic init more) =
@@ -258,6 +279,7 @@ named_head modifiers ty named = kind_head modifiers ty named.name named.dims nam
 abbrev pub typed_head : List Modifier → ForTyped → ForHead
 typed_head modifiers typed = named_head modifiers typed.ty typed.named
 
+-- the same without modifiers
 abbrev pub bare_head : TypeTree → ForNamed → ForHead
 bare_head ty named = named_head [] ty named
 
@@ -265,6 +287,7 @@ bare_head ty named = named_head [] ty named
 abbrev pub first_modifiers_run : ℕ → Run (List Modifier)
 first_modifiers_run h = as_new listed (in_turn (modifier_run exprs h) (modifiers_run exprs h))
 
+-- a head that begins with a modifier: one or more, the type, the name and all behind it
 abbrev pub Moded : Type 0
 Moded = Modifier × (List Modifier × (TypeTree × (Ident × (ℕ × Kind))))
 
@@ -297,6 +320,7 @@ for_other_made p = for_head_made (That (That p.0))
 unfoldable pub for_other_run : ℕ → Run ForHead
 for_other_run h = as_new for_other_made (in_turn (tried_run h) parens_end)
 
+-- behind a type: a variable where a name stands there; else the whole is read as effects, from where the type begins
 abbrev pub for_typed_or_run : ℕ → TypeTree → List Token → ℕ → List Token → Read ForHead
 for_typed_or_run h ty rest left ts = cond (one_of (word_code ∷ []) rest) (noting left (becoming (bare_head ty) (for_name_run h rest))) (noting left (for_effects_run h ts))
 

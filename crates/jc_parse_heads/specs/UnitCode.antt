@@ -27,8 +27,6 @@ use Rattle.jc_tree.specs.declared.statement.Modifier.{Modifier}
 use Rattle.jc_tree.specs.declared.statement.Resources.{Resources}
 use Rattle.jc_unit_laws.specs.MemberReading.{code_rest_run, levels, member_made, member_run, rest_run}
 use Rattle.jc_tree.specs.declared.types.TypeTree.{TypeTree}
-use Rattle.jc_tree.specs.declared.statement.DeclarationHead.TheVariants as head_of
-use Rattle.jc_parse_nodes.specs.declared.trees.HeadTree.TheVariants as head_tree_of
 use Rattle.jc_parse_nodes.specs.declared.pieces.Typed.{Typed}
 use Rattle.jc_unit_laws.specs.UnitReading.{arm_open, arm_run, branch_run, no_more, simple_run}
 use Rattle.jc_unit_laws.specs.UnitReading.{Branch as UnitBranch}
@@ -62,6 +60,7 @@ roomy_tested_run key h = as_new tested_made (with_room h (in_turn (at_kind (key_
 
 -- what stands before a semicolon
 
+-- a value or none; a name or none, without and with the semicolon; and an expression
 unfoldable pub ended_value_run : ℕ → Run (Option Expr)
 ended_value_run h = as_new before_it (in_turn (perhaps (expr_in_run exprs h)) semicolon_run)
 
@@ -76,12 +75,14 @@ ended_expr_run h = as_new before_it (in_turn (exprs.expr h) semicolon_run)
 
 -- lists up to a right brace, and between braces
 
+-- any number of them, up to the right brace
 abbrev pub until_brace : {A : Type 0} → Run A → Run (List A)
 until_brace run = as_new before_it (in_turn (any_number run) (of_kind (sign_code sign_of.RightBrace)))
 
 abbrev pub braces_list : {A : Type 0} → Braces A → List A
 braces_list p = p.1.0
 
+-- statements, the groups of a switch, and the members of a type
 unfoldable pub items_until_run : ℕ → Run (List Stmt)
 items_until_run h = until_brace (levels exprs h).item
 
@@ -96,6 +97,7 @@ braced_members_run h = as_new braces_list (braced_run (member_run exprs h (level
 
 -- parts of statements
 
+-- the place of a label of a switch and what it says, `case` or `default` (JLS 14.11)
 abbrev pub opening_of_label : CaseLabel → Opening
 opening_of_label (This p) = record { at = p.0; head = clause_of.Case p.1.0 }
 opening_of_label (That p) = record { at = p.0; head = clause_of.Default }
@@ -110,6 +112,7 @@ default_opening p = record { at = p.0; head = clause_of.Default }
 unfoldable pub case_value_run : ℕ → Run Expr
 case_value_run h = as_new before_it (in_turn (exprs.conditional h) (of_kind (sign_code sign_of.Colon)))
 
+-- `case` with its value, where there is room, and `default`, each with its place and its colon
 unfoldable pub case_label_run : ℕ → Run Opening
 case_label_run h = as_new case_opening (with_room h (in_turn (at_kind (key_code key_of.Case)) (in_turn (exprs.conditional h) (of_kind (sign_code sign_of.Colon)))))
 
@@ -120,6 +123,7 @@ default_label_run = as_new default_opening (in_turn (at_kind (key_code key_of.De
 unfoldable pub label_run : ℕ → Run Opening
 label_run h = as_new opening_of_label (either (key_code key_of.Case ∷ []) (with_room h (in_turn (at_kind (key_code key_of.Case)) (in_turn (exprs.conditional h) (of_kind (sign_code sign_of.Colon))))) (in_turn (at_kind (key_code key_of.Default)) (of_kind (sign_code sign_of.Colon))))
 
+-- the place of its keyword, and its head
 abbrev pub for_opening : (ℕ × (Unit {0} × (ForHead × Unit {0}))) → ForOpening
 for_opening p = record { at = p.0; head = p.1.1.0 }
 
@@ -157,6 +161,7 @@ catch_opening_run h =
     as_new catch_opening (in_turn (at_kind (key_code key_of.Catch)) (in_turn (of_kind (sign_code sign_of.LeftParen)) (in_turn (modifiers_run exprs h) (in_turn (class_run h) (in_turn (each_behind sign_of.Or (class_run h))
     (in_turn an_ident_at (of_kind (sign_code sign_of.RightParen))))))))
 
+-- the first one before the others
 abbrev pub listed : {A : Type 0} → (A × List A) → List A
 listed p = p.0 ∷ p.1
 
@@ -168,6 +173,7 @@ some_catches_run h = as_new listed (in_turn (catch_run exprs h (levels exprs h))
 abbrev pub with_last : {A : Type 0} → (List A × Option A) → List A
 with_last p = p.0 ++ or_none p.1
 
+-- the block of a `try` and its clauses: behind resources there may be none of these (JLS 14.20, 14.20.3)
 abbrev pub guarded_made : (Braces Stmt × List Clause) → Guarded
 guarded_made p = record { items = p.0.1.0; clauses = p.1 }
 
@@ -177,6 +183,7 @@ guarded_run h = as_new guarded_made (in_turn (braced_run (levels exprs h).item) 
 unfoldable pub plain_guarded_run : ℕ → Run Guarded
 plain_guarded_run h = as_new guarded_made (in_turn (braced_run (levels exprs h).item) (some_clauses_run exprs h (levels exprs h)))
 
+-- resources, where there is room, and the statement that they make with a block and its clauses
 unfoldable pub roomy_resources_run : ℕ → Run Resources
 roomy_resources_run h = with_room h (resources_run exprs h (levels exprs h))
 
@@ -231,6 +238,7 @@ branch_once_run h = as_new branch_of (in_turn (of_kind (key_code key_of.Else)) (
 abbrev pub if_node : List Clause → UnitBranch → Stmt
 if_node arms b = stmt_of.If (arms ++ b.0) (or_none b.1)
 
+-- what is read behind an arm, with room for n further ones: nothing where `closes` holds, since an `else` belongs to the arm's body then
 abbrev pub more_arms : ℕ → ℕ → Bool → Run UnitBranch
 more_arms h n closes ts = cond closes (found no_more ts) (branch_run n (arm_run exprs h (levels exprs h)) (levels exprs h).other ts)
 

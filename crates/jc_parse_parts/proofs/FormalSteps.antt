@@ -18,7 +18,8 @@ use Rattle.jc_parse_parts.specs.declared.trees.FormalTail.{FormalTail}
 use Rattle.jc_parse_parts.specs.Lists.{or_no_list}
 use Rattle.jc_reading.specs.Reach.{}
 use Rattle.jc_parse_parts.specs.Parts.{first_formals, formal_tail_run, formal_tail_tree, formal_with, perhaps_formals_run, some_formals_run}
-use Rattle.jc_parse_parts.proofs.ChainSteps.{then_made, then_stops, mapped_made}
+use Rattle.jc_parse_expr.proofs.MeasuredSteps.{then_made, mapped_made}
+use Rattle.jc_parse_parts.proofs.ChainSteps.{then_stops}
 
 -- one formal parameter
 

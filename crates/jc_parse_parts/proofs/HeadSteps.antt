@@ -19,7 +19,8 @@ use Rattle.jc_parse_nodes.specs.declared.trees.HeadTree.{HeadTree}
 use Rattle.jc_parse_nodes.specs.declared.trees.HeadTree.TheVariants as head_tree_of
 use Rattle.jc_parse_parts.specs.declared.trees.SuperTrees.{SuperTrees}
 use Rattle.jc_parse_parts.specs.Parts.{class_head_tree, interface_head_tree, head_tree, extended_run, supers_tree, supers_run, import_end_run}
-use Rattle.jc_parse_parts.proofs.ChainSteps.{twice, then_made, then_stops, mapped_made, last_made, last_stops}
+use Rattle.jc_parse_expr.proofs.MeasuredSteps.{twice, then_made, mapped_made}
+use Rattle.jc_parse_parts.proofs.ChainSteps.{then_stops, last_made, last_stops}
 
 -- classes
 

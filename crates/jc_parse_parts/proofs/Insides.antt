@@ -1,6 +1,5 @@
 -- No more tokens are left behind what is read.
 use Rattle.std.proofs.Common.{◌≡◌, ℕ, ◌≤◌, Option, Some, None, List, length, Result, Ok, Err, IfOk, IfSome, MatchOption, Bor, arith}
-use Rattle.jc_lexer.specs.declared.token.Sign.TheVariants as sign_of
 use Rattle.jc_lexer.specs.declared.token.Token.{Token}
 use Rattle.jc_reading.specs.declared.reading.Found as answer
 use Rattle.jc_reading.specs.declared.reading.Halt.{Halt}

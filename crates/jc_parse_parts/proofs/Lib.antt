@@ -3,6 +3,5 @@ pub mod FormalSteps
 pub mod Growths
 pub mod HeadSteps
 pub mod Insides
-pub mod OpeningInsides
 pub mod PartInsides
 pub mod PartSteps

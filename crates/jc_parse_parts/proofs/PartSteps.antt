@@ -26,7 +26,8 @@ use Rattle.jc_parse_parts.specs.declared.trees.ValueRow.{ValueRow}
 use Rattle.jc_parse_parts.specs.Lists.{or_no_list}
 use Rattle.jc_reading.specs.Reach.{}
 use Rattle.jc_parse_parts.specs.Parts.{initial_run, more_vars_run, named_value, or_no_initial, row_tree, row_value, unnamed_value, vars_tree, vars_tree_run}
-use Rattle.jc_parse_parts.proofs.ChainSteps.{then_made, then_stops, mapped_made, last_made}
+use Rattle.jc_parse_expr.proofs.MeasuredSteps.{then_made, mapped_made}
+use Rattle.jc_parse_parts.proofs.ChainSteps.{then_stops, last_made}
 
 pub two_of : (c d : ℕ) (ts : List Token) → one_of (c ∷ d ∷ []) ts ≡ (one_of (c ∷ []) ts || one_of (d ∷ []) ts)
 two_of c d ts = choice (c == front_code ts) (d == front_code ts)

@@ -43,6 +43,7 @@ behind_word_run k s h = as_new or_nothing (perhaps (in_turn (of_kind (key_code k
 abbrev pub row_value : List AnnotationValue → Bool → ValueRow
 row_value values trailing = record { values = values; trailing = trailing }
 
+-- the values that were read, with whether a comma stands behind the last one (JLS 9.7.1)
 abbrev pub row_tree : (List AnnotationValue × Bool) → ValueRow
 row_tree p = row_value p.0 p.1
 
@@ -50,6 +51,7 @@ row_tree p = row_value p.0 p.1
 abbrev pub named_value : (Ident × (Unit {0} × AnnotationValue)) → Pair
 named_value p = record { name = Some p.0; value = p.1.1 }
 
+-- a value without a name before it
 abbrev pub unnamed_value : AnnotationValue → Pair
 unnamed_value value = record { name = None; value = value }
 
@@ -57,9 +59,11 @@ unnamed_value value = record { name = None; value = value }
 abbrev pub formal_tail_tree : (TypeTree × (Option (Unit {0}) × (Ident × ℕ))) → FormalTail
 formal_tail_tree p = record { ty = p.0; variable_arity = is_some p.1.0; name = p.1.1.0; dims = p.1.1.1 }
 
+-- its type, `...` or nothing, its name, and brackets behind that (JLS 8.4.1)
 abbrev pub formal_tail_run : ℕ → Run FormalTail
 formal_tail_run h = as_new formal_tail_tree (in_turn (type_run h) (in_turn (perhaps (of_kind (sign_code sign_of.Ellipsis))) (in_turn an_ident_at dims_run)))
 
+-- the whole parameter
 abbrev pub formal_with : List Modifier → FormalTail → Formal
 formal_with modifiers tail = record { modifiers = modifiers; ty = tail.ty; variable_arity = tail.variable_arity; name = tail.name; dims = tail.dims }
 
@@ -67,6 +71,7 @@ formal_with modifiers tail = record { modifiers = modifiers; ty = tail.ty; varia
 abbrev pub first_formals : (Formal × List Formal) → List Formal
 first_formals p = p.0 ∷ p.1
 
+-- a further one is read only behind one that isn't of variable arity; and below, one or more, or none at all
 abbrev pub some_formals_run : ℕ → Run (List Formal)
 some_formals_run h = as_new first_formals (followed is_variable [] (formal_run exprs h) (λ ts. formals_tail_run (length ts) (formal_run exprs h) ts))
 
@@ -78,6 +83,7 @@ abbrev pub or_no_initial : Option (Unit {0} × Init) → Option Init
 or_no_initial None = None
 or_no_initial (Some p) = Some p.1
 
+-- an initialiser or none, with so much room for what nests inside it
 abbrev pub initial_run : ℕ → Run (Option Init)
 initial_run h = as_new or_no_initial (perhaps (with_room h (in_turn (of_kind (sign_code sign_of.Assign)) (exprs.init h))))
 
@@ -96,6 +102,7 @@ more_vars_run h = as_new (map behind_it) (each_behind sign_of.Comma (var_run exp
 abbrev pub extended_run : ℕ → Run (Option ClassTree)
 extended_run h = as_new or_no_class (perhaps (in_turn (of_kind (key_code key_of.Extends)) (class_run h)))
 
+-- a superclass or none, and then the superinterfaces, which may be left out (JLS 8.1.4, 8.1.5)
 abbrev pub supers_tree : (Option (Unit {0} × ClassTree) × List ClassTree) → SuperTrees
 supers_tree p = record { extends = or_no_class p.0; implements = p.1 }
 
@@ -112,6 +119,7 @@ interface_head_tree p = head_tree_of.Interface p.0 p.1.0 p.1.1.0 p.1.1.1
 abbrev pub annotation_head_tree : AnnotationHead → HeadTree
 annotation_head_tree p = head_tree_of.Annotation p.0 p.1.1
 
+-- the head of a class, an interface or an annotation type
 abbrev pub head_tree : HeadRest → HeadTree
 head_tree (This p) = class_head_tree p
 head_tree (That (This p)) = interface_head_tree p

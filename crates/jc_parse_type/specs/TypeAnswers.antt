@@ -24,6 +24,7 @@ NoTypeFault tokens at (fault_of.Syntax token) =
     IsTypeReach tokens at token × ((ty : TypeTree) (rest : List Token) → SpellsType most_height (drop at tokens) ty rest → ⊥)
 NoTypeFault tokens at (fault_of.LeftOut rule token) = ⊥
 
+-- why there is no type; of want of memory nothing is said
 abbrev pub NoTypeStands : List Token → ℕ → Stop ParseFault → Type 0
 NoTypeStands tokens at (stop_of.Refused fault) = NoTypeFault tokens at fault
 NoTypeStands tokens at stop_of.WantOfMemory = Unit {0}

@@ -3,7 +3,6 @@ use Rattle.std.proofs.Common.{◌≡◌, ℕ, true, false, List, [], ◌∷◌, 
 use Rattle.jc_lexer.specs.declared.token.Key.TheVariants as key_of
 use Rattle.jc_lexer.specs.declared.token.Sign.TheVariants as sign_of
 use Rattle.jc_lexer.specs.declared.token.Token.{Token}
-use Rattle.jc_tree.specs.declared.statement.Member.TheVariants as member_of
 use Rattle.jc_reading.specs.Kinds.{key_code, one_of, sign_code}
 use Rattle.jc_expr_laws.specs.ExprReading.{exprs}
 use Rattle.jc_unit_laws.specs.UnitReading.{or_others, block_run, body_run, break_run, case_item_run, continue_run, do_run, empty_run, for_run, if_run, local_run, other_run, plain_run, return_run, statement_codes, switch_run, throw_run, try_run, while_run, word_run}

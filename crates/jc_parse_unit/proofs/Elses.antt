@@ -5,7 +5,7 @@ use Rattle.jc_reading.specs.declared.reading.Found as answer
 use Rattle.jc_reading.specs.declared.reading.Halt.{Halt}
 use Rattle.jc_reading.specs.declared.reading.Halt.TheVariants as halt_of
 use Rattle.jc_reading.specs.Giving.{Gives}
-use Rattle.jc_parse_heads.proofs.Joinings.{found_same, wants}
+use Rattle.jc_parse_heads.proofs.Joinings.{found_same}
 use Rattle.jc_lexer.specs.declared.token.Key.TheVariants as key_of
 use Rattle.jc_lexer.specs.declared.token.Token.{Token}
 use Rattle.jc_tree.specs.declared.statement.Clause.{Clause}
@@ -19,6 +19,7 @@ use Rattle.jc_unit_laws.specs.UnitReading.{Branch as UnitBranch}
 use Rattle.jc_parse_nodes.specs.declared.pieces.Branch.{Branch}
 use Rattle.jc_parse_nodes.specs.declared.pieces.Branch.TheVariants as branch_is
 use Rattle.jc_parse_heads.specs.UnitCode.{branch_of, if_node}
+use Rattle.jc_parse_expr.proofs.JoinedSteps.{wants}
 
 module _ (arm : Run Clause) (other : Run Stmt) where
   -- something is read always

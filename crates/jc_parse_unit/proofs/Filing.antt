@@ -20,7 +20,6 @@ use Rattle.jc_parse_nodes.specs.declared.pieces.Body.{Body}
 use Rattle.jc_parse_heads.specs.UnitCode.{body_made, declaration_rest_run, declared_top_run}
 use Rattle.jc_parse_nodes.specs.Nodes.{declaration_of}
 use Rattle.jc_parse_heads.proofs.Joinings.{or_this, or_that, second_made}
-use Rattle.jc_parse_heads.proofs.LevelAdvances.{top_advances}
 use Rattle.jc_parse_unit.proofs.Moded.{declared_same}
 
 abbrev pub top_node : (List Modifier × Body) → TopLevel
@@ -43,6 +42,3 @@ top_declared ts e = or_that Semicolon (as_new top_level_of.Semicolon (at_kind (s
 
 pub import_ahead : GoesAhead import_run
 import_ahead = lawful_ahead Import (formed import_coded) import_laws refl
-
-pub top_ahead : GoesAhead (top_run exprs 199)
-top_ahead = top_advances 199

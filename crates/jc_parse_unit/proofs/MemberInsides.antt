@@ -1,6 +1,7 @@
 -- The head of a member leaves no more tokens than there are.
 use Rattle.std.proofs.Common.{◌≡◌, ◌==◌, ℕ, zero, suc, ◌≤◌, List, [], ◌∷◌, length, subst, arith}
-use Rattle.jc_parse_parts.proofs.PartInsides.{class_inside, type_inside, dims_inside, var_inside}
+use Rattle.jc_parse_expr.proofs.PrimeNears.{near_class, near_dims}
+use Rattle.jc_parse_parts.proofs.PartInsides.{assigned_inside, type_inside, var_inside}
 use Rattle.jc_lexer.specs.declared.token.Key.TheVariants as key_of
 use Rattle.jc_lexer.specs.declared.token.Sign.TheVariants as sign_of
 use Rattle.jc_lexer.specs.declared.token.Token.{Token}
@@ -40,21 +41,13 @@ inside_others codes m n v w = near_as either_one (either codes m n) (near_either
 
 throws_inside : (h : ℕ) → Near (keyed_run key_of.Throws (class_run h))
 unfolding keyed_run
-throws_inside h = near_as or_nothing _ (near_perhaps _ (near_turn (of_kind (key_code key_of.Throws)) (commas_run (class_run h)) (near_picking _) (near_commas (class_run h) (class_inside h))))
+throws_inside h = near_as or_nothing _ (near_perhaps _ (near_turn (of_kind (key_code key_of.Throws)) (commas_run (class_run h)) (near_picking _) (near_commas (class_run h) (near_class h))))
 
 formals_inside : (h : ℕ) → Near (formals_run (formal_run exprs h))
 formals_inside h ts = (formals_laws exprs h expr_laws).within ts
 
 params_of_inside : (h : ℕ) → Near (params_of_run (class_run h))
 params_of_inside h ts = (params_of_laws h).within ts
-
-init_inside : (h : ℕ) → Near (exprs.init (suc h))
-init_inside h ts = (expr_laws.init h).within ts
-
-assigned_inside : (h : ℕ) → Near (with_room h (in_turn (of_kind (sign_code sign_of.Assign)) (exprs.init h)))
-unfolding with_room
-assigned_inside zero ts = omega arith
-assigned_inside (suc h) ts = near_turn (of_kind (sign_code sign_of.Assign)) (exprs.init (suc h)) (near_picking _) (init_inside h) ts
 
 given_inside : (h : ℕ) → Near (perhaps (with_room h (in_turn (of_kind (sign_code sign_of.Assign)) (exprs.init h))))
 given_inside h = near_perhaps (with_room h (in_turn (of_kind (sign_code sign_of.Assign)) (exprs.init h))) (assigned_inside h)
@@ -71,7 +64,7 @@ module _ (h : ℕ) where
   fields_inside : Near (fields_run h)
   unfolding fields_run field_tail_run
   fields_inside =
-      near_as fields_tail_made _ (near_turn dims_run _ dims_inside (near_turn (perhaps (with_room h (in_turn (of_kind (sign_code sign_of.Assign)) (exprs.init h)))) (in_turn (each_behind sign_of.Comma (var_run exprs h)) semicolon_run) (given_inside h)
+      near_as fields_tail_made _ (near_turn dims_run _ near_dims (near_turn (perhaps (with_room h (in_turn (of_kind (sign_code sign_of.Assign)) (exprs.init h)))) (in_turn (each_behind sign_of.Comma (var_run exprs h)) semicolon_run) (given_inside h)
       (near_turn (each_behind sign_of.Comma (var_run exprs h)) semicolon_run (near_each sign_of.Comma (var_run exprs h) (var_inside h)) (near_picking _))))
 
   tail_inside : Near (named_tail_run h)

@@ -27,7 +27,8 @@ use Rattle.jc_parse_nodes.specs.declared.pieces.Body.{Body}
 use Rattle.jc_parse_nodes.specs.declared.pieces.Typed.{Typed}
 use Rattle.jc_parse_heads.specs.UnitCode.{body_made, braced_items_run, braced_members_run, braces_list, coded_member_run, declaration_rest_run, items_until_run, static_run, typed_made, typed_run}
 use Rattle.jc_parse_nodes.specs.Nodes.{declaration_of, locals_of, tree_head}
-use Rattle.jc_parse_heads.proofs.Joinings.{first_made, or_this, or_that, remade, second_made}
+use Rattle.jc_parse_heads.proofs.Joinings.{first_made, or_this, or_that, second_made}
+use Rattle.jc_parse_expr.proofs.PairSteps.{remade}
 
 same_values : {A B : Type 0} (f g : A → B) (m : Read A) → ((a : A) → f a ≡ g a) → becoming f m ≡ becoming g m
 same_values f g (Found a r l) e = ap (λ b. Found b r l) (e a)

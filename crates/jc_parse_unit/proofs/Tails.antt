@@ -18,7 +18,6 @@ use Rattle.jc_expr_laws.specs.ExprReading.{exprs}
 use Rattle.jc_unit_laws.specs.UnitReading.{Branch, Braces, arm_open, arm_run, branch_run, braced_run, catch_made, catch_run, clauses_run, do_made, do_run, effect_made, finally_made, finally_run, if_made, if_run, label_run, labeled_made, labeled_or, local_or_effect, no_more, parens_run, plain_run, resources_run, semicolon_run, some_clauses_made, some_clauses_run, try_made, try_run, variables_run, word_run}
 use Rattle.jc_unit_laws.specs.MemberReading.{levels}
 use Rattle.jc_parse_nodes.specs.Joins.{alone}
-use Rattle.jc_parse_heads.specs.UnitCode as code
 use Rattle.jc_parse_heads.specs.UnitCode.{arms_run, branch_of, branch_once_run, braced_items_run, braces_list, do_test, do_test_run, ended_effect_run, finally_opening, finally_opening_run, guarded_made, guarded_run, if_node, listed, local_or_effect_run, plain_guarded_run, roomy_resources_run, some_catches_run, with_last, with_node, catch_opening, catch_opening_run}
 use Rattle.jc_parse_nodes.specs.Nodes.{clause_made}
 use Rattle.jc_reading.specs.declared.reading.Halt.{Halt}
@@ -26,7 +25,8 @@ use Rattle.jc_reading.specs.Giving.{Halts}
 use Rattle.jc_parse_nodes.specs.declared.pieces.Branch.TheVariants as branch_is
 use Rattle.jc_parse_nodes.specs.declared.pieces.Guarded.{Guarded}
 use Rattle.jc_parse_nodes.specs.declared.pieces.Opening.{Opening}
-use Rattle.jc_parse_heads.proofs.Joinings.{Two, split_here, split_behind, grouped, first_made, second_made, remade, cut, either_this, either_that, halts_as, halts_bind, two_halts, noted_two, room_first, room_there, room_gone}
+use Rattle.jc_parse_heads.proofs.Joinings.{Two, split_here, split_behind, grouped, first_made, second_made, cut, either_this, either_that, halts_as, halts_bind, two_halts, noted_two, room_first, room_there, room_gone}
+use Rattle.jc_parse_expr.proofs.PairSteps.{remade}
 
 module _ (h : ℕ) (ts : List Token) where
   -- `do`

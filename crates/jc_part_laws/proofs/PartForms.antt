@@ -24,7 +24,7 @@ use Rattle.jc_reading.specs.Reading.{rest_of, behind_it}
 use Rattle.jc_reading.proofs.Forms.{Form, Lawful}
 use Rattle.jc_reading.proofs.Lists.{fits_all}
 use Rattle.jc_reading.proofs.Alikes.{alike_laws}
-use Rattle.jc_reading.proofs.Ledby.{led_many, led_many_laws, unled, unled_back, behind_fits}
+use Rattle.jc_reading.proofs.Ledby.{led_many, led_many_laws, unled, unled_back, behind_fits, or_false as twice}
 use Rattle.jc_reading.proofs.Signs.{a_sign, a_sign_at, a_key, a_key_at, an_ident, sign_laws, sign_at_laws, key_laws, ident_laws, none_common}
 use Rattle.jc_reading.proofs.Rooms.{room_none, room_above, room_max, room_all}
 use Rattle.jc_parse_type.specs.TypeReading.{type_run, class_run}
@@ -103,10 +103,6 @@ told_names (p ∷ list) r = ap (λ (l : List Told). sign sign_of.Dot ∷ ident p
 all_true : {A : Type 0} (list : List (Unit {0} × A)) → fits_all (λ (p : Unit {0} × A). true && true) list ≡ true
 all_true [] = refl
 all_true (p ∷ list) = all_true list
-
-twice : (b : Bool) → (b || false) ≡ true → b ≡ true
-twice true e = refl
-twice false e = e
 
 pub more_names_laws : Lawful (List Ident) more_names_form
 unfolding more_names_run

@@ -39,6 +39,7 @@ use Rattle.jc_pending.specs.declared.todo.Entry.{Entry}
 abbrev pub Ends : Type 0 → Type 0
 Ends A = Out TypedState A → Out TypedState Value
 
+-- what is left to do, for each sort of thing that can be given to it
 pub record Rest : Type 0 where
   pub value : Ends Value
   pub values : Ends (List Value)
@@ -65,6 +66,7 @@ nothing_waits f = record { value = λ o. f (unfit o); values = λ o. f (unfit o)
 abbrev pub target_waits : Ends Target → Rest
 target_waits f = record { value = λ o. f (unfit o); values = λ o. f (unfit o); nothing = λ o. f (unfit o); target = f; completion = λ o. f (unfit o); turn = λ o. f (unfit o); numbered = λ o. f (unfit o) }
 
+-- a completion of a statement, a turn of a loop, and a turn that counts the elements of an array
 abbrev pub completion_waits : Ends Completion → Rest
 completion_waits f = record { value = λ o. f (unfit o); values = λ o. f (unfit o); nothing = λ o. f (unfit o); target = λ o. f (unfit o); completion = f; turn = λ o. f (unfit o); numbered = λ o. f (unfit o) }
 
@@ -121,6 +123,7 @@ module _ (P : TypedProgram) (ns : List Node) (d : ℕ) where
   behind_completion (q.ToTurn x) k = goes_on (c.completion_to_turn P ns d x) k.turn
   behind_completion (q.ToNumbered x) k = goes_on (c.completion_to_numbered P ns d x) k.numbered
 
+  -- what waits for one thing, and then for what it gives itself
   abbrev pub waits : Waiting → Rest → Rest
   waits (w.Value x) k = value_waits (behind_value x k)
   waits (w.Values x) k = values_wait (behind_values x k)
@@ -144,11 +147,13 @@ module _ (P : TypedProgram) (ns : List Node) (d : ℕ) where
   abbrev pub behind_try : ℕ → Ends Completion → Ends Completion
   behind_try catches rest o = rest (on_both o give (s.catch P (l.inner P d) (l.run P d) d (catches_of ns catches)))
 
+  -- the statements of a finally block stand in reverse order
   abbrev pub behind_finally : List ℕ → Ends Completion → Ends Completion
   behind_finally back rest o =
       rest (on_both o (λ c. bind (l.run_all P d (l.stmts_back ns back)) (λ e. instead e (give c)))
       (λ address. bind (l.run_all P d (l.stmts_back ns back)) (λ e. instead e (throw address))))
 
+  -- what one entry makes of an outcome, before the rest: it begins, waits, leaves a node or a method, or takes a throw
   abbrev pub left_to_do : Todo → Rest → Rest
   left_to_do (todo.Begin x) k = nothing_waits (begun x k)
   left_to_do (todo.Wait x) k = waits x k

@@ -23,6 +23,7 @@ pub record Agrees {A : Type 0} (k : Rest) (f : Ends A) : Type 0 where
   pub going : (s : TypedState) → f (Going s) ≡ k.value (Going s)
   pub wrong : f Wrong ≡ k.value Wrong
 
+-- .. whatever it is that the rest waits for
 pub record Coherent (k : Rest) : Type 0 where
   pub values : Agrees k k.values
   pub nothing : Agrees k k.nothing
@@ -31,6 +32,7 @@ pub record Coherent (k : Rest) : Type 0 where
   pub turn : Agrees k k.turn
   pub numbered : Agrees k k.numbered
 
+-- a computation that ended without giving anything leads to this outcome; want of memory leads to each
 abbrev pub HaltLeads : Rest → Halt → Running → Out TypedState Value → Type 0
 HaltLeads k (halt.Thrown address) r w = k.value (Thrown address r.units r.state) ≡ w
 HaltLeads k (halt.Exited code) r w = k.value (Exited code r.state) ≡ w
@@ -48,6 +50,7 @@ given_on k (g.Completion c) r = k.completion (Val c r.units r.state)
 given_on k (g.Turn t) r = k.turn (Val t r.units r.state)
 given_on k (g.Numbered t) r = k.numbered (Val t r.units r.state)
 
+-- what is given, or the end without it, leads to this outcome
 abbrev pub GivenLeads : Rest → Result Given Halt → Running → Out TypedState Value → Type 0
 GivenLeads k (Ok given) r w = given_on k given r ≡ w
 GivenLeads k (Err h) r w = HaltLeads k h r w
@@ -61,6 +64,7 @@ module _ (P : TypedProgram) (ns : List Node) (d : ℕ) where
   next_on k (x.Then todo task) r = begun P ns d task (left_to_do P ns d todo k) (Val tt r.units r.state)
   next_on k (x.Deeper todo task) r = begun P ns (d - 1) task (left_to_do P ns d todo k) (Val tt r.units r.state)
 
+  -- a next step, or the end without one, leads to this outcome
   abbrev pub Leads : Rest → Result Next Halt → Running → Out TypedState Value → Type 0
   Leads k (Ok next) r w = next_on k next r ≡ w
   Leads k (Err h) r w = HaltLeads k h r w

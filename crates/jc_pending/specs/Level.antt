@@ -27,6 +27,7 @@ abbrev pub nodes_in : Option TypedMethod → List Node
 nodes_in (Some m) = m.nodes
 nodes_in None = []
 
+-- .. by its number
 abbrev pub nodes_of : TypedProgram → MethodId → List Node
 nodes_of P m = nodes_in (slice_get P.methods m.0)
 
@@ -36,6 +37,7 @@ first_use P zero c = stop
 first_use P (suc d) c = node (k.initialise P (meaning P d).body (meaning P d).ready c)
 
 module _ (P : TypedProgram) (d : ℕ) where
+  -- the meaning at the depth: parts of forms, statements, classes and bodies
   abbrev pub inner : e.Inner
   inner = inner_of (meaning P d)
 
@@ -51,6 +53,7 @@ module _ (P : TypedProgram) (d : ℕ) where
   abbrev pub body : MethodId → TypedRun Completion
   body = (meaning P d).body
 
+  -- steps and calls over this meaning; these calls give no types for the parameters of a method
   abbrev pub steps : List Step → Value → TypedRun Value
   steps = t.steps P body ready
 

@@ -34,6 +34,7 @@ use Rattle.jc_pending.specs.declared.loops.NumberedToCompletion.{NumberedToCompl
 use Rattle.jc_pending.specs.declared.loops.NumberedToCompletion.TheVariants as mc
 
 module _ (P : TypedProgram) (ns : List Node) (d : ℕ) where
+  -- operands and statements by their places, and the ends of a turn
   abbrev value_of : ℕ → TypedRun Value
   value_of at = e.value_of P (l.inner P d) (operand_of ns at)
 
@@ -52,6 +53,7 @@ module _ (P : TypedProgram) (ns : List Node) (d : ℕ) where
   abbrev after_body : {I : Type 0} → ℕ → Completion → TypedRun (Turn I) → TypedRun (Turn I)
   after_body = s.after_body P (l.inner P d) (l.run P d) d
 
+  -- the update of a `for`, whose values are dropped, and that of a loop which has none
   abbrev update_of : ℕ → TypedRun (Unit {0})
   update_of update = behind (e.values P (l.inner P d) (operands_of ns update)) (give tt)
 
@@ -62,6 +64,7 @@ module _ (P : TypedProgram) (ns : List Node) (d : ℕ) where
   abbrev pub take_of : Each → Value → TypedRun (Unit {0})
   take_of each = s.take_element P (l.inner P d) (l.run P d) d each.place (type_of ns each.ty) (captures_of ns each.captures) (steps_of ns each.steps) each.local
 
+  -- turns of a `for`, of a loop over an iterator, and of one over an array at an index
   abbrev pub for_turn : ℕ → ℕ → ℕ → ℕ → Unit {0} → TypedRun (Turn (Unit {0}))
   for_turn own test update body i =
       s.while_turn P (l.inner P d) (l.run P d) d own (test_of P ns d test) (run body) (update_of update)
@@ -72,6 +75,7 @@ module _ (P : TypedProgram) (ns : List Node) (d : ℕ) where
   abbrev pub array_turn : Each → Value → ℕ → TypedRun (Turn ℕ)
   array_turn each array = s.array_turn P (l.inner P d) (l.run P d) d each.own array (take_of each) (run each.body)
 
+  -- a turn of each loop but that over an array, and such a turn as a task
   abbrev pub turn : TurnTask → Unit {0} → TypedRun (Turn (Unit {0}))
   turn (t.While own test body) i = s.while_turn P (l.inner P d) (l.run P d) d own (value_of test) (run body) no_update
   turn (t.Do own body test) i = s.do_turn P (l.inner P d) (l.run P d) d own (run body) (value_of test)
@@ -81,6 +85,7 @@ module _ (P : TypedProgram) (ns : List Node) (d : ℕ) where
   abbrev pub turn_task : TurnTask → TypedRun (Turn (Unit {0}))
   turn_task t = turn t tt
 
+  -- what follows a value in a turn: that of the test, of `hasNext`, or of `next`
   abbrev pub value_to_turn : ValueToTurn → Value → TypedRun (Turn (Unit {0}))
   value_to_turn (vr.While own body) v = if_true v (bind (run body) (λ c. after_body own c (behind no_update again))) ended
   value_to_turn (vr.For own body update) v = if_true v (bind (run body) (λ c. after_body own c (behind (update_of update) again))) ended
@@ -92,18 +97,22 @@ module _ (P : TypedProgram) (ns : List Node) (d : ℕ) where
       ended
   value_to_turn (vr.Next each) v = behind (take_of each v) (bind (run each.body) (λ c. after_body each.own c again))
 
+  -- what follows the body of a loop, which a jump may have ended
   abbrev pub completion_to_turn : CompletionToTurn → Completion → TypedRun (Turn (Unit {0}))
   completion_to_turn (cr.While own) c = after_body own c again
   completion_to_turn (cr.For own update) c = after_body own c (behind (update_of update) again)
   completion_to_turn (cr.Do own test) c = after_body own c (bind (value_of test) (λ v. if_true v again ended))
 
+  -- what follows the update, and an element that went into its variable
   abbrev pub nothing_to_turn : NothingToTurn → TypedRun (Turn (Unit {0}))
   nothing_to_turn nr.Again = again
   nothing_to_turn (nr.Body own body) = bind (run body) (λ c. after_body own c again)
 
+  -- what follows a turn: the others, of which `left` are left at most
   abbrev pub turn_to_completion : TurnToCompletion → Turn (Unit {0}) → TypedRun Completion
   turn_to_completion (rc.Turned t left) r = on_turn r (turns left (turn t))
 
+  -- the same over an array: a turn, what follows an element in its variable, the body, and the turn
   abbrev pub numbered_task : NumberedTask → TypedRun (Turn ℕ)
   numbered_task (m.Element each array at) = array_turn each array at
 

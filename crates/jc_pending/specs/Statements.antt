@@ -29,6 +29,7 @@ use Rattle.jc_pending.specs.declared.statements.CompletionToCompletion.{Completi
 use Rattle.jc_pending.specs.declared.statements.CompletionToCompletion.TheVariants as cc
 
 module _ (P : TypedProgram) (ns : List Node) (d : ℕ) where
+  -- a task that gives a completion: a statement or a body as a node or inside of it, a list in reverse order, or turns
   abbrev pub completion_task : CompletionTask → TypedRun Completion
   completion_task (t.Stmt at) = l.run P d (stmt_of ns at)
   completion_task (t.Act at) = s.stmt_act P (l.inner P d) (l.run P d) d (stmt_of ns at)
@@ -40,6 +41,7 @@ module _ (P : TypedProgram) (ns : List Node) (d : ℕ) where
   completion_task (t.Turns turn left) = turns left (o.turn P ns d turn) tt
   completion_task (t.ArrayTurns each array at left) = turns left (o.array_turn P ns d each array) at
 
+  -- what follows the value of a statement's expression, or the iterator of an enhanced `for`
   abbrev pub value_to_completion : ValueToCompletion → Value → TypedRun Completion
   value_to_completion vc.Normally v = give Normal
   value_to_completion (vc.Arm first back other) v =
@@ -56,17 +58,20 @@ module _ (P : TypedProgram) (ns : List Node) (d : ℕ) where
       bind (l.call_virtual P d P.known.iterating.iterator v) (λ iterator. turns d (o.iterator_turn P ns d each iterator) tt)
   value_to_completion (vc.Iterate each) v = turns d (o.iterator_turn P ns d each v) tt
 
+  -- what follows the values of operands: the turns of a `for`, a `return`, or the call of a constructor
   abbrev pub values_to_completion : ValuesToCompletion → List Value → TypedRun Completion
   values_to_completion (lc.For own test update body) vs = turns d (o.for_turn P ns d own test update body) tt
   values_to_completion lc.Return vs = give (Returned (s.value_or_null P (l.inner P d) (l.run P d) d vs))
   values_to_completion (lc.Construct m) vs =
       bind (local 0) (λ o. s.normally P (l.inner P d) (l.run P d) d (l.call_direct P d m o vs))
 
+  -- what follows declarations and initialisations
   abbrev pub nothing_to_completion : NothingToCompletion → TypedRun Completion
   nothing_to_completion nc.Normally = give Normal
   nothing_to_completion (nc.For own before test update body) =
       behind (e.values P (l.inner P d) (operands_of ns before)) (turns d (o.for_turn P ns d own test update body) tt)
 
+  -- what follows a statement: the end of a labelled one, what a finally block comes in place of, or the next ones
   abbrev pub completion_to_completion : CompletionToCompletion → Completion → TypedRun Completion
   completion_to_completion (cc.Broken own) c = give (broken own c)
   completion_to_completion (cc.Instead before) c = instead c (give before)

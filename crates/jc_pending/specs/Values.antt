@@ -75,6 +75,7 @@ use Rattle.jc_pending.specs.declared.statements.ValuesToNothing.{ValuesToNothing
 use Rattle.jc_pending.specs.declared.statements.ValuesToNothing.TheVariants as ln
 
 module _ (P : TypedProgram) (ns : List Node) (d : ℕ) where
+  -- operands, steps and operators by their places, over the meaning at the depth
   abbrev value_of : ℕ → TypedRun Value
   value_of at = e.value_of P (l.inner P d) (operand_of ns at)
 
@@ -97,6 +98,7 @@ module _ (P : TypedProgram) (ns : List Node) (d : ℕ) where
   abbrev pub test_of : ℕ → TypedRun Value
   test_of test = bind (values test) (λ vs. give (s.true_or P (l.inner P d) (l.run P d) d vs))
 
+  -- a task that gives a value: an expression as a node or inside of it, or a part of one
   abbrev pub expression_task : ExpressionTask → TypedRun Value
   expression_task (x.Expr at) = (l.inner P d).expr (expr_of ns at)
   expression_task (x.Act at) = e.expr_act P (l.inner P d) (expr_of ns at)
@@ -110,6 +112,7 @@ module _ (P : TypedProgram) (ns : List Node) (d : ℕ) where
   expression_task (x.Static f) = e.get_static P (l.inner P d) f
   expression_task (x.Test test) = test_of test
 
+  -- a call, from one of the points on that it passes
   abbrev pub call_task : CallTask → TypedRun Value
   call_task (call.With kind m receiver args types) = e.call_with P (l.inner P d) kind m receiver args types
   call_task (call.Static m args types) = c.call_static P (l.body P d) m args types
@@ -119,6 +122,7 @@ module _ (P : TypedProgram) (ns : List Node) (d : ℕ) where
   call_task (call.Answer m) = bind (l.body P d m) c.answer_of
   call_task (call.Ready m args types) = behind (l.ready P d (method_class P.table m)) (c.call_static P (l.body P d) m args types)
 
+  -- each task that gives a value; lists of operands stand in reverse order
   abbrev pub value_task : ValueTask → TypedRun Value
   value_task (v.Expression t) = expression_task t
   value_task (v.Call t) = call_task t
@@ -126,6 +130,7 @@ module _ (P : TypedProgram) (ns : List Node) (d : ℕ) where
   value_task (v.AnyTrue back) = e.any_true P (l.inner P d) (l.operands_back ns back)
   value_task (v.FillWith a at back) = e.fill_with P (l.inner P d) a at (l.operands_back ns back)
 
+  -- what follows a value that something is done with where it stands
   abbrev pub use_value : UseTodo → Value → TypedRun Value
   use_value (u.Noted place ty captures form) v =
       behind (e.capture P (l.inner P d) v (captures_of ns captures)) (e.noted P (l.inner P d) (e.is_noted P (l.inner P d) (form_over (parts ns) form)) place (type_of ns ty) v)
@@ -142,6 +147,7 @@ module _ (P : TypedProgram) (ns : List Node) (d : ℕ) where
   use_value (u.Assign target) v = assigned target v
   use_value (u.Instead given) v = give given
 
+  -- what follows an operand of an operator, or the string of one of string `+`
   abbrev pub join_value : JoinTodo → Value → TypedRun Value
   join_value (j.Link joint left right) v = bind (steps left v) (λ w. joined joint w right)
   join_value (j.Joining joint right) v = joined joint v right
@@ -175,6 +181,7 @@ module _ (P : TypedProgram) (ns : List Node) (d : ℕ) where
   step_note place ty op from into is_prefix target v =
       bind (e.note P (l.inner P d) place ty v) (λ x. bind (steps from x) (step_by op into is_prefix target v))
 
+  -- what follows a value in a compound assignment, in `++` or in `--`
   abbrev pub change_value : ChangeTodo → Value → TypedRun Value
   change_value (h.CompoundNote place ty joint left right into target) v = compound_note place (type_of ns ty) joint left right into target v
   change_value (h.CompoundJoin joint right into target) v = compound_join joint right into target v
@@ -183,6 +190,7 @@ module _ (P : TypedProgram) (ns : List Node) (d : ℕ) where
   change_value (h.StepBy op into is_prefix target before) v = step_by op into is_prefix target before v
   change_value (h.StepWrite is_prefix target before) v = step_write is_prefix target before v
 
+  -- what follows an operand of `&&` and `||`, and an element of an array that is filled
   abbrev pub list_value : ListTodo → Value → TypedRun Value
   list_value (i.AllTrue back) v =
       e.if_true P (l.inner P d) v (e.all_true P (l.inner P d) (l.operands_back ns back)) (give (truth false))
@@ -191,6 +199,7 @@ module _ (P : TypedProgram) (ns : List Node) (d : ℕ) where
   list_value (i.FillWith a at back) v =
       behind (e.set_element P (l.inner P d) (Address a) (Whole (pos at)) v) (e.fill_with P (l.inner P d) a (suc at) (l.operands_back ns back))
 
+  -- what follows a value and gives a value; behind a selected body its result is checked
   abbrev pub value_to_value : ValueToValue → Value → TypedRun Value
   value_to_value (vv.Use t) v = use_value t v
   value_to_value (vv.Join t) v = join_value t v
@@ -198,6 +207,7 @@ module _ (P : TypedProgram) (ns : List Node) (d : ℕ) where
   value_to_value (vv.List t) v = list_value t v
   value_to_value (vv.Answered m own) v = c.answered P (result_of P.table m) (result_of P.table own) v
 
+  -- the values of operands, and what appends a further one to them
   abbrev pub values_task : ValuesTask → TypedRun (List Value)
   values_task (vs.Operands at) = values at
 
@@ -207,6 +217,7 @@ module _ (P : TypedProgram) (ns : List Node) (d : ℕ) where
   abbrev pub value_to_values : ValueToValues → Value → TypedRun (List Value)
   value_to_values (vl.Append vs) v = give (vs ++ v ∷ [])
 
+  -- the parts of a variable, and what follows the values of these parts
   abbrev pub target_task : TargetTask → TypedRun Target
   target_task (ts.Variable at) = e.target_of P (l.inner P d) (variable_of ns at)
 
@@ -218,6 +229,7 @@ module _ (P : TypedProgram) (ns : List Node) (d : ℕ) where
   abbrev pub values_to_target : ValuesToTarget → List Value → TypedRun Target
   values_to_target (lt.Static f) vs = give (ToStatic f)
 
+  -- what follows the parts of a variable that is assigned or changed
   abbrev pub target_to_value : TargetToValue → Target → TypedRun Value
   target_to_value (tv.Assign value) t = bind (value_of value) (assigned t)
   target_to_value (tv.Compound place ty joint left right into) t =
@@ -225,6 +237,7 @@ module _ (P : TypedProgram) (ns : List Node) (d : ℕ) where
   target_to_value (tv.Step place ty op from into is_prefix) t =
       bind (e.read_target P (l.inner P d) t) (step_note place (type_of ns ty) op from into is_prefix t)
 
+  -- the use of a class, from one of the points of its initialisation on (JLS 12.4.2)
   abbrev pub class_task : ClassTask → TypedRun (Unit {0})
   class_task (class.Ready of_it) = l.ready P d of_it
   class_task (class.First of_it) = l.first_use P d of_it
@@ -232,6 +245,7 @@ module _ (P : TypedProgram) (ns : List Node) (d : ℕ) where
   class_task (class.Superclass of_it) = k.superclass_first P (l.ready P d) of_it
   class_task (class.Initialiser of_it) = k.run_initialiser P (l.body P d) (initialiser_of P.table of_it)
 
+  -- a task that gives nothing: a store, a declaration, an update, or the use of a class
   abbrev pub nothing_task : NothingTask → TypedRun (Unit {0})
   nothing_task (n.Write target v) = e.write_target P (l.inner P d) target v
   nothing_task (n.SetStatic f v) = e.set_static P (l.inner P d) f v
@@ -241,6 +255,7 @@ module _ (P : TypedProgram) (ns : List Node) (d : ℕ) where
   nothing_task (n.Update update) = behind (values update) (give tt)
   nothing_task (n.Class t) = class_task t
 
+  -- what follows a class that is ready, or a store
   abbrev pub nothing_to_value : NothingToValue → TypedRun Value
   nothing_to_value (nv.Static f) = look (λ state. slice_get state.statics f.0)
   nothing_to_value (nv.Text as_it v) =
@@ -253,6 +268,7 @@ module _ (P : TypedProgram) (ns : List Node) (d : ℕ) where
       behind (l.call_direct P d m (Address a) vs) (give (Address a))))
   nothing_to_value (nv.Call m args types) = c.call_static P (l.body P d) m args types
 
+  -- what follows the values of operands and gives a value
   abbrev pub values_to_value : ValuesToValue → List Value → TypedRun Value
   values_to_value (lv.Constant value) vs = e.constant_value P (l.inner P d) (constant_of ns value)
   values_to_value (lv.Static f) vs = e.get_static P (l.inner P d) f
@@ -265,13 +281,16 @@ module _ (P : TypedProgram) (ns : List Node) (d : ℕ) where
       bind (e.lengths_of P (l.inner P d) vs) (λ ns'. bind (closed (type_of ns ty)) (λ t. e.arrays P (l.inner P d) t ns'))
   values_to_value lv.Test vs = give (s.true_or P (l.inner P d) (l.run P d) d vs)
 
+  -- what follows a body: its result
   abbrev pub completion_to_value : CompletionToValue → Completion → TypedRun Value
   completion_to_value cv.Answer done = c.answer_of done
 
+  -- what follows a class that is ready, or the declarations before the last one
   abbrev pub nothing_to_nothing : NothingToNothing → TypedRun (Unit {0})
   nothing_to_nothing (nn.PutStatic f v) = change (λ state. record state { statics = slice_set state.statics f.0 v })
   nothing_to_nothing (nn.DeclareLast n value) = bind (values value) (s.set_first P (l.inner P d) (l.run P d) d n)
 
+  -- what follows a value or values that go into a variable, or are dropped
   abbrev pub value_to_nothing : ValueToNothing → Value → TypedRun (Unit {0})
   value_to_nothing vn.Drop v = give tt
   value_to_nothing (vn.SetLocal n) v = set_local n v

@@ -18,6 +18,7 @@ pub record Catch : Type 0 where
   pub types : List Ty
   pub body : Stmt
 
+-- a list from its first member on, and then `more`
 abbrev pub arms_before : Arms → List Arm → List Arm
 arms_before NoArms more = more
 arms_before (MoreArms before test then) more = arms_before before (record { test = test; then = then } ∷ more)
@@ -26,6 +27,7 @@ abbrev pub catches_before : Catches → List Catch → List Catch
 catches_before NoCatches more = more
 catches_before (MoreCatches before place local types body) more = catches_before before (record { local = local; types = types; body = body } ∷ more)
 
+-- a test or a clause by the places of its parts in an arena
 abbrev pub arm_of : List Node → ArmPlaces → Arm
 arm_of ns a = record { test = operand_of ns a.test; then = stmt_of ns a.then }
 

@@ -33,6 +33,7 @@ abbrev pub tried : {A B C : Type 0} → List ℕ → List Token → Read A → R
 tried codes ts (Found a r l) k n = cond (one_of codes r) (noting l (becoming (λ c. This (a, c)) (k r))) (noting l (becoming That (n ts)))
 tried codes ts (Stopped l) k n = noting l (becoming That (n ts))
 
+-- the same of readers: the second one goes on behind the first one, and the third one starts where that started
 abbrev pub trying : {A B C : Type 0} → List ℕ → Run A → Run C → Run B → Run (Either (A × C) B)
 trying codes m k n ts = tried codes ts (m ts) k n
 
@@ -41,6 +42,7 @@ abbrev pub or_else : {A B : Type 0} → List Token → Read A → Run B → Read
 or_else ts (Found a r l) n = Found (This a) r l
 or_else ts (Stopped l) n = noting l (becoming That (n ts))
 
+-- the same of readers, which both start at the same token
 abbrev pub preferring : {A B : Type 0} → Run A → Run B → Run (Either A B)
 preferring m n ts = or_else ts (m ts) n
 
@@ -48,6 +50,7 @@ preferring m n ts = or_else ts (m ts) n
 abbrev pub unless : {A T : Type 0} → (A → Bool) → T → Run T → A → List Token → Read (A × T)
 unless closes none more a q = cond (closes a) (found (a, none) q) (becoming (joined a) (more q))
 
+-- the same of readers: the second one starts behind the first one
 abbrev pub followed : {A T : Type 0} → (A → Bool) → T → Run A → Run T → Run (A × T)
 followed closes none m more ts = m ts >>= unless closes none more
 

@@ -6,6 +6,7 @@ use Rattle.jc_reading.specs.declared.reading.Halt.TheVariants as halt_of
 use Rattle.jc_reading.specs.Reading.{Read}
 use Rattle.jc_reading.specs.Reading as reading
 
+-- where the code stops, reading stops with the same reach; of want of memory nothing is said
 abbrev pub Halts : {A : Type 0} → Halt → Read A → Type 0
 Halts (halt_of.Stopped left) read = read ≡ reading.Stopped left
 Halts halt_of.WantOfMemory read = Unit {0}

@@ -4,6 +4,7 @@ use Rattle.jc_lexer.specs.declared.token.Token.{Token}
 use Rattle.jc_reading.specs.Reading.{Read, Found, Stopped, Run, found, noting, becoming}
 use Rattle.jc_reading.specs.Further.{by_value}
 
+-- a part, and the rest behind it; where no part is read, none, and no token is taken
 abbrev pub one_then : {P : Type 0} → List Token → Read P → (P → List Token → Read (List P)) → Read (List P)
 one_then ts (Found p q l) rest = noting l (becoming (λ more. p ∷ more) (rest p q))
 one_then ts (Stopped l) rest = Found [] ts l

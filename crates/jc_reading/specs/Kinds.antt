@@ -8,6 +8,7 @@ use Rattle.jc_lexer.specs.declared.token.Token.{Token}
 use Rattle.jc_lexer.specs.declared.token.TokenKind.{TokenKind}
 use Rattle.jc_lexer.specs.declared.token.TokenKind.TheVariants as kind_of
 
+-- keywords have the numbers from 10 to 62, each its own; `true`, `false` and `null` are among them
 abbrev pub key_code : Key → ℕ
 key_code key_of.Abstract = 10
 key_code key_of.Assert = 11
@@ -63,6 +64,7 @@ key_code key_of.True = 60
 key_code key_of.False = 61
 key_code key_of.Null = 62
 
+-- signs have the numbers from 100 to 142, each its own
 abbrev pub sign_code : Sign → ℕ
 sign_code sign_of.Ellipsis = 100
 sign_code sign_of.ShiftLeftAssign = 101
@@ -108,9 +110,11 @@ sign_code sign_of.Percent = 140
 sign_code sign_of.Caret = 141
 sign_code sign_of.Tilde = 142
 
+-- the number of identifiers
 abbrev pub word_code : ℕ
 word_code = 0
 
+-- identifiers are 0, numbers 1, characters 2 and strings 3, whatever their values; 999, below, is the number of no kind
 abbrev pub kind_code : TokenKind → ℕ
 kind_code (kind_of.Word text) = 0
 kind_code (kind_of.Number value long decimal) = 1
@@ -124,6 +128,7 @@ abbrev pub front_code : List Token → ℕ
 front_code [] = 999
 front_code (t ∷ ts) = kind_code t.kind
 
+-- the number is in the list
 abbrev pub is_in : List ℕ → ℕ → Bool
 is_in [] n = false
 is_in (c ∷ codes) n = (c == n) || is_in codes n

@@ -17,6 +17,7 @@ abbrev pub Ahead : {A : Type 0} → List Token → Read A → Type 0
 Ahead ts (Found a r l) = (l ≤ length r) × (length r < length ts)
 Ahead ts (Stopped l) = l ≤ length ts
 
+-- of a reader, whatever stands there
 abbrev pub GoesAhead : {A : Type 0} → Run A → Type 0
 GoesAhead run = (ts : List Token) → Ahead ts (run ts)
 

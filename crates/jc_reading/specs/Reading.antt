@@ -15,9 +15,11 @@ pub data Read (A : Type 0) : Type 0 where
   Found : A → List Token → ℕ → Read A
   Stopped : ℕ → Read A
 
+-- a reader: what it reads at the front of tokens
 abbrev pub Run : Type 0 → Type 0
 Run A = List Token → Read A
 
+-- a value, where the reach is the first token behind it
 abbrev pub found : {A : Type 0} → A → List Token → Read A
 found a r = Found a r (length r)
 
@@ -26,11 +28,13 @@ abbrev pub noting : {A : Type 0} → ℕ → Read A → Read A
 noting k (Found a r l) = Found a r (min k l)
 noting k (Stopped l) = Stopped (min k l)
 
+-- goes on behind what was read, with its value; the reach is the further one of both
 infixl 10 ◌>>=◌
 abbrev pub ◌>>=◌ : {A B : Type 0} → Read A → (A → List Token → Read B) → Read B
 (Found a r l) >>= f = noting l (f a r)
 (Stopped l) >>= f = Stopped l
 
+-- the value as another one, by a function; the tokens and the reach stay
 abbrev pub becoming : {A B : Type 0} → (A → B) → Read A → Read B
 becoming f (Found a r l) = Found (f a) r l
 becoming f (Stopped l) = Stopped l
@@ -38,6 +42,7 @@ becoming f (Stopped l) = Stopped l
 abbrev pub as_new : {A B : Type 0} → (A → B) → Run A → Run B
 as_new f m ts = becoming f (m ts)
 
+-- two values as a pair
 abbrev pub joined : {A B : Type 0} → A → B → A × B
 joined a b = (a, b)
 
@@ -50,9 +55,11 @@ abbrev pub perhaps_from : {A : Type 0} → List Token → Read A → Read (Optio
 perhaps_from ts (Found a r l) = Found (Some a) r l
 perhaps_from ts (Stopped l) = Found None ts l
 
+-- the same of a reader
 abbrev pub perhaps : {A : Type 0} → Run A → Run (Option A)
 perhaps m ts = perhaps_from ts (m ts)
 
+-- one, and the rest behind it; where none is read, none, and no token is taken
 abbrev pub one_more : {A : Type 0} → List Token → Read A → (List Token → Read (List A)) → Read (List A)
 one_more ts (Found a q l) rest = noting l (becoming (λ more. a ∷ more) (rest q))
 one_more ts (Stopped l) rest = Found [] ts l
@@ -62,9 +69,11 @@ unfoldable pub times : {A : Type 0} → ℕ → Run A → Run (List A)
 times zero m ts = found [] ts
 times (suc n) m ts = one_more ts (m ts) (times n m)
 
+-- any number, with room for as many as there are tokens
 abbrev pub any_number : {A : Type 0} → Run A → Run (List A)
 any_number m ts = times (length ts) m ts
 
+-- a value of the one kind or of the other
 pub data Either (A B : Type 0) : Type 0 where
   This : A → Either A B
   That : B → Either A B
@@ -73,6 +82,7 @@ pub data Either (A B : Type 0) : Type 0 where
 abbrev pub either : {A B : Type 0} → List ℕ → Run A → Run B → Run (Either A B)
 either codes m n ts = cond (one_of codes ts) (becoming This (m ts)) (becoming That (n ts))
 
+-- the value of a token; where it has none (None), reading stops, and the reach is that token
 abbrev pub on_pick : {A : Type 0} → Option A → List Token → Read A
 on_pick (Some a) r = found a r
 on_pick None r = Stopped (suc (length r))
@@ -92,6 +102,7 @@ Takes touched [] ts r = ts ≡ r
 Takes touched (d ∷ told) [] r = ⊥
 Takes touched (d ∷ told) (t ∷ ts) r = IsTold touched d t × Takes (is_greater t.kind && t.touches) told ts r
 
+-- a token of the kind with this number: that it is one, or its offset
 abbrev pub picks : ℕ → Token → Option (Unit {0})
 picks code t = cond (kind_code t.kind == code) (Some tt) None
 
@@ -116,6 +127,7 @@ picks_ident t = ident_of_kind t.kind t.from
 abbrev pub an_ident_at : Run Ident
 an_ident_at = picking picks_ident
 
+-- the tokens behind the first one; none where there is none
 abbrev pub rest_of : List Token → List Token
 rest_of [] = []
 rest_of (t ∷ ts) = ts
@@ -127,6 +139,7 @@ behind_it p = p.1
 abbrev pub before_it : {A : Type 0} → (A × Unit {0}) → A
 before_it p = p.0
 
+-- a first value and those behind signs, as one list
 abbrev pub first_and_more : {A : Type 0} → (A × List (Unit {0} × A)) → List A
 first_and_more p = p.0 ∷ map behind_it p.1
 

@@ -1,5 +1,5 @@
 -- The repair of a type is above it.
-use Rattle.std.proofs.Common.{◌≡◌, ℕ, ◌==◌, ◌&&◌, Bool, true, false, List, [], ◌∷◌, ◌++◌, map, refl, ap, sym, subst, ◌∙◌, if◌then◌else◌, arith}
+use Rattle.std.proofs.Common.{◌≡◌, ℕ, Bool, true, false, List, [], ◌∷◌, ◌++◌, map, refl, ap, sym, subst, ◌∙◌, if◌then◌else◌, arith}
 use Rattle.std.proofs.lemmas.Bool.{and_from}
 use Rattle.jc_rules.proofs.Truths.{self_equal}
 use Rattle.jc_types.specs.declared.environment.Bounds.{Bounds}

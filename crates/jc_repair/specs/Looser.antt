@@ -21,11 +21,13 @@ abbrev pub in_exact : Ty → (Ty → Bool) → ArgLayer → Bool
 in_exact t f (Arg-F.Exact u) = same t u
 in_exact t f l = in_extends f l
 
+-- `? super T` is contained in itself and in `?`
 abbrev pub in_super : Ty → ArgLayer → Bool
 in_super t (Arg-F.Super u) = same t u
 in_super t Arg-F.Any = true
 in_super t _ = false
 
+-- `?` is contained in `?` alone
 abbrev pub in_any : ArgLayer → Bool
 in_any Arg-F.Any = true
 in_any _ = false
@@ -42,14 +44,17 @@ abbrev pub class_looser : ClassId → List (Arg → Bool) → Layer → Bool
 class_looser i fs (Ty-F.Class j args) = (i.0 == j.0) && all_pass fs args
 class_looser i fs _ = false
 
+-- an array of as many dimensions, whose elements are above
 abbrev pub array_looser : ℕ → (Ty → Bool) → Layer → Bool
 array_looser n f (Ty-F.Array u m) = (n == m) && f u
 array_looser n f _ = false
 
+-- an intersection of as many parts, each above the one at its place
 abbrev pub meet_looser : List (Ty → Bool) → Layer → Bool
 meet_looser fs (Ty-F.Meet parts) = all_pass fs parts
 meet_looser fs _ = false
 
+-- of a type whose parts' answers are known: other types than these three are above themselves alone
 abbrev pub looser_at : Ty-F (Arg × (Arg → Bool)) (Ty × (Ty → Bool)) → Ty → Bool
 looser_at (Ty-F.Prim p) u = same (Prim p) u
 looser_at (Ty-F.Class i xs) u = class_looser i (map (λ x. x.1) xs) (out-Ty u)
@@ -65,6 +70,7 @@ looser_at Ty-F.NullTy u = same NullTy u
 unfoldable pub is_looser : Ty → Ty → Bool
 is_looser t = para-Ty (Arg → Bool) (Ty → Bool) arg_is_in_at looser_at t
 
+-- the same of two arguments: the first is contained in the second
 unfoldable pub arg_is_in : Arg → Arg → Bool
 arg_is_in a = para-Arg (Arg → Bool) (Ty → Bool) arg_is_in_at looser_at a
 

@@ -11,6 +11,7 @@ use Rattle.jc_judge.specs.declared.question.Answer.TheVariants.{Yes, No, Deep}
 use Rattle.jc_judge.specs.Forming.{formed_answer}
 use Rattle.jc_judge.specs.Kinds.{ArgLayer}
 
+-- an answer is Yes; Deep, which can't be told, is not
 abbrev pub is_yes : Answer → Bool
 is_yes Yes = true
 is_yes No = false
@@ -20,6 +21,7 @@ is_yes Deep = false
 abbrev pub is_sound : Table → List Bounds → Ty → Bool
 is_sound T env t = is_yes (formed_answer T 64 env t)
 
+-- an exact argument gets `extends`, and a super wildcard loses its bound
 abbrev pub loosened_at : ArgLayer → Arg
 loosened_at (Arg-F.Exact t) = Extends t
 loosened_at Arg-F.Any = Any
@@ -54,5 +56,6 @@ repaired_at T env Ty-F.NullTy = roll-Ty Ty-F.NullTy
 unfoldable pub repaired : Table → List Bounds → Ty → Ty
 repaired T env t = para-Ty Arg Ty repaired_arg_at (repaired_at T env) t
 
+-- the same of the type in an argument
 unfoldable pub repaired_arg : Table → List Bounds → Arg → Arg
 repaired_arg T env a = para-Arg Arg Ty repaired_arg_at (repaired_at T env) a

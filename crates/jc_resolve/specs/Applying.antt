@@ -31,6 +31,7 @@ by_subtyping true true c = c
 by_subtyping false false c = c
 by_subtyping _ _ c = converts.NoConversion
 
+-- an argument of type s to a parameter of type t in a phase
 abbrev pub converted : Table → List Bounds → Phase → Ty → Ty → Converts
 converted T env Subtyping s t = by_subtyping (is_primitive s) (is_primitive t) (invocation T env s t)
 converted T env Invocation s t = invocation T env s t
@@ -42,6 +43,7 @@ unchecked_before u (fit.Fits v) = fit.Fits (u || v)
 unchecked_before u fit.Fails = fit.Fails
 unchecked_before u fit.Deep = fit.Deep
 
+-- the conversion of an argument, and then the further arguments: one that has none, or can't be told, decides
 abbrev pub behind : Converts → Fit → Fit
 behind (converts.Yes c) further = unchecked_before c.unchecked further
 behind converts.NoConversion further = fit.Fails
@@ -66,6 +68,7 @@ counts [] explicit = true
 counts (v ∷ vars) [] = true
 counts (v ∷ vars) (t ∷ explicit) = length (v ∷ vars) == length (t ∷ explicit)
 
+-- what stands for the type parameters: none where there are none, the explicit ones, or the inferred ones
 abbrev pub type_arguments_of : Table → List Bounds → CallSite → Phase → MethodView → List VarId → List Ty → Inference
 type_arguments_of T env site phase m [] explicit = inference.Inferred []
 type_arguments_of T env site phase m (v ∷ vars) [] = inferred T env m phase site.args site.target
@@ -76,6 +79,7 @@ type_arguments T env site phase m = type_arguments_of T env site phase m m.vars 
 
 -- ---- applicable members
 
+-- the outcome with these type arguments, by whether the arguments fit
 abbrev pub applied_by : List Ty → Fit → Applied
 applied_by by (fit.Fits unchecked) = applied.Applies by unchecked
 applied_by by fit.Fails = applied.Fails
@@ -93,13 +97,16 @@ abbrev pub applicable : Table → List Bounds → CallSite → Phase → MethodV
 applicable T env site phase m =
     cond (takes phase m (length site.args) && counts m.vars site.explicit) (applied_with T env site phase m (type_arguments T env site phase m)) applied.Fails
 
+-- an applicable member, with its type arguments and whether an unchecked conversion was needed
 abbrev pub candidate : MethodView → List Ty → Bool → Candidate
 candidate m by unchecked = record { member = m; type_args = by; unchecked = unchecked }
 
+-- a candidate before the further ones, if these are known
 abbrev pub put : Candidate → Option (List Candidate) → Option (List Candidate)
 put c None = None
 put c (Some cs) = Some (c ∷ cs)
 
+-- .. by whether the member is applicable
 abbrev pub gathered_by : MethodView → Applied → Option (List Candidate) → Option (List Candidate)
 gathered_by m (applied.Applies by unchecked) further = put (candidate m by unchecked) further
 gathered_by m applied.Fails further = further

@@ -12,6 +12,7 @@ use Rattle.jc_resolve.specs.declared.site.CallSite.{CallSite}
 use Rattle.jc_resolve.specs.Applying.{applicable}
 use Rattle.jc_resolve.specs.Choosing.{equivalent}
 
+-- x is one of these
 abbrev pub IsAmong : {X : Type 0} → List X → X → Type 0
 IsAmong [] x = ⊥
 IsAmong (y ∷ ys) x = (x ≡ y) ⊎ IsAmong ys x
@@ -23,6 +24,7 @@ pub record IsApplicable (T : Table) (env : List Bounds) (site : CallSite) (phase
   pub is : member.id ≡ id
   pub applies : applicable T env site phase member ≡ Applies by unchecked
 
+-- the signatures are override-equivalent, in either order
 abbrev pub AreEquivalent : Table → MethodView → MethodView → Type 0
 AreEquivalent T a b = (equivalent T a b ≡ true) ⊎ (equivalent T b a ≡ true)
 

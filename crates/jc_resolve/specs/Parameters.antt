@@ -12,6 +12,7 @@ abbrev pub stand_ins : ℕ → List VarId → List Ty
 stand_ins n [] = []
 stand_ins n (v ∷ vars) = Captured (record { 0 = n }) ∷ stand_ins (n + 1) vars
 
+-- each of these lists as upper bounds, with types put for the parameters, and no lower bound
 abbrev pub bounded_by : List VarId → List Ty → List (List Ty) → List Bounds
 bounded_by vars by [] = []
 bounded_by vars by (bs ∷ bounds) = record { uppers = map (subst vars by) bs; lower = None } ∷ bounded_by vars by bounds

@@ -32,14 +32,17 @@ abbrev pub compared_by_of : Table → List Bounds → Phase → MethodView → L
 compared_by_of T env phase b params [] = inference.Inferred []
 compared_by_of T env phase b params (v ∷ vars) = inferred T env b phase params None
 
+-- .. of b's own type parameters
 abbrev pub compared_by : Table → List Bounds → Phase → MethodView → List Ty → Inference
 compared_by T env phase b params = compared_by_of T env phase b params b.vars
 
+-- parameters of another member are below b's, with these type arguments; No where inference fails
 abbrev pub compared_with : Table → List Bounds → Phase → MethodView → List Ty → Inference → Answer
 compared_with T env phase b params (inference.Inferred by) = all_below T env params (map (subst b.vars by) (formals phase b.params (length params)))
 compared_with T env phase b params (inference.NotApplicable why) = No
 compared_with T env phase b params inference.Deep = Deep
 
+-- b takes these types as its arguments, each by subtyping
 abbrev pub compared : Table → List Bounds → Phase → MethodView → List Ty → Answer
 compared T env phase b params = compared_with T env phase b params (compared_by T env phase b params)
 
@@ -52,6 +55,7 @@ compared_as T env phase a b params (v ∷ vars) = compared T (with_parameters en
 abbrev pub more_specific : Table → List Bounds → Phase → MethodView → MethodView → Answer
 more_specific T env phase a b = compared_as T env phase a b (formals phase a.params (compared_at a b)) a.vars
 
+-- the opposite of an answer, where it can be told
 abbrev pub not_so : Answer → Answer
 not_so Yes = No
 not_so No = Yes
@@ -75,6 +79,7 @@ abbrev pub beaten : Table → List Bounds → Phase → MethodView → List Cand
 beaten T env phase b [] = No
 beaten T env phase b (a ∷ others) = either (strictly T env phase a.member b) (beaten T env phase b others)
 
+-- a candidate before others unless it is beaten; None where it can't be told whether it is
 abbrev pub put_unless : Answer → Candidate → Option (List Candidate) → Option (List Candidate)
 put_unless Deep c more = None
 put_unless Yes c more = more

@@ -55,6 +55,7 @@ row_run classes world next now waiting (row.CallStatic class method sorts) =
 row_run classes world next now waiting (row.New class) = first_initialised classes world now waiting class (acts classes waiting (object_made classes class world next now))
 row_run classes world next now waiting _ = stuck
 
+-- what the row did to its frame, or else the step that it ran
 abbrev pub row_settled : List ClassModel → List Waiting → Step → Option Act_in → Step
 row_settled classes waiting run (Some done) = acts classes waiting done
 row_settled classes waiting run None = run

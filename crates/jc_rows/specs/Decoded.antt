@@ -27,6 +27,7 @@ use Rattle.jc_rows.specs.declared.row.Row.TheVariants as row
 
 -- ---- by what the names mean, where they mean something
 
+-- a static field by the class and number that its name means, or an instance field by its slot; the same for loads and stores
 abbrev pub static_load_row : Sort → Option (ℕ × ℕ) → Row
 static_load_row sort (Some place) = row.LoadStatic sort place.0 place.1
 static_load_row sort None = row.Nothing
@@ -43,6 +44,7 @@ abbrev pub field_store_row : Sort → Option ℕ → Row
 field_store_row sort (Some slot) = row.StoreField sort slot
 field_store_row sort None = row.Nothing
 
+-- a static method by its class and number, and the sorts of its arguments
 abbrev pub static_call_row : List Sort → Option (ℕ × ℕ) → Row
 static_call_row sorts (Some place) = row.CallStatic place.0 place.1 sorts
 static_call_row sorts None = row.Nothing
@@ -52,6 +54,7 @@ abbrev pub new_row : List ClassModel → Option ℕ → Row
 new_row classes (Some k) = if class_has_flag classes 0x0600 k then row.Nothing else row.New k
 new_row classes None = row.Nothing
 
+-- a new array by the type of its elements, or a nest of arrays by its own type and how many lengths it takes
 abbrev pub array_row : Option Shape → Row
 array_row (Some of) = row.NewArray of
 array_row None = row.Nothing
@@ -60,12 +63,14 @@ abbrev pub nest_row : ℕ → Option Shape → Row
 nest_row dims (Some shape) = row.NewNest shape dims
 nest_row dims None = row.Nothing
 
+-- a return of this sort from a method, with the sort of the method's result
 abbrev pub return_row : Option Sort → Option MethodModel → Row
 return_row wanted (Some m) = row.Return wanted (result_sort m.descriptor)
 return_row wanted None = row.Nothing
 
 -- ---- by the operand, and then by the group of the instruction
 
+-- an operand that isn't the group's own has no row, here and below
 abbrev pub row_without_operand : List ClassModel → ℕ × ℕ → Group → Row
 row_without_operand classes place (ElementLoads element) = row.LoadElement element
 row_without_operand classes place (ElementStores element) = row.StoreElement element
@@ -74,18 +79,22 @@ row_without_operand classes place Throws = row.Throw
 row_without_operand classes place Lengths = row.Length
 row_without_operand classes place _ = row.Nothing
 
+-- ldc of a string; numbers touch their frame alone
 abbrev pub row_of_constant : Group → Loaded → Row
 row_of_constant Literals (LoadedText text) = row.Literal text
 row_of_constant _ _ = row.Nothing
 
+-- newarray, by the type that its number means
 abbrev pub row_of_number : Group → Option Shape → Row
 row_of_number NewArrays shape = array_row shape
 row_of_number _ shape = row.Nothing
 
+-- lookupswitch, whose row is given
 abbrev pub row_of_switch : Group → Row → Row
 row_of_switch Switches switch = switch
 row_of_switch _ switch = row.Nothing
 
+-- the instructions that name a field or a method; `current` is the class whose code this is
 abbrev pub row_of_member : List ClassModel → ℕ → List ℕ → List ℕ → List ℕ → Group → Row
 row_of_member classes current class name descriptor StaticLoads = static_load_row (sort_of_descriptor descriptor) (static_field classes class name descriptor)
 row_of_member classes current class name descriptor StaticStores = static_store_row (sort_of_descriptor descriptor) (static_field classes class name descriptor)
@@ -96,6 +105,7 @@ row_of_member classes current class name descriptor SpecialCalls = row.CallSpeci
 row_of_member classes current class name descriptor StaticCalls = static_call_row (sorts_of_call false descriptor) (static_method classes class name descriptor)
 row_of_member classes current class name descriptor _ = row.Nothing
 
+-- new, anewarray, checkcast and instanceof; the latter two have a row also where the name means nothing, since null passes without it
 abbrev pub row_of_class : List ClassModel → List ℕ → Group → Row
 row_of_class classes name News = new_row classes (class_named classes name)
 row_of_class classes name NewReferenceArrays = array_row (shape_named classes name)
@@ -103,10 +113,12 @@ row_of_class classes name Casts = row.Cast (shape_named classes name)
 row_of_class classes name Tests = row.Test (shape_named classes name)
 row_of_class classes name _ = row.Nothing
 
+-- multianewarray
 abbrev pub row_of_dims : List ClassModel → List ℕ → ℕ → Group → Row
 row_of_dims classes name dims NewNests = nest_row dims (shape_named classes name)
 row_of_dims classes name dims _ = row.Nothing
 
+-- the row by the sort of the operand; `place` is the class and the method whose code this is
 abbrev pub row_by_operand : List ClassModel → ℕ × ℕ → Group → Operand → Row
 row_by_operand classes place group op.Nothing = row_without_operand classes place group
 row_by_operand classes place group (op.Load constant) = row_of_constant group constant
@@ -117,10 +129,12 @@ row_by_operand classes place group (op.Class name) = row_of_class classes name g
 row_by_operand classes place group (op.Dims name dims) = row_of_dims classes name dims group
 row_by_operand classes place group _ = row.Nothing
 
+-- an instruction that touches its frame alone comes first
 abbrev pub row_by_plain : Row → Option Plain → Row
 row_by_plain other (Some plain) = row.Alone plain
 row_by_plain other None = other
 
+-- an opcode that the machine doesn't have is no row
 abbrev pub row_by_code : List ClassModel → ℕ × ℕ → Operand → Option Opcode → Row
 row_by_code classes place operand (Some code) = row_by_plain (row_by_operand classes place (group_of code) operand) (plain_of (group_of code) operand)
 row_by_code classes place operand None = row.Nothing

@@ -21,6 +21,7 @@ abbrev pub places_of : (Ins × ℕ → Placed) → ℕ → List Ins → List (Op
 places_of f start [] = []
 places_of f start (i ∷ is) = Some (f (i, start + ins_size start i)) ∷ (replicate (ins_size start i - 1) None ++ places_of f (start + ins_size start i) is)
 
+-- a method without code has no rows
 abbrev pub places_in_code : (Ins × ℕ → Placed) → Option CodeModel → List (Option Placed)
 places_in_code f (Some code) = places_of f 0 code.ins
 places_in_code f None = []
@@ -29,6 +30,7 @@ places_in_code f None = []
 abbrev pub method_rows : List ClassModel → ℕ → ℕ → List (Option Placed)
 method_rows classes k m = places_in_code (placed_as classes (k, m)) (code_at classes k m)
 
+-- the rows of all methods of a class, and of all classes, in their order
 abbrev pub class_rows : List ClassModel → ℕ → List (List (Option Placed))
 class_rows classes k = map (method_rows classes k) (range_with_len 0 (length (methods_of classes k)))
 

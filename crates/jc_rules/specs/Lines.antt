@@ -1,6 +1,7 @@
 -- Lines of a text (JLS 3.4).
 use Rattle.std.specs.Prelude.{ℕ, zero, suc, ◌+◌, ◌==◌, Bool, true, false, ◌&&◌, ◌||◌, List, slice_get, Option, Some, None, if◌then◌else◌}
 
+-- there is a byte, and it is `wanted`
 abbrev pub is_byte : ℕ → Option ℕ → Bool
 is_byte wanted None = false
 is_byte wanted (Some b) = b == wanted
@@ -9,6 +10,7 @@ is_byte wanted (Some b) = b == wanted
 abbrev pub has_byte : ℕ → List ℕ → ℕ → Bool
 has_byte wanted text place = is_byte wanted (slice_get text place)
 
+-- the other truth value
 abbrev pub not : Bool → Bool
 not true = false
 not false = true

@@ -3,6 +3,7 @@ use Rattle.std.specs.Prelude.{ℕ, ◌/◌, Bool, nat_le, ◌&&◌, ◌||◌, �
 use Rattle.jc_rules.specs.declared.rule.Stage.{Stage}
 use Rattle.jc_rules.specs.declared.rule.Stage.TheVariants.{Lexical, Syntax, Names, Types, Headers, Bodies, Flow, Clashes, Limits}
 
+-- a number is one of those from `low` to `high`, both ends included
 abbrev pub between : ℕ → ℕ → ℕ → Bool
 between low high n = nat_le low n && nat_le n high
 
@@ -12,6 +13,7 @@ is_rule n =
     between 101 109 n || between 201 203 n || between 301 311 n || between 401 409 n ||
     between 501 514 n || between 601 626 n || between 701 708 n || between 801 801 n || between 900 905 n
 
+-- the stage whose rules have these hundreds; Limits has 9 and whatever no other stage has
 abbrev pub stage_at : ℕ → Stage
 stage_at hundreds =
     if hundreds == 1 then Lexical else if hundreds == 2 then Syntax else if hundreds == 3 then Names else if hundreds == 4 then Types else if hundreds == 5 then Headers else if hundreds == 6 then Bodies else if hundreds == 7 then Flow else if hundreds == 8 then Clashes else Limits
@@ -20,6 +22,7 @@ stage_at hundreds =
 abbrev pub stage_of : ℕ → Stage
 stage_of n = stage_at (n / 100)
 
+-- the texts of the rules 101 to 109, which the lexical stage asks for; empty of any other number
 abbrev pub lexical_text : ℕ → List ℕ
 lexical_text n =
     if n == 101 then codes "source too long" else
@@ -33,6 +36,7 @@ lexical_text n =
     if n == 109 then codes "dollar sign" else
     []
 
+-- the texts of the rules 201 to 203, on the grammar (JLS 18); empty of any other number
 abbrev pub syntax_text : ℕ → List ℕ
 syntax_text n =
     if n == 201 then codes "word left out" else
@@ -40,6 +44,7 @@ syntax_text n =
     if n == 203 then codes "form left out" else
     []
 
+-- the texts of the rules 301 to 311, on declared and imported names and supertypes; empty of any other number
 abbrev pub names_text : ℕ → List ℕ
 names_text n =
     if n == 301 then codes "type declared twice" else
@@ -55,6 +60,7 @@ names_text n =
     if n == 311 then codes "type variable in a static place" else
     []
 
+-- the texts of the rules 401 to 409, on types and their arguments and bounds (JLS 4); empty of any other number
 abbrev pub types_text : ℕ → List ℕ
 types_text n =
     if n == 401 then codes "wrong count of type arguments" else
@@ -68,6 +74,7 @@ types_text n =
     if n == 409 then codes "wrong kind of bound" else
     []
 
+-- the texts of the rules 501 to 514, on the heads of classes and methods (JLS 8, 9); empty of any other number
 abbrev pub headers_text : ℕ → List ℕ
 headers_text n =
     if n == 501 then codes "generic class extends Throwable" else
@@ -86,6 +93,7 @@ headers_text n =
     if n == 514 then codes "body missing or unwanted" else
     []
 
+-- the texts of the rules 601 to 626, on expressions and statements (JLS 14, 15); empty of any other number
 abbrev pub bodies_text : ℕ → List ℕ
 bodies_text n =
     if n == 601 then codes "literal out of range" else
@@ -116,6 +124,7 @@ bodies_text n =
     if n == 626 then codes "forward reference" else
     []
 
+-- the texts of the rules 701 to 708, on reachability, exceptions and definite assignment (JLS 14.21, 11, 16); empty of any other number
 abbrev pub flow_text : ℕ → List ℕ
 flow_text n =
     if n == 701 then codes "statement cannot be reached" else
@@ -128,11 +137,13 @@ flow_text n =
     if n == 708 then codes "initialiser cannot complete" else
     []
 
+-- the text of the one rule 801, on methods whose erasures are the same (JLS 8.4.8.3); empty of any other number
 abbrev pub clashes_text : ℕ → List ℕ
 clashes_text n =
     if n == 801 then codes "methods clash after erasure" else
     []
 
+-- the texts of the rules 900 to 905, on forms that aren't built yet and limits of class files (JVMS 4.11); empty of any other number
 abbrev pub limits_text : ℕ → List ℕ
 limits_text n =
     if n == 900 then codes "form not built yet" else
@@ -143,6 +154,7 @@ limits_text n =
     if n == 905 then codes "too many dimensions" else
     []
 
+-- the text that a stage has for a rule of this number; empty where the rule isn't one of the stage's
 abbrev pub text_in : Stage → ℕ → List ℕ
 text_in Lexical n = lexical_text n
 text_in Syntax n = syntax_text n

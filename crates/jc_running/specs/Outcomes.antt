@@ -20,6 +20,7 @@ pub data Out (S A : Type 0) : Type 0 where
 abbrev pub Run : Type 0 → Type 0 → Type 0
 Run S A = ℕ → S → Out S A
 
+-- ends at once and spends no unit: with a value, with a thrown object by its address, with an exit code, or as no checked program does
 abbrev pub give : {S A : Type 0} → A → Run S A
 give a u s = Val a u s
 
@@ -44,6 +45,7 @@ on_both (Exited code s) f g = Exited code s
 on_both (Going s) f g = Going s
 on_both Wrong f g = Wrong
 
+-- one computation, and then what follows its value or what it threw
 abbrev pub both_ways : {S A B : Type 0} → Run S A → (A → Run S B) → (ℕ → Run S B) → Run S B
 both_ways m f g u s = on_both (m u s) f g
 
@@ -87,6 +89,7 @@ abbrev pub broken : ℕ → Completion → Completion
 broken own (Broke t) = if t == own then Normal else Broke t
 broken own c = c
 
+-- a further turn where one is asked for, or else the end with a completion
 abbrev pub on_turn : {S I : Type 0} → Turn I → (I → Run S Completion) → Run S Completion
 on_turn (Again i) more = more i
 on_turn (Last c) more = give c

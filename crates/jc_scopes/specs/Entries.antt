@@ -14,6 +14,7 @@ with_entry n p found = cond (is_some (named n found)) found (found ++ (n, p) ∷
 abbrev pub class_entries : Heads → List ℕ → Named
 class_entries H ns = map (λ n. (name_of H n, n)) ns
 
+-- the name of a type parameter; empty where there is none
 abbrev pub variable_name : Option VariableHead → List ℕ
 variable_name None = []
 variable_name (Some v) = v.name

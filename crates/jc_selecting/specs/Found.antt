@@ -7,6 +7,7 @@ use Rattle.jc_selecting.specs.Held.{content, held}
 use Rattle.jc_selecting.specs.declared.map.SharedMap.{SharedMap}
 use Rattle.jc_selecting.specs.declared.tables.Table.{Table}
 
+-- the first if it is there, and the second otherwise
 abbrev pub or_else : {A : Type 0} → Option A → Option A → Option A
 or_else (Some x) y = Some x
 or_else None y = y
@@ -19,6 +20,7 @@ parent_of parents k = elim (slice_get parents k) [ Some parent ↦ parent | None
 abbrev pub own_of : List (List (Option ℕ)) → ℕ → List (Option ℕ)
 own_of own k = elim (slice_get own k) [ Some row ↦ row | None ↦ [] ]
 
+-- a method that may not be selected has no number, and is never the one
 abbrev pub is_number : ℕ → Option ℕ → Bool
 is_number s (Some n) = n == s
 is_number s None = false

@@ -7,13 +7,16 @@ use Rattle.std.specs.declared.alloc.Global.{Global}
 use Rattle.std.specs.declared.rc.Rc.{Rc}
 use Rattle.jc_selecting.specs.declared.map.Branch.{Branch, out-Branch}
 
+-- the branch behind a shared reference, if there is one
 abbrev pub content : Option (Rc Branch Global) → Option Branch
 content branch = option_map (λ b. b.value) branch
 
+-- what stands at 0 in this branch: at the number whose bits lead just here
 abbrev pub value_of : Option Branch → Option (ℕ × ℕ)
 value_of (Some b) = (out-Branch b).value
 value_of None = None
 
+-- the branch for the numbers with a lowest bit of 1, and that for those with 0; a branch that isn't there has neither
 abbrev pub odd_of : Option Branch → Option Branch
 odd_of (Some b) = content (out-Branch b).odd
 odd_of None = None

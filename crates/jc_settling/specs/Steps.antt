@@ -7,6 +7,7 @@ use Rattle.jc_looking.specs.Members.{known_in}
 use Rattle.jc_settling.specs.declared.settled.Outcome.{Outcome}
 use Rattle.jc_settling.specs.declared.settled.Outcome.TheVariants as outcome
 
+-- what a class inherits; None where it needs others first
 abbrev pub told : Outcome → Option Named
 told (outcome.Inherits es) = Some es
 told (outcome.Needs cs) = None
@@ -19,6 +20,7 @@ IsSound H ks = (n : ℕ) × ((c : ℕ) (es : Named) → known_in ks c ≡ Some e
 abbrev pub IsIdle : Heads → List (Option Named) → ℕ → Type 0
 IsIdle H ks c = (is_some (known_in ks c) ≡ true) ⊎ (settled H (known_in ks) c ≡ None)
 
+-- of how many classes it isn't known yet what they inherit
 abbrev pub blanks : List (Option Named) → ℕ
 blanks [] = 0
 blanks (None ∷ ks) = blanks ks + 1
@@ -34,6 +36,7 @@ abbrev pub Passed : Heads → List (Option Named) → List (Option Named) → �
 Passed H old new i true = blanks new < blanks old
 Passed H old new i false = (new ≡ old) × ((c : ℕ) → c < i → IsIdle H old c)
 
+-- something changed before, or does now
 abbrev pub if_did : Bool → Bool → Bool
 if_did true changed = true
 if_did false changed = changed

@@ -8,8 +8,9 @@ use Rattle.jc_declares.specs.declared.unit.SourceUnit.{SourceUnit}
 use Rattle.jc_declares.specs.Sites.{Walk, Membered, MethodForm, membered, walked, behind, class_sites, implied_forms, implied_sites, is_interface_head, within, sites_of_declaration, sites_of_unit, sites_from}
 use Rattle.jc_sites.specs.declared.places.Sites.{Sites}
 use Rattle.jc_sites.specs.Joining.{with_sites, counted}
-use Rattle.jc_sites.proofs.Joinings.{map_joined, walk_both, own_first, sites_assoc, counted_behind}
+use Rattle.jc_sites.proofs.Joinings.{walk_both, own_first, sites_assoc, counted_behind}
 use Rattle.jc_sites.proofs.MembersByParts.{sites_of_declaration-parts}
+use Rattle.jc_heads.proofs.Joinings.{map_joined}
 
 pub unwritten_both : (old mid : Sites) (at : Standing) (vs ws : List MethodForm) → mid ≡ with_sites old (walked (map implied_sites vs) at (counted old))
     → with_sites mid (walked (map implied_sites ws) at (counted mid)) ≡ with_sites old (walked (map implied_sites (vs ++ ws)) at (counted old))

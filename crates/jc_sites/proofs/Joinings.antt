@@ -1,5 +1,5 @@
 -- Sites that follow one another.
-use Rattle.std.proofs.Common.{◌≡◌, ◌++◌, ℕ, List, [], ◌∷◌, map, append_assoc, append-nil, length-append, refl, sym, ap, ◌∙◌}
+use Rattle.std.proofs.Common.{◌≡◌, ◌++◌, ℕ, List, [], ◌∷◌, append_assoc, append-nil, length-append, refl, sym, ap, ◌∙◌}
 use Rattle.jc_declares.specs.declared.heads.ScopeHead.{ScopeHead}
 use Rattle.jc_declares.specs.declared.heads.Standing.{Standing}
 use Rattle.jc_declares.specs.Sites.{UnitSite, ClassSite, MethodSite, FieldSite, VariableSite, UseSite, Counts, Walk, joined, no_sites, behind, walked}
@@ -69,7 +69,3 @@ own_first h own_sites new own at ws e f =
 -- a walk of one part
 pub walked_one : (h : Sites) (at : Standing) (w : Walk) → with_sites h (walked (w ∷ []) at (counted h)) ≡ with_sites h (w at (counted h))
 walked_one h at w = sym (walk_turn h (with_sites h (w at (counted h))) at w [] refl) ∙ sites_nothing (with_sites h (w at (counted h)))
-
-pub map_joined : {A B : Type 0} (f : A → B) (xs ys : List A) → map f (xs ++ ys) ≡ map f xs ++ map f ys
-map_joined f [] ys = refl
-map_joined f (x ∷ xs) ys = ap (λ zs. f x ∷ zs) (map_joined f xs ys)

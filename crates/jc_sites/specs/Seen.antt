@@ -5,6 +5,7 @@ use Rattle.jc_sites.specs.declared.parts.BodyPart.TheVariants as part
 use Rattle.jc_sites.specs.declared.parts.MethodForm.{MethodForm}
 use Rattle.jc_sites.specs.declared.parts.MethodForm.TheVariants as form
 
+-- the form of a method, and a part of a body, with the trees that the code's nodes hold now
 abbrev pub form_seen : MethodForm → site.MethodForm
 form_seen (form.Headed head has_block) = site.Headed head.now has_block
 form_seen form.ImpliedConstructor = site.ImpliedConstructor

@@ -16,6 +16,7 @@ use Rattle.jc_class_out.specs.Spelling.{same_known, has, add, adds, ins_uses, in
 use Rattle.jc_class_out.specs.Fitting.{text_fits, known_fits, operand_fits, ins_fits, all_fit, ins_lands, ins_all_fit, tables_fit, frames_fit, frames_within, code_fits, method_fits, counts_fit, members_fit, pool_fits, fits_of}
 use Rattle.jc_small.specs.Small.{Program, IsSum}
 use Rattle.jc_small.specs.ClassOf.{ins, const_ins, more_code, write_code, main_code, main_class, out_ins, write_ins, init_method, main_method}
+use Rattle.jc_class_out.proofs.CodeGood.{all_append as all_join}
 
 all_first : (a b c : Bool) → (a && b) ≡ true → (b ≡ true → c ≡ true) → (a && c) ≡ true
 all_first true b c e more = more e
@@ -220,10 +221,6 @@ unfolding ins_fits operand_fits kind_of branch_kind member_kind operand_size ins
 write_fits = record { fits = λ at. refl; lands = λ m. refl; least = λ at. omega arith; most = λ at. omega arith; first = refl; known = refl; cost = 0; small = omega arith; costs = write_costs }
 
 -- ---- main's code
-
-all_join : {A : Type 0} (P : A → Type 0) (xs ys : List A) → AllByRecursion P xs → AllByRecursion P ys → AllByRecursion P (xs ++ ys)
-all_join P [] ys a b = b
-all_join P (x ∷ xs) ys a b = (a.0, all_join P xs ys a.1 b)
 
 more_fits : (ns : List ℕ) → AllByRecursion (λ n. n ≤ 2147483647) ns → AllByRecursion IsFit (more_code ns)
 more_fits [] small = tt

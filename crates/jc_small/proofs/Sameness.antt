@@ -1,9 +1,7 @@
 -- The class of a program shows what the program shows.
 use Rattle.std.proofs.Common.{◌≡◌, ◌≤◌, ℕ, List, [], ◌∷◌, length, refl, ap, arith, Some, codes}
 use Rattle.std.specs.List.{AllByRecursion}
-use Rattle.std.specs.Str.{chars}
 use Rattle.jc_lexer.specs.declared.token.Token.{Token}
-use Rattle.jc_machine.specs.Names.{spelling}
 use Rattle.jc_machine.specs.Start.{start_of, first_frame, begins}
 use Rattle.std.specs.Option.{option_map}
 use Rattle.jc_small.specs.Small.{Program, IsSum, IsProgram}
@@ -14,10 +12,7 @@ use Rattle.jc_small.proofs.Standing.{Stands, rest_here}
 use Rattle.jc_class_out.proofs.Exact.{spelled}
 use Rattle.jc_small.proofs.Fits.{class_fits}
 use Rattle.jc_small.proofs.MainRuns.{frame, forwards, backwards}
-
-main_spelled : spelling (codes "Main") ≡ codes "Main"
-unfolding chars
-main_spelled = refl
+use Rattle.jc_machine.proofs.Spelling.{main_spelled}
 
 main_starts : (program : Program) (arguments : List (List ℕ)) → start_of (main_class program ∷ []) (codes "Main") arguments ≡ Some (frame program 0 [])
 main_starts program arguments = ap (λ (units : List ℕ). option_map (begins arguments) (first_frame (main_class program ∷ []) units)) main_spelled

@@ -10,13 +10,7 @@ use Rattle.jc_machine.specs.Code.{size_of, rest_from, place_of, first_place}
 use Rattle.jc_machine.specs.Names.{placed_at}
 use Rattle.jc_small.specs.Small.{Program}
 use Rattle.jc_small.specs.ClassOf.{main_code, main_class}
-
-size_some : (at : ℕ) (i : Ins) → 1 ≤ size_of at i
-size_some at i = by_wide i.wide refl
-  where
-    by_wide : (b : Bool) → i.wide ≡ b → 1 ≤ size_of at i
-    by_wide true e = rw e (omega arith)
-    by_wide false e = rw e (omega arith)
+use Rattle.jc_machine.proofs.Placement.{has_a_byte as size_some}
 
 unlike : (m n : ℕ) → m < n → (m == n) ≡ false
 unlike m n h = by_test (m == n) refl

@@ -41,6 +41,7 @@ is_key fixed_of.Static key_of.Static = true
 is_key fixed_of.Void key_of.Void = true
 is_key _ _ = false
 
+-- the same of a sign, and of a name
 abbrev pub is_sign : Fixed → Sign → Bool
 is_sign fixed_of.Dot sign_of.Dot = true
 is_sign fixed_of.Plus sign_of.Plus = true

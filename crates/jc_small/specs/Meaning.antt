@@ -8,6 +8,7 @@ abbrev pub sum_after : ℤ → List ℕ → ℤ
 sum_after a [] = a
 sum_after a (n ∷ ns) = sum_after (int_wrapping_add w32 a (pos n)) ns
 
+-- a sum of no numbers is 0; a program has none
 abbrev pub sum_of : List ℕ → ℤ
 sum_of [] = pos 0
 sum_of (n ∷ ns) = sum_after (pos n) ns

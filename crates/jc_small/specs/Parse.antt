@@ -14,6 +14,7 @@ use Rattle.jc_small.specs.declared.reading.Moved.{Moved}
 use Rattle.jc_small.specs.Lexemes.{is}
 use Rattle.jc_small.specs.Small.{Program, head, write_rest}
 
+-- a number that an int holds: at most 2147483647 (JLS 3.10.1)
 abbrev pub small_number : ℕ → Option ℕ
 small_number n = if nat_le n 2147483647 then Some n else None
 
@@ -22,6 +23,7 @@ abbrev pub number_of : TokenKind → Option ℕ
 number_of (kind_of.Number n false true) = small_number n
 number_of _ = None
 
+-- a token that is allowed leads to this point and has this effect; None stands for one that isn't
 abbrev pub to : Point → Effect → Option Moved
 to point effect = Some (record { point = point; effect = effect })
 
@@ -30,6 +32,7 @@ abbrev pub by_lexeme : Option Fixed → TokenKind → Point → Option Moved
 by_lexeme None t point = None
 by_lexeme (Some f) t point = if is f t then to point Nothing else None
 
+-- behind a number that fits, which is added to the open sum
 abbrev pub by_number : Option ℕ → Option Moved
 by_number None = None
 by_number (Some n) = to AfterNumber (Add n)
@@ -51,11 +54,13 @@ done_by Close done now = done ++ now ∷ []
 done_by (Add n) done now = done
 done_by Nothing done now = done
 
+-- the open sum: a closed statement leaves none, and a number stands at its end
 abbrev pub now_by : Effect → List ℕ → List ℕ
 now_by Close now = []
 now_by (Add n) now = now ++ n ∷ []
 now_by Nothing now = now
 
+-- the tokens are a program only where they end behind the last brace
 abbrev pub at_end : Point → Program → Option Program
 at_end End done = Some done
 at_end (Head k) done = None
@@ -71,6 +76,7 @@ abbrev pub go_on : (Point → Program → List ℕ → Option Program) → Optio
 go_on next None done now = None
 go_on next (Some m) done now = next m.point (done_by m.effect done now) (now_by m.effect now)
 
+-- token by token; None as soon as one isn't allowed
 unfoldable pub run : List TokenKind → Point → Program → List ℕ → Option Program
 run [] point done now = at_end point done
 run (t ∷ ts) point done now = go_on (run ts) (moved point t) done now

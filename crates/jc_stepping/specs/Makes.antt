@@ -56,6 +56,7 @@ abbrev pub method_makes : List ClassModel → World → ℕ × ℕ → List Valu
 method_makes classes world target arguments (Some n) = native_makes classes world n arguments
 method_makes classes world target arguments None = is_some (frame_of classes target arguments)
 
+-- the same of the method that was found; a call without one makes nothing
 abbrev pub call_makes : List ClassModel → World → List Value → Option (ℕ × ℕ) → Bool
 call_makes classes world arguments (Some target) = method_makes classes world target arguments (native_at classes target)
 call_makes classes world arguments None = false
@@ -67,6 +68,7 @@ virtual_makes classes signature world (Some (Address at ∷ more, rest)) =
 virtual_makes classes signature world (Some (NullValue ∷ more, rest)) = fault_makes classes NullPointer
 virtual_makes classes signature world _ = false
 
+-- invokespecial and invokestatic of the method that the names mean
 abbrev pub special_makes : List ClassModel → Option (ℕ × ℕ) → World → Option (List Value × List Value) → Bool
 special_makes classes target world (Some (Address at ∷ more, rest)) = call_makes classes world (Address at ∷ more) target
 special_makes classes target world (Some (NullValue ∷ more, rest)) = fault_makes classes NullPointer
@@ -87,6 +89,7 @@ abbrev pub is_natural : ℤ → Bool
 is_natural (pos n) = true
 is_natural (negsuc n) = false
 
+-- None where no int is on top
 abbrev pub natural_on : List Value → Option Bool
 natural_on (Whole n ∷ rest) = Some (is_natural n)
 natural_on _ = None
@@ -97,6 +100,7 @@ array_makes_by classes (Some true) = true
 array_makes_by classes (Some false) = fault_makes classes NegativeArraySize
 array_makes_by classes None = false
 
+-- the same by the values, the length on top
 abbrev pub array_makes : List ClassModel → List Value → Bool
 array_makes classes values = array_makes_by classes (natural_on values)
 
@@ -105,6 +109,7 @@ abbrev pub naturals_among : Option (List ℤ × List Value) → Option Bool
 naturals_among (Some found) = Some (is_some (naturals found.0))
 naturals_among None = None
 
+-- the number of lengths is at least 1 and at most the dimensions of the type (JVMS 6.5, multianewarray)
 abbrev pub nest_makes : List ClassModel → Shape → ℕ → List Value → Bool
 nest_makes classes shape dims values = nat_le 1 dims && nat_le dims shape.dims && array_makes_by classes (naturals_among (lengths_on dims [] values))
 
@@ -128,6 +133,7 @@ row_makes classes world now waiting (row.NewNest shape dims) = nest_makes classe
 row_makes classes world now waiting (row.Literal text) = have_strings classes && has_room now.stack
 row_makes classes world now waiting _ = false
 
+-- what is done in place makes at most an exception
 abbrev pub makes_by : List ClassModel → Bool → Option Act_in → Bool
 makes_by classes otherwise (Some done) = act_makes classes done.1
 makes_by classes otherwise None = otherwise

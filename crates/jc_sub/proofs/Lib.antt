@@ -1,4 +1,4 @@
-mod Decided
+pub mod Decided
 mod Joined
 mod Kept
 mod Passed

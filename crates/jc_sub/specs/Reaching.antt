@@ -26,10 +26,12 @@ HasNoView T k t = (n : ℕ) → view_within T n k t ≡ None
 abbrev pub IsDead : Table → ClassId → ℕ → Type 0
 IsDead T k x = (t : Ty) → class_of t ≡ Some (numbered x) → HasNoView T k t
 
+-- the same of the class that a type has; of a type without a class it isn't said
 abbrev pub ClassDead : Table → ClassId → Option ClassId → Type 0
 ClassDead T k None = ⊥
 ClassDead T k (Some id) = IsDead T k id.0
 
+-- no type of the class of any of these has one
 abbrev pub AllDead : Table → ClassId → List Ty → Type 0
 AllDead T k [] = Unit {0}
 AllDead T k (t ∷ ts) = ClassDead T k (class_of t) × AllDead T k ts
@@ -51,6 +53,7 @@ abbrev pub IsWay : Table → ClassId → ℕ → List Turn → ℕ → Type 0
 IsWay T k x [] y = x ≡ y
 IsWay T k x (f ∷ fs) y = (f.from.0 ≡ x) × (z : ℕ) × Leads T k x f.next z × IsWay T k z fs y
 
+-- what a way from class x to class k says: none is there, these turns lead there, or nothing is said
 abbrev pub WayIs : Table → ClassId → ℕ → Way → Type 0
 WayIs T k x Missing = IsDead T k x
 WayIs T k x (Found turns) = IsWay T k x turns k.0
@@ -69,6 +72,7 @@ abbrev pub super_with : Table → ClassId → Option (List Arg) → Ty → Ty
 super_with T id None t = erased t
 super_with T id (Some args) t = if length (exacts args) == length (vars_of T id) then subst (vars_of T id) (exacts args) t else erased t
 
+-- f of the type, if there is one
 abbrev pub and_then : Option Ty → (Ty → Option Ty) → Option Ty
 and_then None f = None
 and_then (Some t) f = f t
@@ -82,6 +86,7 @@ follow T (f ∷ fs) t = and_then (slice_get (supers T t) f.next) (follow T fs)
 abbrev pub own_arg : VarId → Arg
 own_arg v = Exact (Variable v)
 
+-- a class type with class k in place of its own, and its arguments kept; any other type stays as it is
 abbrev pub renamed_at : ClassId → Ty → Ty-F Arg Ty → Ty
 renamed_at k t (Ty-F.Class id args) = Class k args
 renamed_at k t _ = t

@@ -11,6 +11,7 @@ use Rattle.jc_tree.specs.declared.fault.ParseFault.TheVariants as fault_of
 use Rattle.jc_tree.specs.declared.statement.SourceFile.{SourceFile}
 use Rattle.jc_unit_laws.specs.UnitAnswers.{NoUnitFault, UnitStands}
 
+-- the offset at which a token begins, and the size of the file where there is no token
 abbrev pub from_of : ℕ → Option Token → ℕ
 from_of size None = size
 from_of size (Some token) = token.from
@@ -19,6 +20,7 @@ from_of size (Some token) = token.from
 abbrev pub offset_of : List Token → ℕ → ℕ → ℕ
 offset_of tokens size token = from_of size (slice_get tokens token)
 
+-- a rule, broken at an offset of a file; its last number says nothing here
 abbrev pub refusal : ℕ → ℕ → ℕ → Refusal
 refusal rule file at = record { rule = rule; place = record { file = file; at = at }; have = 0 }
 
@@ -31,6 +33,7 @@ refusal_of file tokens size (fault_of.LeftOut rule token) = refusal rule file (o
 abbrev pub BreaksIn : ℕ → List Token → ℕ → Refusal → Type 0
 BreaksIn file tokens size refused = (fault : ParseFault) × NoUnitFault false tokens fault × (refused ≡ refusal_of file tokens size fault)
 
+-- a refusal says how the file breaks the syntax; want of memory says nothing of it
 abbrev pub IsFileStop : ℕ → List Token → ℕ → Stop Refusal → Type 0
 IsFileStop file tokens size (stop_of.Refused refused) = BreaksIn file tokens size refused
 IsFileStop file tokens size stop_of.WantOfMemory = Unit {0}
@@ -52,6 +55,7 @@ pub record BreaksSyntax (texts : List (List ℕ)) (lists : List (List Token)) (r
   pub all : lists ≡ before ++ (tokens ∷ after)
   pub breaks : BreaksIn (length before + 1) tokens (length (slice_index_or texts (length before) [])) refused
 
+-- a refusal is that of the first faulty source; want of memory says nothing of them
 abbrev pub IsStageStop : List (List ℕ) → List (List Token) → Stop Refusal → Type 0
 IsStageStop texts lists (stop_of.Refused refused) = BreaksSyntax texts lists refused
 IsStageStop texts lists stop_of.WantOfMemory = Unit {0}

@@ -16,6 +16,7 @@ use Rattle.jc_declares.specs.Making.{or_object, written_classes, class_decl, met
 abbrev pub superclass_read : Heads → Knowledge → Reading → ℕ → ℕ → DeclarationHead → List Written
 superclass_read H K r c file head = cond (c == 0) [] (or_object file (first_offset_of_head head) (written_classes H K file r (superclass_trees head)))
 
+-- the superinterfaces behind the superclass, in the order in which they are written
 abbrev pub supers_read : Heads → Knowledge → Reading → ℕ → ℕ → DeclarationHead → List Written
 supers_read H K r c file head = superclass_read H K r c file head ++ written_classes H K file r (interface_trees head)
 
@@ -24,6 +25,7 @@ abbrev pub class_in : Heads → Knowledge → ℕ → ℕ → ℕ → Bool → L
 class_in H K c file scope of_interface round head =
     class_decl H K c (record { file = file; unit = 0; round = round; of_interface = of_interface; scope = scope; head = head })
 
+-- all declarations of these sites behind those of T; the index of binary names stays as it is
 abbrev pub with_declarations : Sites → Heads → Knowledge → Table → Table
 with_declarations S H K T =
     record {

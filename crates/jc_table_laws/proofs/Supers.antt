@@ -42,15 +42,9 @@ use Rattle.jc_table_laws.proofs.PlacesZip.{left_empty, right_empty}
 use Rattle.jc_table_laws.proofs.Ranges.{LookIn, in_head_in, known_in, look_up_in}
 use Rattle.jc_table_laws.proofs.Scoped.{class_tree_scoped, object_over, unbroken_own}
 use Rattle.jc_table_laws.proofs.Variables.{OfSomeClass, in_head_owned}
+use Rattle.jc_table_laws.proofs.Chains.{made_at as numbered_from}
 
 -- ---- lists
-
-numbered_from : {X Y : Type 0} (f : ℕ → X → Y) (i : ℕ) (xs : List X) (n : ℕ) (x : X) → slice_get xs n ≡ Some x → slice_get (numbered f i xs) n ≡ Some (f (i + n) x)
-numbered_from f i [] zero x e = absurd (let z : ⊥ = cc in z)
-numbered_from f i [] (suc n) x e = absurd (let z : ⊥ = cc in z)
-numbered_from f i (y ∷ xs) zero x e =
-    ap (λ z. Some (f i z)) (let g : y ≡ x = cc in g) ∙ ap (λ (k : ℕ). Some (f k x)) (let g : i ≡ i + 0 = omega arith in g)
-numbered_from f i (y ∷ xs) (suc n) x e = numbered_from f (suc i) xs n x e ∙ ap (λ (k : ℕ). Some (f k x)) (let g : suc i + n ≡ i + suc n = omega arith in g)
 
 pub numbered_at : {X Y : Type 0} (f : ℕ → X → Y) (xs : List X) (n : ℕ) (x : X) → slice_get xs n ≡ Some x → slice_get (numbered f 0 xs) n ≡ Some (f n x)
 numbered_at f xs n x e = numbered_from f 0 xs n x e ∙ ap (λ (k : ℕ). Some (f k x)) (let g : 0 + n ≡ n = omega arith in g)

@@ -1,5 +1,5 @@
 -- What a table promises is kept with each declaration that stands in it.
-use Rattle.std.proofs.Common.{Option, Some, None, MatchOption, ap, ◌∙◌, ◌≡◌, ℕ, ◌+◌, ◌≤◌, ◌&&◌, Bool, true, IsTrue, List, [], ◌∷◌, ◌++◌, length, length-append, arith, refl, sym}
+use Rattle.std.proofs.Common.{Option, Some, None, MatchOption, ap, ◌∙◌, ◌≡◌, ℕ, ◌+◌, ◌≤◌, Bool, true, IsTrue, List, [], ◌∷◌, ◌++◌, length, length-append, arith, refl, sym}
 use Rattle.std.specs.List.{list_all}
 use Rattle.jc_rules.proofs.Truths.{and_first, and_second}
 use Rattle.jc_types.specs.declared.declarations.ClassDecl.{ClassDecl}

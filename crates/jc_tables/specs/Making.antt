@@ -10,6 +10,7 @@ use Rattle.jc_types.specs.declared.table.Table.{Table}
 use Rattle.jc_types.specs.Names.{named}
 use Rattle.jc_types.specs.Tables.{class_fits, method_fits, field_fits, variable_fits, use_fits, types_zip, method_zips, written_zips}
 
+-- a table without any declaration
 abbrev pub empty : Table
 empty = record { classes = []; methods = []; fields = []; variables = []; scopes = []; uses = []; index = [] }
 
@@ -17,9 +18,11 @@ empty = record { classes = []; methods = []; fields = []; variables = []; scopes
 abbrev pub indexed : List ℕ → ℕ → List (List ℕ × ℕ) → List (List ℕ × ℕ)
 indexed name i names = if is_none (named name names) then names ++ (name, i) ∷ [] else names
 
+-- the declaration comes last in its list, so that no id changes, and its binary name is in the index unless it was before
 abbrev pub with_class : Table → ClassDecl → Table
 with_class T c = record T { classes = T.classes ++ c ∷ []; index = indexed c.binary (length T.classes) T.index }
 
+-- each of these puts what it is given at the end of its list; the index stays
 abbrev pub with_method : Table → MethodDecl → Table
 with_method T m = record T { methods = T.methods ++ m ∷ [] }
 
@@ -39,6 +42,7 @@ with_use T u = record T { uses = T.uses ++ u ∷ [] }
 abbrev pub class_stands : Table → ClassDecl → Bool
 class_stands T c = class_fits T c && types_zip c.supers
 
+-- of a method also this: there is a name for each parameter
 abbrev pub method_stands : Table → MethodDecl → Bool
 method_stands T m = method_fits T m && method_zips m
 

@@ -1,5 +1,5 @@
 mod Begun
-mod Capped
+pub mod Capped
 pub mod HeightsOfExpressions
 pub mod HeightsOfStatements
 pub mod HeightsOfTypes

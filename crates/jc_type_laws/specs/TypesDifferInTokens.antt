@@ -5,6 +5,7 @@ use Rattle.jc_tree.specs.declared.types.TypeTree.{TypeTree}
 use Rattle.jc_grammar.specs.Spelling.{SpellsType}
 use Rattle.jc_parse_type.specs.TypeAnswers.{TypeStands}
 
+-- two types with the same tokens, and the same tokens behind them, are one
 pub record TypesDifferInTokens : Type 0 where
   -- at the front of tokens, of any two heights
   pub one_type : (height other_height : ℕ) (tokens : List Token) (ty other : TypeTree) (rest : List Token) → SpellsType height tokens ty rest → SpellsType other_height tokens other rest → other ≡ ty

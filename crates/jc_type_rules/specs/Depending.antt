@@ -7,6 +7,7 @@ use Rattle.jc_types.specs.Accessors.{bounds_of, variable_count}
 use Rattle.jc_header_rules.specs.Types.{depends_on_itself}
 use Rattle.jc_components.specs.Marks.{is_marked}
 
+-- a list of a type variable's number where that is below n; else the empty list
 abbrev pub variable_below : ℕ → Ty-F Arg Ty → List ℕ
 variable_below n (Ty-F.Variable v) = cond (nat_lt v.0 n) (v.0 ∷ []) []
 variable_below n _ = []

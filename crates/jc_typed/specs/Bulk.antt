@@ -40,6 +40,7 @@ abbrev pub joint_weight : Joint → ℕ
 joint_weight (Operator op) = operator_weight op
 joint_weight (Concat left right) = 24
 
+-- the number of operands of a list
 abbrev pub operand_count : Operands → ℕ
 operand_count NoOperands = 0
 operand_count (MoreOperands before last) = operand_count before + 1
@@ -49,6 +50,7 @@ abbrev pub logic_weight : Operands → ℕ
 logic_weight os = 16 * (operand_count os - 1)
 
 abbrev mutual
+  -- expressions, and operands with their steps: each form weighs a number of its own besides its parts
   pub expr_bulk : Expr → ℕ
   expr_bulk NoExpr = 0
   expr_bulk (expr place ty captures form) = form_bulk form
@@ -81,12 +83,14 @@ abbrev mutual
   form_bulk (ArrayOf elements) = 12 + 8 * operand_count elements + operands_bulk elements
   form_bulk (Cast of_it to ss is_below) = 8 + operand_bulk of_it + steps_weight ss
 
+  -- a variable weighs what its parts weigh; its assignment is weighed by the form that it stands in
   pub variable_bulk : Variable → ℕ
   variable_bulk (LocalVariable n) = 0
   variable_bulk (StaticVariable before f) = operands_bulk before
   variable_bulk (FieldVariable of_it f) = operand_bulk of_it
   variable_bulk (ElementVariable array index) = operand_bulk array + operand_bulk index
 
+  -- lists weigh what their members weigh, and the operators between these
   pub operands_bulk : Operands → ℕ
   operands_bulk NoOperands = 0
   operands_bulk (MoreOperands before last) = operands_bulk before + operand_bulk last
@@ -106,6 +110,7 @@ declared_bulk NoDeclared = 0
 declared_bulk (MoreDeclared before place n value) = declared_bulk before + 8 + initialiser_bulk value
 
 abbrev mutual
+  -- statements: each form weighs a number of its own besides its parts
   pub stmt_bulk : Stmt → ℕ
   stmt_bulk (stmt place form) = stmt_form_bulk form
 
@@ -131,6 +136,7 @@ abbrev mutual
   stmt_form_bulk (Construct m args phase) = 28 + operands_bulk args
   stmt_form_bulk (Initialise f value) = 28 + operand_bulk value
 
+  -- a list of statements weighs what its statements weigh
   pub stmts_bulk : Stmts → ℕ
   stmts_bulk NoStmts = 0
   stmts_bulk (MoreStmts before last) = stmts_bulk before + stmt_bulk last
@@ -150,6 +156,7 @@ abbrev mutual
   finally_bulk copies NoStmts = 0
   finally_bulk copies (MoreStmts before last) = copies * (32 + stmts_bulk before + stmt_bulk last)
 
+-- the call of another constructor, the initialisers and the block of a body; a method without a body has nothing to weigh
 abbrev pub body_bulk : List Node → Option Body → ℕ
 body_bulk nodes None = 0
 body_bulk nodes (Some b) = stmts_bulk (stmts_of nodes b.call) + stmts_bulk (stmts_of nodes b.initialisers) + stmt_bulk (stmt_of nodes b.rest)

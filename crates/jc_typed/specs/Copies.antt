@@ -3,6 +3,7 @@
 use Rattle.std.specs.Prelude.{◌≡◌, ℕ, ◌+◌, ◌*◌, ◌==◌, ◌||◌, Bool, false, List, [], ◌∷◌, if◌then◌else◌}
 use Rattle.jc_typed.specs.Trees.{Stmt, stmt, StmtForm, Empty, Block, Locals, Effect, If, Labelled, While, Do, For, ForArray, ForIterable, Switch, Return, Break, Continue, Throw, Try, Construct, Initialise, Stmts, NoStmts, MoreStmts, Arms, NoArms, MoreArms, Catches, NoCatches, MoreCatches}
 
+-- whether a statement, by its number, is one of a list
 abbrev pub is_among : ℕ → List ℕ → Bool
 is_among t [] = false
 is_among t (u ∷ us) = (t == u) || is_among t us
@@ -17,6 +18,7 @@ abbrev mutual
   pub exits_of_stmt : List ℕ → Stmt → ℕ
   exits_of_stmt inside (stmt place form) = exits_of inside form
 
+  -- a jump by its target; each `return` leaves
   pub exits_of : List ℕ → StmtForm → ℕ
   exits_of inside Empty = 0
   exits_of inside (Block ss) = exits_of_stmts inside ss
@@ -38,6 +40,7 @@ abbrev mutual
   exits_of inside (Construct constructor args phase) = 0
   exits_of inside (Initialise field value) = 0
 
+  -- lists of statements, arms of an `if` and catch clauses: the jumps of all of them
   pub exits_of_stmts : List ℕ → Stmts → ℕ
   exits_of_stmts inside NoStmts = 0
   exits_of_stmts inside (MoreStmts before last) = exits_of_stmts inside before + exits_of_stmt inside last
@@ -59,6 +62,7 @@ abbrev mutual
   pub CopiesRight : Stmt → Type 0
   CopiesRight (stmt place form) = FormCopiesRight form
 
+  -- by the form of the statement; only a `try` says a number
   pub FormCopiesRight : StmtForm → Type 0
   FormCopiesRight Empty = Unit {0}
   FormCopiesRight (Block ss) = AllCopiesRight ss
@@ -80,6 +84,7 @@ abbrev mutual
   FormCopiesRight (Construct constructor args phase) = Unit {0}
   FormCopiesRight (Initialise field value) = Unit {0}
 
+  -- each statement of a list, of the arms of an `if`, and of the blocks of catch clauses
   pub AllCopiesRight : Stmts → Type 0
   AllCopiesRight NoStmts = Unit {0}
   AllCopiesRight (MoreStmts before last) = AllCopiesRight before × CopiesRight last

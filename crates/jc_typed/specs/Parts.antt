@@ -64,17 +64,20 @@ pub data Part : Type 0 where
   OfArms : Arms → Part
   OfCatches : Catches → Part
 
+-- the start of file 0: the place of the statement that stands where a part is none
 abbrev pub nowhere : Place
 nowhere = record { file = 0; at = 0 }
 
+-- the int 0: the constant that stands where a part is none
 abbrev pub zero_constant : Constant
 zero_constant = constant.Whole (pos 0) Int
 
--- as a part of a sort; where it is of another sort this is nothing
+-- as a part of a sort; what a part of another sort is in its place is told below: as a type the null type
 abbrev pub as_type : Part → Ty
 as_type (OfType x) = x
 as_type _ = NullTy
 
+-- a part of another sort is the empty list, or as a constant the int 0
 abbrev pub as_types : Part → List Ty
 as_types (OfTypes x) = x
 as_types _ = []
@@ -99,6 +102,7 @@ abbrev pub as_cases : Part → List Case
 as_cases (OfCases x) = x
 as_cases _ = []
 
+-- a part of another sort is a missing expression or operand, or no operands or links at all
 abbrev pub as_expr : Part → Expr
 as_expr (OfExpr x) = x
 as_expr _ = NoExpr
@@ -115,6 +119,7 @@ abbrev pub as_links : Part → Links
 as_links (OfLinks x) = x
 as_links _ = NoLinks
 
+-- a part of another sort is the local variable number 0, or no declared variables
 abbrev pub as_variable : Part → Variable
 as_variable (OfVariable x) = x
 as_variable _ = LocalVariable 0
@@ -123,6 +128,7 @@ abbrev pub as_declared : Part → Declared
 as_declared (OfDeclared x) = x
 as_declared _ = NoDeclared
 
+-- a part of another sort is an empty statement at no place, or no statements, arms or catch clauses at all
 abbrev pub as_stmt : Part → Stmt
 as_stmt (OfStmt x) = x
 as_stmt _ = stmt nowhere Empty
@@ -139,9 +145,11 @@ abbrev pub as_catches : Part → Catches
 as_catches (OfCatches x) = x
 as_catches _ = NoCatches
 
+-- the part at an index from 0 on; behind the last one it is a list of no statements
 unfoldable pub part_in : List Part → ℕ → Part
 part_in ps i = slice_index_or ps i (OfStmts NoStmts)
 
+-- the part at an index as a type or a constant, or as a list that has no nodes of expressions in it
 abbrev pub type_in : List Part → ℕ → Ty
 type_in ps i = as_type (part_in ps i)
 
@@ -163,6 +171,7 @@ ops_in ps i = as_ops (part_in ps i)
 abbrev pub cases_in : List Part → ℕ → List Case
 cases_in ps i = as_cases (part_in ps i)
 
+-- the part at an index as an expression, as what an expression is made of, or as declared variables
 abbrev pub expr_in : List Part → ℕ → Expr
 expr_in ps i = as_expr (part_in ps i)
 
@@ -181,6 +190,7 @@ variable_in ps i = as_variable (part_in ps i)
 abbrev pub declared_in : List Part → ℕ → Declared
 declared_in ps i = as_declared (part_in ps i)
 
+-- the part at an index as a statement, or as a list of statements, arms or catch clauses
 abbrev pub stmt_in : List Part → ℕ → Stmt
 stmt_in ps i = as_stmt (part_in ps i)
 
@@ -202,6 +212,7 @@ step_over ps (step.Unbox p) = Unbox p
 step_over ps (step.Up ty unchecked) = Up (type_in ps ty) unchecked
 step_over ps (step.Test check to) = Test check to
 
+-- a list node is the list before it, with one member more at the end
 abbrev pub types_over : List Part → ListNode → List Ty
 types_over ps l.Empty = []
 types_over ps (l.More before last) = types_in ps before ++ type_in ps last ∷ []
@@ -222,6 +233,7 @@ abbrev pub cases_over : List Part → CasesNode → List Case
 cases_over ps cases.Empty = []
 cases_over ps (cases.More before last) = cases_in ps before ++ last ∷ []
 
+-- the form of an expression (JLS 15): what isn't a place of a part stays as it is
 abbrev pub form_over : List Part → ExprForm → Form
 form_over ps (f.Constant before value) = Fixed (operands_in ps before) (constant_in ps value)
 form_over ps f.Null = Null
@@ -246,6 +258,7 @@ form_over ps (f.NewArray lengths) = NewArray (operands_in ps lengths)
 form_over ps (f.ArrayOf elements) = ArrayOf (operands_in ps elements)
 form_over ps (f.Cast of_it to steps is_below) = Cast (operand_in ps of_it) (type_in ps to) (steps_in ps steps) is_below
 
+-- an expression with its type and captures, and an operand with the steps that follow it
 abbrev pub expr_over : List Part → ExprNode → Expr
 expr_over ps e.Missing = NoExpr
 expr_over ps (e.Expr place ty captures form) = expr place (type_in ps ty) (captures_in ps captures) (form_over ps form)
@@ -254,6 +267,7 @@ abbrev pub operand_over : List Part → OperandNode → Operand
 operand_over ps o.Missing = NoOperand
 operand_over ps (o.Operand of_it steps) = operand (expr_in ps of_it) (steps_in ps steps)
 
+-- operands, and the operators of a chain, each with the steps of the left value and the right operand
 abbrev pub operands_over : List Part → ListNode → Operands
 operands_over ps l.Empty = NoOperands
 operands_over ps (l.More before last) = MoreOperands (operands_in ps before) (operand_in ps last)
@@ -262,6 +276,7 @@ abbrev pub links_over : List Part → LinksNode → Links
 links_over ps links.Empty = NoLinks
 links_over ps (links.More before joint left right) = MoreLinks (links_in ps before) joint (steps_in ps left) (operand_in ps right)
 
+-- what an assignment or `++` changes (JLS 15.26), and the variables that a statement declares (JLS 14.4)
 abbrev pub variable_over : List Part → VariableNode → Variable
 variable_over ps (v.Local local) = LocalVariable local
 variable_over ps (v.StaticField before field) = StaticVariable (operands_in ps before) field
@@ -272,6 +287,7 @@ abbrev pub declared_over : List Part → DeclaredNode → Declared
 declared_over ps declared.Empty = NoDeclared
 declared_over ps (declared.More before place local value) = MoreDeclared (declared_in ps before) place local (operands_in ps value)
 
+-- the form of a statement (JLS 14): what isn't a place of a part stays as it is
 abbrev pub stmt_form_over : List Part → FormNode → StmtForm
 stmt_form_over ps s.Empty = Empty
 stmt_form_over ps (s.Block stmts) = Block (stmts_in ps stmts)
@@ -293,6 +309,7 @@ stmt_form_over ps (s.Try body catches last copies) = Try (stmt_in ps body) (catc
 stmt_form_over ps (s.Construct constructor args phase) = Construct constructor (operands_in ps args) phase
 stmt_form_over ps (s.Initialise field value) = Initialise field (operand_in ps value)
 
+-- a statement with its place, and lists of statements, arms of an `if` and catch clauses
 abbrev pub stmt_over : List Part → StmtNode → Stmt
 stmt_over ps node = stmt node.place (stmt_form_over ps node.form)
 
@@ -308,6 +325,7 @@ abbrev pub catches_over : List Part → CatchesNode → Catches
 catches_over ps catches.Empty = NoCatches
 catches_over ps (catches.More before place local types body) = MoreCatches (catches_in ps before) place local (types_in ps types) (stmt_in ps body)
 
+-- a node of any sort gives the part of its sort
 abbrev pub part_over : List Part → Node → Part
 part_over ps (n.Type x) = OfType x
 part_over ps (n.Types x) = OfTypes (types_over ps x)
@@ -336,6 +354,7 @@ BelowStep k (step.Unbox p) = Unit {0}
 BelowStep k (step.Up ty unchecked) = ty < k
 BelowStep k (step.Test check to) = Unit {0}
 
+-- list nodes: the list before, and the last member where it is a place or has places
 abbrev pub BelowList : ℕ → ListNode → Type 0
 BelowList k l.Empty = Unit {0}
 BelowList k (l.More before last) = (before < k) × (last < k)
@@ -356,6 +375,7 @@ abbrev pub BelowCases : ℕ → CasesNode → Type 0
 BelowCases k cases.Empty = Unit {0}
 BelowCases k (cases.More before last) = before < k
 
+-- the form of an expression: all its operands, lists, types and steps
 abbrev pub BelowForm : ℕ → ExprForm → Type 0
 BelowForm k (f.Constant before value) = (before < k) × (value < k)
 BelowForm k f.Null = Unit {0}
@@ -380,6 +400,7 @@ BelowForm k (f.NewArray lengths) = lengths < k
 BelowForm k (f.ArrayOf elements) = elements < k
 BelowForm k (f.Cast of_it to steps is_below) = (of_it < k) × (to < k) × (steps < k)
 
+-- an expression and an operand; a missing one has no parts
 abbrev pub BelowExpr : ℕ → ExprNode → Type 0
 BelowExpr k e.Missing = Unit {0}
 BelowExpr k (e.Expr place ty captures form) = (ty < k) × (captures < k) × BelowForm k form
@@ -388,6 +409,7 @@ abbrev pub BelowOperand : ℕ → OperandNode → Type 0
 BelowOperand k o.Missing = Unit {0}
 BelowOperand k (o.Operand of_it steps) = (of_it < k) × (steps < k)
 
+-- operators of a chain, variables, and declared variables
 abbrev pub BelowLinks : ℕ → LinksNode → Type 0
 BelowLinks k links.Empty = Unit {0}
 BelowLinks k (links.More before joint left right) = (before < k) × (left < k) × (right < k)
@@ -402,6 +424,7 @@ abbrev pub BelowDeclared : ℕ → DeclaredNode → Type 0
 BelowDeclared k declared.Empty = Unit {0}
 BelowDeclared k (declared.More before place local value) = (before < k) × (value < k)
 
+-- the form of a statement: all its operands, lists, types and statements; jumps go to numbers, which are no places
 abbrev pub BelowStmtForm : ℕ → FormNode → Type 0
 BelowStmtForm k s.Empty = Unit {0}
 BelowStmtForm k (s.Block stmts) = stmts < k
@@ -423,6 +446,7 @@ BelowStmtForm k (s.Try body catches last copies) = (body < k) × (catches < k) �
 BelowStmtForm k (s.Construct constructor args phase) = args < k
 BelowStmtForm k (s.Initialise field value) = value < k
 
+-- a statement, arms of an `if`, and catch clauses
 abbrev pub BelowStmt : ℕ → StmtNode → Type 0
 BelowStmt k node = BelowStmtForm k node.form
 
@@ -434,6 +458,7 @@ abbrev pub BelowCatches : ℕ → CatchesNode → Type 0
 BelowCatches k catches.Empty = Unit {0}
 BelowCatches k (catches.More before place local types body) = (before < k) × (types < k) × (body < k)
 
+-- a node of any sort; types and constants have no parts
 abbrev pub Below : ℕ → Node → Type 0
 Below k (n.Type x) = Unit {0}
 Below k (n.Types x) = BelowList k x
@@ -453,14 +478,17 @@ Below k (n.Stmts x) = BelowList k x
 Below k (n.Arms x) = BelowArms k x
 Below k (n.Catches x) = BelowCatches k x
 
+-- each of these nodes, the first of which stands at place k, has its parts before itself
 abbrev pub WellFormed : ℕ → List Node → Type 0
 WellFormed k [] = Unit {0}
 WellFormed k (n ∷ ns) = Below k n × WellFormed (k + 1) ns
 
+-- the parts of nodes that stand behind those whose parts are `ps`, and these before them
 abbrev pub parts_on : List Part → List Node → List Part
 parts_on ps [] = ps
 parts_on ps (n ∷ ns) = parts_on (ps ++ part_over ps n ∷ []) ns
 
+-- the parts of all nodes of an arena, by their places
 unfoldable pub parts : List Node → List Part
 parts ns = parts_on [] ns
 
@@ -468,6 +496,7 @@ parts ns = parts_on [] ns
 abbrev pub part_of : List Node → ℕ → Part
 part_of ns i = part_in (parts ns) i
 
+-- as a type or a constant, or as a list that has no nodes of expressions in it
 abbrev pub type_of : List Node → ℕ → Ty
 type_of ns i = type_in (parts ns) i
 
@@ -489,6 +518,7 @@ ops_of ns i = ops_in (parts ns) i
 abbrev pub cases_of : List Node → ℕ → List Case
 cases_of ns i = cases_in (parts ns) i
 
+-- as an expression, as what an expression is made of, or as declared variables
 abbrev pub expr_of : List Node → ℕ → Expr
 expr_of ns i = expr_in (parts ns) i
 
@@ -507,6 +537,7 @@ variable_of ns i = variable_in (parts ns) i
 abbrev pub declared_of : List Node → ℕ → Declared
 declared_of ns i = declared_in (parts ns) i
 
+-- as a statement, or as a list of statements, arms or catch clauses
 abbrev pub stmt_of : List Node → ℕ → Stmt
 stmt_of ns i = stmt_in (parts ns) i
 
@@ -523,6 +554,7 @@ catches_of ns i = catches_in (parts ns) i
 abbrev pub part_at : List Node → Node → Part
 part_at ns node = part_over (parts ns) node
 
+-- lists that have no nodes of expressions in them
 abbrev pub types_at : List Node → ListNode → List Ty
 types_at ns node = types_over (parts ns) node
 
@@ -538,6 +570,7 @@ ops_at ns node = ops_over (parts ns) node
 abbrev pub cases_at : List Node → CasesNode → List Case
 cases_at ns node = cases_over (parts ns) node
 
+-- expressions and what they are made of, and declared variables
 abbrev pub expr_at : List Node → ExprNode → Expr
 expr_at ns node = expr_over (parts ns) node
 
@@ -556,6 +589,7 @@ variable_at ns node = variable_over (parts ns) node
 abbrev pub declared_at : List Node → DeclaredNode → Declared
 declared_at ns node = declared_over (parts ns) node
 
+-- statements, and lists of statements, arms and catch clauses
 abbrev pub stmt_at : List Node → StmtNode → Stmt
 stmt_at ns node = stmt_over (parts ns) node
 

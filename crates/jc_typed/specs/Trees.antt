@@ -26,14 +26,18 @@ pub data Step : Type 0 where
 
 -- Expressions. Lists end in their last member. `before` and `receiver` have no operand or one.
 mutual
+  -- an expression with its static type, and the variables of its capture conversion (JLS 5.1.10); `NoExpr` stands where there is none
   pub data Expr : Type 0 where
     NoExpr : Expr
     expr : (place : Place) (ty : Ty) (captures : List Capture) (form : Form) → Expr
 
+  -- an expression, and what is done with its value where it stands, first to last
   pub data Operand : Type 0 where
     NoOperand : Operand
     operand : (of_it : Expr) (steps : List Step) → Operand
 
+  -- what an expression is, by its kind (JLS 15.8 to 15.28); a conditional forgets what the captured variables from the number `from` up
+  -- to `up_to`, excluded, stood for before one of its branches is evaluated
   pub data Form : Type 0 where
     Fixed : (before : Operands) (value : Constant) → Form
     Null : Form
@@ -58,16 +62,19 @@ mutual
     ArrayOf : (elements : Operands) → Form
     Cast : (of_it : Operand) (to : Ty) (steps : List Step) (is_below : Bool) → Form
 
+  -- what an assignment, `++` or `--` changes (JLS 15.14, 15.15, 15.26)
   pub data Variable : Type 0 where
     LocalVariable : (local : ℕ) → Variable
     StaticVariable : (before : Operands) (field : FieldId) → Variable
     FieldVariable : (of_it : Operand) (field : FieldId) → Variable
     ElementVariable : (array : Operand) (index : Operand) → Variable
 
+  -- a list of operands, evaluated from left to right
   pub data Operands : Type 0 where
     NoOperands : Operands
     MoreOperands : (before : Operands) (last : Operand) → Operands
 
+  -- operators that group to the left, each with the steps of the value on its left and its right operand
   pub data Links : Type 0 where
     NoLinks : Links
     MoreLinks : (before : Links) (joint : Joint) (left : List Step) (right : Operand) → Links
@@ -79,9 +86,11 @@ pub data Declared : Type 0 where
 
 -- Statements. `other` and `last` have no statement or one; `test` of a `For` and `value` of a `Return` no operand or one.
 mutual
+  -- a statement and where it stands
   pub data Stmt : Type 0 where
     stmt : (place : Place) (form : StmtForm) → Stmt
 
+  -- what a statement does, by its kind (JLS 14); a `target` is the number by which jumps name the statement
   pub data StmtForm : Type 0 where
     Empty : StmtForm
     Block : (stmts : Stmts) → StmtForm
@@ -103,14 +112,17 @@ mutual
     Construct : (constructor : MethodId) (args : Operands) (phase : Phase) → StmtForm
     Initialise : (field : FieldId) (value : Operand) → StmtForm
 
+  -- a list of statements, run one after the other
   pub data Stmts : Type 0 where
     NoStmts : Stmts
     MoreStmts : (before : Stmts) (last : Stmt) → Stmts
 
+  -- tests of an `if` that follow one another by `else if`, each with the statement that runs where it holds (JLS 14.9)
   pub data Arms : Type 0 where
     NoArms : Arms
     MoreArms : (before : Arms) (test : Operand) (then : Stmt) → Arms
 
+  -- catch clauses: the variable of the exception, its alternatives, and the block (JLS 14.20)
   pub data Catches : Type 0 where
     NoCatches : Catches
     MoreCatches : (before : Catches) (place : Place) (local : ℕ) (types : List Ty) (body : Stmt) → Catches

@@ -11,9 +11,11 @@ use Rattle.jc_types.specs.declared.environment.Bounds.{Bounds}
 use Rattle.jc_types.specs.declared.table.Table.{Table}
 use Rattle.jc_types.specs.Accessors.{bounds_of, uppers_of, variable_count}
 
+-- a base without array dimensions
 abbrev pub plain : Base → Erased
 plain b = record { base = b; dims = 0 }
 
+-- java.lang.Object, the first class of a table
 abbrev pub object : Erased
 object = plain (base.Class (record { 0 = 0 }))
 
@@ -21,6 +23,7 @@ object = plain (base.Class (record { 0 = 0 }))
 abbrev pub raised : ℕ → Erased → Erased
 raised n e = record { base = e.base; dims = e.dims + n }
 
+-- the first of the erasures, and Object where there is none
 abbrev pub first_or_object : List Erased → Erased
 first_or_object [] = object
 first_or_object (e ∷ es) = e
@@ -52,6 +55,7 @@ unfoldable pub erased_within : Table → List Bounds → ℕ → Ty → Erased
 erased_within T env n t =
     erased_by (λ v. leftmost_within T env n (bounds_of T v)) (λ c. leftmost_within T env n (uppers_of env c)) t
 
+-- the number of dimensions stays at the greatest u32
 abbrev pub capped : Erased → Erased
 capped e = record { base = e.base; dims = min e.dims (2 ^ 32 - 1) }
 
@@ -73,6 +77,7 @@ own_base (Ty-F.Raw id) = base.Class id
 own_base Ty-F.NullTy = base.NullTy
 own_base _ = base.Class (record { 0 = 0 })
 
+-- None for a type that is no variable
 abbrev pub variable_bounds_at : Table → List Bounds → Ty-F Arg Ty → Option (List Ty)
 variable_bounds_at T env (Ty-F.Variable v) = Some (bounds_of T v)
 variable_bounds_at T env (Ty-F.Captured c) = Some (uppers_of env c)

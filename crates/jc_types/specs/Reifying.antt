@@ -11,6 +11,7 @@ abbrev pub counted : {A : Type 0} → List VarId → List A → Option (List A)
 counted [] args = Some []
 counted (v ∷ vars) args = if length args == length (v ∷ vars) then Some args else None
 
+-- None also for what is no class or raw type
 abbrev pub arguments_at : Table → Ty-F Arg Ty → Option (List Arg)
 arguments_at T (Ty-F.Class id args) = counted (vars_of T id) args
 arguments_at T (Ty-F.Raw id) = counted (vars_of T id) []
@@ -26,17 +27,21 @@ abbrev pub is_any : {A T : Type 0} → Arg-F A T → Bool
 is_any Arg-F.Any = true
 is_any _ = false
 
+-- the argument is an unbounded wildcard (JLS 4.5.1)
 unfoldable pub is_unbounded : Arg → Bool
 is_unbounded a = is_any (out-Arg a)
 
+-- each of these holds, as it does where there is none
 abbrev pub all_true : List Bool → Bool
 all_true [] = true
 all_true (b ∷ bs) = b && all_true bs
 
+-- the arguments of a class type allow it: it is raw, or each of them is `?`
 abbrev pub raw_or_all : Option (List Bool) → Bool
 raw_or_all None = true
 raw_or_all (Some bs) = all_true bs
 
+-- a layer, where it is known of each argument whether it is `?`, and of an array whether what it is over is reifiable
 abbrev pub reifiable_step : Table → Ty-F Bool Bool → Bool
 reifiable_step T (Ty-F.Prim p) = true
 reifiable_step T (Ty-F.Class id args) = raw_or_all (counted (vars_of T id) args)

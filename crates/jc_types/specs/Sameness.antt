@@ -5,6 +5,7 @@ use Rattle.jc_types.specs.declared.form.Arg.{Arg, Arg-F, out-Arg, fold-Arg}
 use Rattle.jc_types.specs.declared.form.Primitive.{Primitive}
 use Rattle.jc_types.specs.declared.form.Primitive.TheVariants.{Boolean, Byte, Short, Char, Int, Long}
 
+-- a number for each primitive type, no two of them alike, by which they are compared
 abbrev pub prim_number : Primitive → ℕ
 prim_number Boolean = 0
 prim_number Byte = 1
@@ -20,6 +21,7 @@ all_pass [] (x ∷ xs) = false
 all_pass (f ∷ fs) [] = false
 all_pass (f ∷ fs) (x ∷ xs) = f x && all_pass fs xs
 
+-- a layer of a test and one of an argument, or of a type: of one form, with the same ids and dimensions, each part passes its test
 abbrev pub arg_passes : Arg-F (Arg → Bool) (Ty → Bool) → Arg-F Arg Ty → Bool
 arg_passes (Arg-F.Exact f) (Arg-F.Exact t) = f t
 arg_passes Arg-F.Any Arg-F.Any = true
@@ -38,6 +40,7 @@ type_passes (Ty-F.Meet fs) (Ty-F.Meet xs) = all_pass fs xs
 type_passes Ty-F.NullTy Ty-F.NullTy = true
 type_passes _ _ = false
 
+-- two types, or two arguments, of one form, with the same ids and dimensions, and the same parts in the same order
 unfoldable pub same : Ty → Ty → Bool
 same t = fold-Ty (Arg → Bool) (Ty → Bool) (λ l a. arg_passes l (out-Arg a)) (λ l u. type_passes l (out-Ty u)) t
 

@@ -18,6 +18,7 @@ subst_step vars by (Ty-F.Variable v) = replacement vars by v
 subst_step vars by (Ty-F.Array t n) = array_over n t
 subst_step vars by layer = roll-Ty layer
 
+-- the types `by` for the variables `vars`, all at once, everywhere in a type or an argument: what is put in stays as it is
 unfoldable pub subst : List VarId → List Ty → Ty → Ty
 subst vars by t = fold-Ty Arg Ty roll-Arg (subst_step vars by) t
 

@@ -27,9 +27,11 @@ NoFileStands tokens place = IsFilePlace tokens place × ((file : SourceFile) →
 abbrev pub UnitStands : Bool → List Token → SourceFile → Type 0
 UnitStands prelude tokens file = (first_left_out_word prelude tokens ≡ None) × FileStands tokens file × (left_out_forms file ≡ [])
 
+-- the first word that is left out is the token `place`
 abbrev pub WordStands : Bool → List Token → ℕ → ℕ → Type 0
 WordStands prelude tokens rule place = (rule ≡ 201) × (first_left_out_word prelude tokens ≡ Some place)
 
+-- no word is left out, the tokens are a file, and the first form that is left out stands at the token `place`
 abbrev pub FormStands : Bool → List Token → ℕ → ℕ → Type 0
 FormStands prelude tokens rule place = (rule ≡ 203) × (first_left_out_word prelude tokens ≡ None) × (file : SourceFile) × FileStands tokens file × (first_left_out_form tokens file ≡ Some place)
 
@@ -38,6 +40,7 @@ abbrev pub NoUnitFault : Bool → List Token → ParseFault → Type 0
 NoUnitFault prelude tokens (fault_of.Syntax place) = (first_left_out_word prelude tokens ≡ None) × NoFileStands tokens place
 NoUnitFault prelude tokens (fault_of.LeftOut rule place) = WordStands prelude tokens rule place ⊎ FormStands prelude tokens rule place
 
+-- a refusal tells a fault; where memory is wanting nothing is told of the tokens
 abbrev pub NoUnitStands : Bool → List Token → Stop ParseFault → Type 0
 NoUnitStands prelude tokens (stop_of.Refused fault) = NoUnitFault prelude tokens fault
 NoUnitStands prelude tokens stop_of.WantOfMemory = Unit {0}
@@ -47,6 +50,7 @@ abbrev pub NoWholeFault : List Token → ParseFault → Type 0
 NoWholeFault tokens (fault_of.Syntax place) = NoFileStands tokens place
 NoWholeFault tokens (fault_of.LeftOut rule place) = ⊥
 
+-- a refusal tells a fault; where memory is wanting nothing is told of the tokens
 abbrev pub NoWholeStands : List Token → Stop ParseFault → Type 0
 NoWholeStands tokens (stop_of.Refused fault) = NoWholeFault tokens fault
 NoWholeStands tokens stop_of.WantOfMemory = Unit {0}

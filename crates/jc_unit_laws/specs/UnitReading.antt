@@ -43,6 +43,7 @@ PlacedBraces A = ℕ × (List A × Unit {0})
 abbrev pub braced_at_run : {A : Type 0} → Run A → Run (PlacedBraces A)
 braced_at_run run = in_turn (at_kind (sign_code sign_of.LeftBrace)) (in_turn (any_number run) (of_kind (sign_code sign_of.RightBrace)))
 
+-- ";"
 abbrev pub semicolon_run : Run (Unit {0})
 semicolon_run = of_kind (sign_code sign_of.Semicolon)
 
@@ -54,11 +55,12 @@ parens_run expr = in_turn (of_kind (sign_code sign_of.LeftParen)) (in_turn expr 
 abbrev pub DeclarationRest : Type 0
 DeclarationRest = HeadRest × Braces Member
 
+-- the declaration of its modifiers and of what stands behind them
 abbrev pub declaration_made : List Modifier → DeclarationRest → Declaration
 declaration_made modifiers p = roll-Declaration (record { head = head_made modifiers p.0; members = p.1.1.0 })
 
 -- how statements and declarations of at most a height are read: as a body, behind an `else`, in a block, behind a label of a switch, first in a
--- constructor
+-- constructor; and what stands behind the modifiers of a declaration of a type
 pub record Level : Type 0 where
   pub body : Run Stmt
   pub other : Run Stmt
@@ -69,15 +71,18 @@ pub record Level : Type 0 where
 
 -- statements of one keyword
 
+-- a block, at the place of its brace (JLS 14.2)
 abbrev pub block_made : PlacedBraces Stmt → Stmt
 block_made p = stmt_of.Block p.0 p.1.0
 
+-- loops, at the place of their first keyword (JLS 14.12, 14.13)
 abbrev pub while_made : (ℕ × ((Unit {0} × (Expr × Unit {0})) × Stmt)) → Stmt
 while_made p = stmt_of.While p.0 p.1.0.1.0 p.1.1
 
 abbrev pub do_made : (ℕ × (Stmt × (Unit {0} × ((Unit {0} × (Expr × Unit {0})) × Unit {0})))) → Stmt
 do_made p = stmt_of.Do p.0 p.1.0 p.1.1.1.0.1.0
 
+-- the value or the label is None where it is left out (JLS 14.15 to 14.17)
 abbrev pub return_made : (ℕ × (Option Expr × Unit {0})) → Stmt
 return_made p = stmt_of.Return p.0 p.1.0
 
@@ -87,32 +92,39 @@ break_made p = stmt_of.Break p.0 p.1.0
 abbrev pub continue_made : (ℕ × (Option Ident × Unit {0})) → Stmt
 continue_made p = stmt_of.Continue p.0 p.1.0
 
+-- `throw` has its value always (JLS 14.18)
 abbrev pub throw_made : (ℕ × (Expr × Unit {0})) → Stmt
 throw_made p = stmt_of.Throw p.0 p.1.0
 
 -- a label of a switch and what stands behind it
 
+-- "case" Cond ":", or "default" ":", with the place of the keyword (JLS 14.11)
 abbrev pub CaseLabel : Type 0
 CaseLabel = Either (ℕ × (Expr × Unit {0})) (ℕ × Unit {0})
 
+-- the label with the statements behind it, of which there may be none
 abbrev pub case_made : (CaseLabel × List Stmt) → Clause
 case_made (This p, items) = roll-Clause (record { at = p.0; head = clause_of.Case p.1.0; items = items })
 case_made (That p, items) = roll-Clause (record { at = p.0; head = clause_of.Default; items = items })
 
+-- the `switch` of its value and its parts
 abbrev pub switch_made : (ℕ × ((Unit {0} × (Expr × Unit {0})) × Braces Clause)) → Stmt
 switch_made p = stmt_of.Switch p.0 p.1.0.1.0 p.1.1.1.0
 
 -- catches
 
+-- "catch" "(" Mods ClassT {"|" ClassT} Id ")" Block, with the place of the keyword (JLS 14.20)
 abbrev pub CatchParts : Type 0
 CatchParts = ℕ × (Unit {0} × (List Modifier × (ClassTree × (List (Unit {0} × ClassTree) × (Ident × (Unit {0} × Braces Stmt))))))
 
 abbrev pub catch_made : CatchParts → Clause
 catch_made (at, (u, (modifiers, (first, (more, (name, (v, braces))))))) = roll-Clause (record { at = at; head = clause_of.Catch modifiers first (map behind_it more) name; items = braces.1.0 })
 
+-- "finally" Block, with the place of the keyword (JLS 14.20)
 abbrev pub finally_made : (ℕ × Braces Stmt) → Clause
 finally_made p = roll-Clause (record { at = p.0; head = clause_of.Finally; items = p.1.1.0 })
 
+-- what may be left out, as a list of at most one
 abbrev pub or_none : {A : Type 0} → Option A → List A
 or_none None = []
 or_none (Some a) = a ∷ []
@@ -126,35 +138,43 @@ abbrev pub some_clauses_made : Either (Clause × (List Clause × Option Clause))
 some_clauses_made (This p) = p.0 ∷ clauses_made p.1
 some_clauses_made (That clause) = clause ∷ []
 
+-- Mods Type Id "=" Expr (JLS 14.20.3)
 abbrev pub resource_made : (List Modifier × (TypeTree × (Ident × (Unit {0} × Expr)))) → Resource
 resource_made p = record { modifiers = p.0; ty = p.1.0; name = p.1.1.0; value = p.1.1.1.1 }
 
+-- at least one resource, with whether a semicolon stands behind the last one
 abbrev pub resources_made : (Unit {0} × (Resource × (List (Unit {0} × Resource) × Bool))) → Resources
 resources_made p = record { first = p.1.0; more = map behind_it p.1.1.0; trailing = p.1.1.1 }
 
+-- the place of `try`, and its block and clauses with resources before them or without (JLS 14.20)
 abbrev pub TryParts : Type 0
 TryParts = ℕ × Either (Resources × (Braces Stmt × List Clause)) (Braces Stmt × List Clause)
 
+-- the resources are None where no parenthesis stands behind `try`
 abbrev pub try_made : TryParts → Stmt
 try_made (at, This p) = stmt_of.Try at (Some p.0) p.1.0.1.0 p.1.1
 try_made (at, That p) = stmt_of.Try at None p.0.1.0 p.1
 
 -- what an `if` has behind its first arm: further arms, each behind an `else`, and what stands behind the last `else`
 
+-- "if" "(" Expr ")" Stmt, whose statement is the only item of the arm (JLS 14.9)
 abbrev pub arm_made : (ℕ × ((Unit {0} × (Expr × Unit {0})) × Stmt)) → Clause
 arm_made p = roll-Clause (record { at = p.0; head = clause_of.If p.1.0.1.0; items = p.1.1 ∷ [] })
 
+-- the further arms, and the statement behind the last `else`, None where each `else` has an `if` behind it
 abbrev pub Branch : Type 0
 Branch = List Clause × Option Stmt
 
 abbrev pub no_more : Branch
 no_more = ([], None)
 
+-- what stands behind an arm: nothing, an `else` with another arm and more, or one with a statement
 abbrev pub branch_made : Option (Unit {0} × Either (Clause × Branch) Stmt) → Branch
 branch_made None = no_more
 branch_made (Some (u, This (arm, (arms, last)))) = (arm ∷ arms, last)
 branch_made (Some (u, That stmt)) = ([], Some stmt)
 
+-- an `if` has at least one arm
 abbrev pub if_made : (Clause × Branch) → Stmt
 if_made (arm, (arms, last)) = stmt_of.If (arm ∷ arms) (or_none last)
 
@@ -162,19 +182,24 @@ if_made (arm, (arms, last)) = stmt_of.If (arm ∷ arms) (or_none last)
 abbrev pub Variables : Type 0
 Variables = (Var × List (Unit {0} × Var)) × Unit {0}
 
+-- at least one variable of the type
 abbrev pub variables_made : List Modifier → TypeTree → (Var × List (Unit {0} × Var)) → LocalVars
 variables_made modifiers ty p = record { modifiers = modifiers; ty = ty; first = p.0; more = map behind_it p.1 }
 
+-- an expression as a statement (JLS 14.8)
 abbrev pub effect_made : (Expr × Unit {0}) → Stmt
 effect_made p = stmt_of.Effect p.0
 
+-- a label and its statement (JLS 14.7)
 abbrev pub labeled_made : (Ident × (Unit {0} × Stmt)) → Stmt
 labeled_made p = stmt_of.Labeled p.0 p.1.1
 
+-- variables without modifiers, or an effect
 abbrev pub local_or_effect : Either (TypeTree × Variables) (Expr × Unit {0}) → Stmt
 local_or_effect (This p) = stmt_of.Local (variables_made [] p.0 p.1.0)
 local_or_effect (That p) = effect_made p
 
+-- a labelled statement, or one that `make` builds of what else was read
 abbrev pub labeled_or : {A : Type 0} → (A → Stmt) → Either (Ident × (Unit {0} × Stmt)) A → Stmt
 labeled_or make (This p) = labeled_made p
 labeled_or make (That a) = make a
@@ -183,6 +208,7 @@ labeled_or make (That a) = make a
 abbrev pub local_made : (Modifier × (List Modifier × (TypeTree × Variables))) → Stmt
 local_made p = stmt_of.Local (variables_made (p.0 ∷ p.1.0) p.1.1.0 p.1.1.1.0)
 
+-- a local declaration of a type (JLS 14.3), or variables, with their modifiers (JLS 14.4)
 abbrev pub moded_made : (List Modifier × Either DeclarationRest (TypeTree × Variables)) → Stmt
 moded_made (modifiers, This rest) = stmt_of.Declared (declaration_made modifiers rest)
 moded_made (modifiers, That p) = stmt_of.Local (variables_made modifiers p.0 p.1.0)
@@ -196,6 +222,7 @@ module _ (x : Exprs) where
   effect_in_run h = with_room h (x.effect h)
 
   module _ (h : ℕ) (l : Level) where
+    -- statements of one keyword, a block or a semicolon: those with a part that can't be left out need room for a height
     unfoldable pub block_run : Run Stmt
     block_run = as_new block_made (braced_at_run l.item)
 
@@ -211,6 +238,7 @@ module _ (x : Exprs) where
     unfoldable pub return_run : Run Stmt
     return_run = as_new return_made (in_turn (at_kind (key_code key_of.Return)) (in_turn (perhaps (expr_in_run h)) semicolon_run))
 
+    -- `break`, `continue` and `throw`
     unfoldable pub break_run : Run Stmt
     break_run = as_new break_made (in_turn (at_kind (key_code key_of.Break)) (in_turn (perhaps an_ident_at) semicolon_run))
 
@@ -227,6 +255,7 @@ module _ (x : Exprs) where
     unfoldable pub switch_run : Run Stmt
     switch_run = as_new switch_made (with_room h (in_turn (at_kind (key_code key_of.Switch)) (in_turn (parens_run (x.expr h)) (braced_run case_run))))
 
+    -- the clauses of a `try` (JLS 14.20)
     unfoldable pub catch_run : Run Clause
     catch_run =
         as_new catch_made (in_turn (at_kind (key_code key_of.Catch)) (in_turn (of_kind (sign_code sign_of.LeftParen)) (in_turn (modifiers_run x h) (in_turn (class_run h) (in_turn (each_behind sign_of.Or (class_run h))
@@ -235,6 +264,7 @@ module _ (x : Exprs) where
     unfoldable pub finally_run : Run Clause
     finally_run = as_new finally_made (in_turn (at_kind (key_code key_of.Finally)) (braced_run l.item))
 
+    -- any number of catches, and then at most one `finally`; the second reader needs at least one clause
     unfoldable pub clauses_run : Run (List Clause)
     clauses_run = as_new clauses_made (in_turn (any_number catch_run) (perhaps finally_run))
 
@@ -245,14 +275,17 @@ module _ (x : Exprs) where
     unfoldable pub resource_run : Run Resource
     resource_run = as_new resource_made (in_turn (modifiers_run x h) (in_turn (type_run h) (in_turn an_ident_at (in_turn (of_kind (sign_code sign_of.Assign)) (x.expr h)))))
 
+    -- a semicolon may stand behind the last one
     unfoldable pub resources_run : Run Resources
     resources_run = as_new resources_made (in_turn (of_kind (sign_code sign_of.LeftParen)) (in_turn resource_run (rows_tail_run sign_of.Semicolon sign_of.RightParen resource_run)))
 
+    -- without resources at least one clause must stand behind the block (JLS 14.20)
     unfoldable pub try_run : Run Stmt
     try_run = as_new try_made (in_turn (at_kind (key_code key_of.Try)) (either (sign_code sign_of.LeftParen ∷ []) (with_room h (in_turn resources_run (in_turn (braced_run l.item) clauses_run))) (in_turn (braced_run l.item) some_clauses_run)))
 
     -- arms and what is behind the last `else`
 
+    -- an arm with its body, which is read as any other body
     unfoldable pub arm_run : Run Clause
     arm_run = as_new arm_made (in_turn (at_kind (key_code key_of.If)) (in_turn (parens_run (x.expr h)) l.body))
 
@@ -278,6 +311,7 @@ if_run x h l = as_new if_made (with_room h (followed arm_open no_more (arm_run x
 abbrev pub label_run : Level → Run (Ident × (Unit {0} × Stmt))
 label_run l = in_turn an_ident_at (in_turn (of_kind (sign_code sign_of.Colon)) l.body)
 
+-- told apart by the colon behind a name
 unfoldable pub plain_run : Exprs → ℕ → Level → Run Stmt
 plain_run x h l = as_new (labeled_or effect_made) (with_room h (by_second word_code (sign_code sign_of.Colon ∷ []) (label_run l) (in_turn (x.effect h) semicolon_run)))
 
@@ -303,9 +337,11 @@ ForRest = Unit {0} × (Option Expr × (Unit {0} × Option (List Expr)))
 abbrev pub ForNamed : Type 0
 ForNamed = Ident × (ℕ × Either (Unit {0} × Expr) (Option (Unit {0} × Init) × (List (Unit {0} × Var) × ForRest)))
 
+-- by what stands first: a semicolon, a modifier, a type with a name behind it, or an effect
 abbrev pub ForParts : Type 0
 ForParts = Either ForRest (Either (Modifier × (List Modifier × (TypeTree × ForNamed))) (Either (TypeTree × ForNamed) (List Expr × ForRest)))
 
+-- what may be left out: effects, and an initialiser behind its `=`
 abbrev pub or_no_effects : Option (List Expr) → List Expr
 or_no_effects None = []
 or_no_effects (Some effects) = effects
@@ -314,24 +350,29 @@ abbrev pub or_no_init : Option (Unit {0} × Init) → Option Init
 or_no_init None = None
 or_no_init (Some p) = Some p.1
 
+-- a `for` with semicolons; its test is None where it is left out (JLS 14.14.1)
 abbrev pub basic_made : ForInit → ForRest → ForHead
 basic_made init p = for_of.Basic init p.1.0 (or_no_effects p.1.1.1)
 
+-- a colon behind the name makes it an enhanced `for` (JLS 14.14.2), and else its first part declares variables
 abbrev pub named_made : List Modifier → TypeTree → ForNamed → ForHead
 named_made modifiers ty (name, (dims, This p)) = for_of.Enhanced modifiers ty name dims p.1
 named_made modifiers ty (name, (dims, That (init, (more, rest)))) =
     basic_made (init_of.Local (record { modifiers = modifiers; ty = ty; first = record { name = name; dims = dims; init = or_no_init init }; more = map behind_it more })) rest
 
+-- a `for` whose first part is left out has an empty list of effects there
 abbrev pub for_head_made : ForParts → ForHead
 for_head_made (This rest) = basic_made (init_of.Effects []) rest
 for_head_made (That (This (m, (modifiers, (ty, p))))) = named_made (m ∷ modifiers) ty p
 for_head_made (That (That (This (ty, p)))) = named_made [] ty p
 for_head_made (That (That (That (effects, rest)))) = basic_made (init_of.Effects effects) rest
 
+-- the `for` at the place of its keyword, of its head and its body
 abbrev pub for_made : (ℕ × (Unit {0} × (ForHead × (Unit {0} × Stmt)))) → Stmt
 for_made p = stmt_of.For p.0 p.1.1.0 p.1.1.1.1
 
 module _ (x : Exprs) (h : ℕ) where
+  -- how the parts above are read; expressions in them need room for a height
   unfoldable pub for_rest_run : Run ForRest
   for_rest_run = in_turn semicolon_run (in_turn (perhaps (expr_in_run x h)) (in_turn semicolon_run (perhaps (commas_run (effect_in_run x h)))))
 
@@ -340,9 +381,11 @@ module _ (x : Exprs) (h : ℕ) where
       in_turn an_ident_at (in_turn dims_run (either (sign_code sign_of.Colon ∷ []) (in_turn (of_kind (sign_code sign_of.Colon)) (x.expr h))
       (in_turn (perhaps (with_room h (in_turn (of_kind (sign_code sign_of.Assign)) (x.init h)))) (in_turn (each_behind sign_of.Comma (var_run x h)) for_rest_run))))
 
+  -- the codes of what begins a modifier
   abbrev pub for_modifier_codes : List ℕ
   for_modifier_codes = sign_code sign_of.At ∷ modifier_word_codes
 
+  -- variables are tried where a type with a name behind it can be read, and effects where not
   unfoldable pub for_head_run : Run ForHead
   for_head_run =
       as_new for_head_made (either (sign_code sign_of.Semicolon ∷ []) for_rest_run
@@ -354,6 +397,7 @@ module _ (x : Exprs) (h : ℕ) where
 
 -- statements
 
+-- the code of `if`, which is read apart from the other statements
 abbrev pub if_codes : List ℕ
 if_codes = key_code key_of.If ∷ []
 
@@ -361,6 +405,7 @@ if_codes = key_code key_of.If ∷ []
 abbrev pub or_others : {A : Type 0} → List ℕ → Run A → Run A → Run A
 or_others codes m n = as_new either_one (either codes m n)
 
+-- the codes of what begins a statement that its first token tells, `if` left out
 abbrev pub statement_codes : List ℕ
 statement_codes =
     sign_code sign_of.LeftBrace ∷ sign_code sign_of.Semicolon ∷ key_code key_of.While ∷ key_code key_of.Do ∷ key_code key_of.For ∷ key_code key_of.Switch ∷ key_code key_of.Return ∷ key_code key_of.Break ∷ key_code key_of.Continue
@@ -379,6 +424,7 @@ module _ (x : Exprs) (h : ℕ) (l : Level) where
   unfoldable pub other_run : Run Stmt
   other_run = or_others statement_codes simple_run (plain_run x h l)
 
+  -- the body of a loop or an arm, or what a label stands before: no declaration (JLS 14.5)
   unfoldable pub body_run : Run Stmt
   body_run = or_others if_codes (if_run x h l) (or_others statement_codes simple_run (plain_run x h l))
 

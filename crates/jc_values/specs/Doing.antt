@@ -14,6 +14,7 @@ Halted o halt.Going r = o ≡ Going r.state
 Halted o halt.Wrong r = o ≡ Wrong
 Halted o halt.WantOfMemory r = Unit {0}
 
+-- .. or with this value
 abbrev pub Does : {A : Type 0} → Out TypedState A → Result A Halt → Running → Type 0
 Does o (Ok a) r = o ≡ Val a r.units r.state
 Does o (Err h) r = Halted o h r

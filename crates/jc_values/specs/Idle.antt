@@ -11,15 +11,18 @@ use Rattle.jc_typed.specs.declared.program.TypedProgram.{TypedProgram}
 use Rattle.jc_meaning.specs.Kept.{TypedRun, typed_keeping}
 use Rattle.jc_meaning.specs.Expressions as e
 
+-- an inner meaning in which each expression, body and initialisation stops
 abbrev pub idle : e.Inner
 idle = record { expr = λ x. stop; body = λ m. stop; ready = λ k. stop }
 
+-- a field of an object and its change; null throws (JLS 15.11.1)
 abbrev pub get_field : TypedProgram → FieldId → Value → TypedRun Value
 get_field P = e.get_field P idle
 
 abbrev pub set_field : TypedProgram → FieldId → Value → Value → TypedRun (Unit {0})
 set_field P = e.set_field P idle
 
+-- an element and its change, and the length of an array; null throws, and so does an index outside of the array (JLS 15.13.1)
 abbrev pub get_element : TypedProgram → Value → Value → TypedRun Value
 get_element P = e.get_element P idle
 
@@ -29,6 +32,7 @@ set_element P = e.set_element P idle
 abbrev pub length_of : TypedProgram → Value → TypedRun Value
 length_of P = e.length_of P idle
 
+-- a new array of a closed array type, with that many elements as new
 abbrev pub new_array : TypedProgram → Ty → ℕ → TypedRun ℕ
 new_array P = e.new_array P idle
 

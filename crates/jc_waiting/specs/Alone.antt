@@ -31,6 +31,7 @@ abbrev pub or_below_by : List ClassModel → ℕ → Uppermost → Option ℕ �
 or_below_by classes c below (Some m) = by_code (code_at classes c m)
 or_below_by classes c below None = below
 
+-- the same by the class; `below` is what the classes below it come to
 abbrev pub or_below : List ClassModel → ℕ → Uppermost → Uppermost
 or_below classes c below = or_below_by classes c below (initialiser_of classes c)
 

@@ -25,6 +25,7 @@ use Rattle.jc_waiting.specs.declared.initialising.First.TheVariants as first
 abbrev pub fault_makes : List ClassModel → Fault → Bool
 fault_makes classes fault = is_some (fault_class classes fault)
 
+-- only an exception that an instruction throws is made here
 abbrev pub act_makes : List ClassModel → Act → Bool
 act_makes classes (Goes now) = false
 act_makes classes (Throws fault now) = fault_makes classes fault
@@ -72,5 +73,6 @@ first_makes_by classes world c (Some Failed) = fault_makes classes NoClassDefFou
 first_makes_by classes world c (Some Untouched) = initialised_makes classes (length classes) c world false
 first_makes_by classes world c _ = false
 
+-- the same by the state that the class is in
 abbrev pub first_makes : List ClassModel → World → ℕ → Bool
 first_makes classes world c = first_makes_by classes world c (state_of_class world c)

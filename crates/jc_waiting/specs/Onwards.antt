@@ -39,6 +39,7 @@ first_by_state before (Some state.Untouched) = first.Untouched before
 first_by_state before (Some state.Failed) = first.Failed
 first_by_state before _ = first.Nothing
 
+-- a class without a superclass to initialise has nothing to wait for
 abbrev pub first_of : World → Option ℕ → First
 first_of world (Some before) = first_by_state before (state_of_class world before)
 first_of world None = first.Nothing

@@ -1,5 +1,5 @@
 -- Answers joined from left to right, and what a right answer says of well-formedness.
-use Rattle.std.proofs.Common.{◌≡◌, ◌↔◌, ◌==◌, true, List, length, Result, Ok, Err, IfOk, arith, refl, sym, ap, subst, ◌∙◌}
+use Rattle.std.proofs.Common.{◌≡◌, ◌↔◌, ◌==◌, true, List, length, arith, refl, sym, ap, subst, ◌∙◌}
 use Rattle.std.proofs.lemmas.Bool.Decides.{nat_tests}
 use Rattle.jc_types.specs.declared.form.Ty.{Ty}
 use Rattle.jc_types.specs.declared.table.Table.{Table}
@@ -47,10 +47,6 @@ module _ (T : Table) (env : List Bounds) (t : Ty) (a : Answer) where
   formed_no e = (right e).no
 
 pub ruleset formed_clauses = (formed_yes, formed_no)
-
-pub if_ok_along : {A E : Type 0} (r : Result A E) (P Q : A → Type 0) → ((a : A) → P a → Q a) → IfOk r P → IfOk r Q
-if_ok_along (Ok a) P Q f h = f a h
-if_ok_along (Err e) P Q f h = tt
 
 -- what a class type with as many arguments as its class has parameters asks
 pub needs_of_class : (T : Table) (env : List Bounds) (t : Ty) (id : ClassId) (args : List Arg) (vars : List VarId) → t ≡ Class id args → vars ≡ vars_of T id → length args ≡ length vars → needs T env t ≡ counted_needs T env vars args true

@@ -15,9 +15,11 @@ use Rattle.jc_words.specs.declared.line.Taken.{Taken}
 use Rattle.jc_words.specs.declared.line.Taken.TheVariants.{Whole, Opened, Closed, Wrong}
 use Rattle.jc_words.specs.Line.{is_dashed, option_word}
 
+-- the start of a word that holds its option's value: the option's name and `=`
 abbrev pub equals_word : OptionName → List ℕ
 equals_word option = option_word option ++ (61 ∷ [])
 
+-- what a word is that is no option's name alone: one that holds an option's value, maybe an empty one, or an unknown one
 abbrev pub joined_sort : List ℕ → Sort
 joined_sort word =
     if starts_with nat_eq word (codes "--out=") then Holds Out else
@@ -36,10 +38,12 @@ dashed_sort word =
 abbrev pub sort_of : List ℕ → Sort
 sort_of word = if is_dashed word then dashed_sort word else PositionalWord
 
+-- an empty word is no value of an option
 abbrev pub is_empty : List ℕ → Bool
 is_empty [] = true
 is_empty (c ∷ cs) = false
 
+-- what stands behind the `=` of a word that holds its value
 abbrev pub value_after : OptionName → List ℕ → List ℕ
 value_after option word = drop (length (equals_word option)) word
 
@@ -51,6 +55,7 @@ with_next option value = if is_empty value then Wrong else if is_dashed value th
 abbrev pub with_held : OptionName → List ℕ → Taken
 with_held option value = if is_empty value then Wrong else Whole (Joined option value)
 
+-- what a word of this sort makes where no option waits for its value
 abbrev pub by_sort : Sort → List ℕ → Taken
 by_sort PositionalWord word = Whole (Positional word)
 by_sort End word = Closed
@@ -68,12 +73,14 @@ abbrev pub prepend : List Part → Option Line → Option Line
 prepend parts None = None
 prepend parts (Some line) = Some (record line { parts = parts ++ line.parts })
 
+-- how the line goes on behind what a word made: `line` gives the line of the other words, by the option that waits; a wrong word has none
 abbrev pub go_on : Taken → List (List ℕ) → (Option OptionName → Option Line) → Option Line
 go_on (Whole part) words line = prepend (part ∷ []) (line None)
 go_on (Opened option) words line = line (Some option)
 go_on Closed words line = Some (record { parts = []; rest = Some words })
 go_on Wrong words line = None
 
+-- the line of no words; there is none while an option waits for its value
 abbrev pub at_end : Option OptionName → Option Line
 at_end None = Some (record { parts = []; rest = None })
 at_end (Some option) = None

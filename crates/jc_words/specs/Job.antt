@@ -12,6 +12,7 @@ use Rattle.jc_words.specs.declared.fault.UsageFault.{UsageFault}
 use Rattle.jc_words.specs.declared.fault.UsageFault.TheVariants.{Line as LineFault, NoSource, Stray, Steps as StepsFault}
 use Rattle.jc_words.specs.Line.{IsLine, values_of, positionals_of}
 
+-- the first of some values, or None where there are none
 abbrev pub head_of : List (List ℕ) → Option (List ℕ)
 head_of [] = None
 head_of (value ∷ values) = Some value
@@ -24,9 +25,11 @@ value_of option line = head_of (values_of option line.parts)
 abbrev pub is_source : List ℕ → Bool
 is_source word = ends_with nat_eq word (codes ".java")
 
+-- the opposite of a truth value
 abbrev pub not : Bool → Bool
 not b = if b then false else true
 
+-- the sources and the arguments of a line, each in the order in which they stand
 abbrev pub sources_of : Line → List (List ℕ)
 sources_of line = filter is_source (positionals_of line)
 
@@ -43,6 +46,7 @@ folder_of None None = Some (codes ".")
 abbrev pub most_steps : ℕ
 most_steps = 9223372036854775807
 
+-- the number of steps of a line that gives none
 abbrev pub usual_steps : ℕ
 usual_steps = 1000000000
 
@@ -50,10 +54,12 @@ usual_steps = 1000000000
 abbrev pub AreSteps : List ℕ → ℕ → Type 0
 AreSteps text steps = (text ≡ decimal steps) × (steps ≤ most_steps)
 
+-- the steps of a job: the number in the option's value, which must be in its shortest decimal form, or the usual one where there is no option
 abbrev pub HasSteps : Option (List ℕ) → ℕ → Type 0
 HasSteps None steps = steps ≡ usual_steps
 HasSteps (Some text) steps = AreSteps text steps
 
+-- there is an option for steps, and its value is no number of steps
 abbrev pub HasNoSteps : Option (List ℕ) → Type 0
 HasNoSteps None = ⊥
 HasNoSteps (Some text) = (steps : ℕ) → AreSteps text steps → ⊥

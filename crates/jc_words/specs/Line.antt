@@ -16,6 +16,7 @@ is_dashed [] = false
 is_dashed (c ∷ []) = false
 is_dashed (c ∷ d ∷ cs) = c == 45
 
+-- the word of each option, without a value
 abbrev pub option_word : OptionName → List ℕ
 option_word Out = codes "--out"
 option_word Run = codes "--run"
@@ -27,6 +28,7 @@ part_words (Joined option value) = (option_word option ++ (61 ∷ value)) ∷ []
 part_words (Apart option value) = option_word option ∷ value ∷ []
 part_words (Positional word) = word ∷ []
 
+-- a value isn't empty, and one that stands in a word of its own isn't dashed; neither is a positional word
 abbrev pub IsPart : Part → Type 0
 IsPart (Joined option value) = value ≢ []
 IsPart (Apart option value) = (value ≢ []) × (is_dashed value ≡ false)
@@ -42,6 +44,7 @@ pub record IsSpelled (words : List (List ℕ)) (line : Line) : Type 0 where
   pub spelled : words ≡ flat_map part_words line.parts ++ rest_words line.rest
   pub parts : AllByRecursion IsPart line.parts
 
+-- whether two options are the same
 abbrev pub same_option : OptionName → OptionName → Bool
 same_option Out Out = true
 same_option Out Run = false
@@ -53,6 +56,7 @@ same_option Steps Out = false
 same_option Steps Run = false
 same_option Steps Steps = true
 
+-- the value alone, or nothing
 abbrev pub value_if : Bool → List ℕ → List (List ℕ)
 value_if true value = value ∷ []
 value_if false value = []
@@ -67,15 +71,18 @@ part_values wanted (Positional word) = []
 abbrev pub values_of : OptionName → List Part → List (List ℕ)
 values_of wanted parts = flat_map (part_values wanted) parts
 
+-- the positional word of a part, if it is one
 abbrev pub part_positionals : Part → List (List ℕ)
 part_positionals (Joined option value) = []
 part_positionals (Apart option value) = []
 part_positionals (Positional word) = word ∷ []
 
+-- the words behind `--`; each of them is positional, with a dash or without
 abbrev pub words_in : Option (List (List ℕ)) → List (List ℕ)
 words_in None = []
 words_in (Some words) = words
 
+-- the positional words that stand before `--`
 abbrev pub parts_positionals : List Part → List (List ℕ)
 parts_positionals parts = flat_map part_positionals parts
 

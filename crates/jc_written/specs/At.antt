@@ -9,6 +9,7 @@ use Rattle.jc_declares.specs.Writing as writing
 use Rattle.jc_looking.specs.Standings.{find_at, asker_at}
 use Rattle.jc_written.specs.declared.reading.Reading.{Reading}
 
+-- how names are looked up, and who asks, where the code's reading stands
 abbrev pub reading_at : Heads → Knowledge → Reading → writing.Reading
 reading_at H K r = record { find = find_at H K r.standing; asker = asker_at H r.standing; own = r.own }
 

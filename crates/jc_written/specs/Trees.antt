@@ -15,6 +15,7 @@ use Rattle.jc_declares.specs.Writing.{Reading, Broken, is_empty, class_type, var
 use Rattle.jc_looking.specs.declared.scene.Sight.{Sight}
 use Rattle.jc_looking.specs.declared.scene.Sight.TheVariants as sight
 
+-- the type arguments of a part; none where it writes none
 abbrev pub args_in_part : TypePart → List TypeArg
 args_in_part p = (out-TypePart p).args
 
@@ -28,6 +29,7 @@ abbrev pub early_in : TypePart → List TypePart → List Broken
 early_in p [] = []
 early_in p (q ∷ qs) = cond (is_empty (args_in_part p)) [] (record { rule = 302; at = (out-TypePart p).name.at } ∷ []) ++ early_in q qs
 
+-- the rules that the names in these arguments break, and those in the arguments of all parts
 abbrev pub args_rules : Heads → Knowledge → Reading → List TypeArg → List Broken
 args_rules H K r [] = []
 args_rules H K r (a ∷ args) = (wrote_arg H K r a).broken ++ args_rules H K r args
@@ -43,6 +45,7 @@ name_rules H K r path without_args at =
     (meaning_broken H r (look_up H K r.find path.first path.more) without_args at)
     at
 
+-- what a class type breaks: its name, then arguments before its last part (302), then the names in its arguments
 abbrev pub class_rules : Heads → Knowledge → Reading → ClassTree → List Broken
 class_rules H K r t =
     let node = out-ClassTree t in
@@ -57,6 +60,7 @@ sight_rules H own (sight.Class c) without_args at = []
 sight_rules H own (sight.Variable v) without_args at = variable_broken (is_own (owner_of H v) own) without_args at
 sight_rules H own sight.Several without_args at = record { rule = 303; at = at } ∷ []
 
+-- the arguments themselves, and the offsets of the class types inside them
 abbrev pub args_meant : Heads → Knowledge → Reading → List TypeArg → List Arg
 args_meant H K r args = map (λ a. (wrote_arg H K r a).arg) args
 

@@ -12,6 +12,7 @@ use Rattle.jc_declares.specs.Sites.{UseSite}
 use Rattle.jc_written_in.specs.declared.writing.Spot.{Spot}
 use Rattle.jc_written_in.specs.Writings.{type_in}
 
+-- x is in the list
 abbrev pub IsAmong : {X : Type 0} → X → List X → Type 0
 IsAmong x [] = ⊥
 IsAmong x (y ∷ ys) = (x ≡ y) ⊎ IsAmong x ys
@@ -20,6 +21,7 @@ IsAmong x (y ∷ ys) = (x ≡ y) ⊎ IsAmong x ys
 abbrev pub spot_of : Heads → UseSite → Spot
 spot_of H u = record { file = class_file H u.class; scope = record { 0 = u.scope }; is_static = u.is_static || is_interface H u.class }
 
+-- the entry of the table for a whole type that a body writes at this site
 abbrev pub use_of : Heads → Knowledge → UseSite → TypeTree → Use
 use_of H K u tree =
     record {

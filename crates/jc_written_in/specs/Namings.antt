@@ -15,5 +15,6 @@ pub record IsNamingOf (H : Heads) (N : Naming) : Type 0 where
   pub scene : IsScene N.heads N.index N.imports
   pub known : known_in N.known ≡ known N.heads
 
+-- the names of these sources are looked up in that
 abbrev pub IsNaming : List SourceUnit → Naming → Type 0
 IsNaming units N = IsNamingOf (heads_of (sites_of units)) N

@@ -15,6 +15,7 @@ use Rattle.jc_declares.specs.Readings.{reading_of}
 use Rattle.jc_declares.specs.Writing.{Wrote, wrote_type}
 use Rattle.jc_written_in.specs.declared.writing.Spot.{Spot}
 
+-- what a tree writes that stands in the scope of a spot, in a static place or not
 abbrev pub wrote_in : Heads → Knowledge → Spot → TypeTree → Wrote
 wrote_in H K spot tree = wrote_type H K (reading_of H K spot.scope.0 spot.is_static) tree
 

@@ -17,7 +17,8 @@ use Rattle.jc_parse_nodes.specs.Joins.{alone}
 use Rattle.jc_parse_heads.specs.UnitCode.{braced_groups_run, braced_items_run, catch_opening_run, do_test_run, finally_opening_run, for_opening_run, guarded_run, items_until_run, label_run, named_label_run, plain_guarded_run, roomy_resources_run, roomy_tested_run, some_catches_run, tested_run, with_last, with_node}
 use Rattle.jc_parse_nodes.specs.Nodes.{clause_made}
 use Rattle.jc_parse_nodes.specs.declared.pieces.Guarded.{Guarded}
-use Rattle.jc_parse_heads.proofs.Aheads.{body_ahead, braced_items_inside, case_item_ahead, group_ahead, item_ahead, member_ahead}
+use Rattle.jc_parse_heads.proofs.Aheads.{body_ahead, braced_items_inside, case_item_ahead, group_ahead, item_ahead}
+use Rattle.jc_parse_heads.proofs.LevelAdvances.{member_advances}
 use Rattle.jc_parse_heads.proofs.Starts.{arm_is, arm_node, block_is, block_node, case_is, for_is, for_node, labeled_is, labeled_node, switch_is, switch_node, while_is, while_node}
 use Rattle.jc_parse_unit.proofs.Tails.{Catch, Finally, catch_is, clauses_is, do_is, do_node, do_there, finally_is, guarded_is, guarded_node, plain_guarded_is, some_clauses_catch, branch_halts, if_halts, try_halts, try_node, try_plain_is}
 use Rattle.jc_parse_parts.specs.Parts.{head_tree}
@@ -230,10 +231,10 @@ pub statements::catches-returns-clause-read : goal.statements::catches-returns-c
 statements::catches-returns-clause-read t c = c.many.ensures.read (catch_run exprs c.args.height (levels exprs c.args.height)) (catch_ahead c.args.height) (λ ts r p. search rules)
 
 pub members::members-many-requires : goal.members::members-many-requires
-members::members-many-requires t c κs = (search rules, (λ ts h. omega (arith, h, c.requires), (member_run exprs c.args.height (levels exprs c.args.height), member_ahead c.args.height, λ ts r p. search rules)))
+members::members-many-requires t c κs = (search rules, (λ ts h. omega (arith, h, c.requires), (member_run exprs c.args.height (levels exprs c.args.height), member_advances c.args.height, λ ts r p. search rules)))
 
 pub members::members-returns : goal.members::members-returns
-members::members-returns t c = c.many.ensures.read (member_run exprs c.args.height (levels exprs c.args.height)) (member_ahead c.args.height) (λ ts r p. search rules)
+members::members-returns t c = c.many.ensures.read (member_run exprs c.args.height (levels exprs c.args.height)) (member_advances c.args.height) (λ ts r p. search rules)
 
 pub statements::arms-arms-init : goal.statements::arms-arms-init
 unfolding arms_run

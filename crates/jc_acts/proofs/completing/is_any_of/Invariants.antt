@@ -1,4 +1,4 @@
-use Rattle.std.proofs.Common.{◌≡◌, [], length, map, if◌then◌else◌}
+use Rattle.std.proofs.Common.{◌≡◌, length, map}
 use Rattle.jc_typed.specs.Parts.{type_of, types_of}
 use Rattle.jc_typed.specs.declared.program.TypedProgram.{TypedProgram}
 use Rattle.jc_meaning.specs.Statements as s

@@ -1,4 +1,4 @@
-use Rattle.std.proofs.Common.{◌≡◌, ◌-◌, ◌+◌, ◌∙◌, ℕ, length, sym, ap, arith}
+use Rattle.std.proofs.Common.{◌-◌, ◌+◌, ◌∙◌, ℕ, length, sym, ap, arith}
 use Rattle.std.specs.declared.option.Option.{Option}
 use Rattle.jc_calls.proofs.OnLine.{is_on, on_found, on_more, on_end, on_over}
 use Rattle.jc_calls.proofs.members.is_on_line.Goals as goal

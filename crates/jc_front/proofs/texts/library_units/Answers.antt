@@ -1,4 +1,4 @@
-use Rattle.std.proofs.Common.{◌≡◌, ◌<◌, ℕ, [], length, arith}
+use Rattle.std.proofs.Common.{◌<◌, [], length, arith}
 use Rattle.std.proofs.lemmas.Result.{err_from_is_err_and}
 use Rattle.jc_prelude.specs.Texts.{texts}
 use Rattle.jc_front.proofs.LibraryTurns.{goes_next, stops_here, ends}

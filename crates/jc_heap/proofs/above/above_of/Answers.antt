@@ -1,4 +1,4 @@
-use Rattle.std.proofs.Common.{arith, length, ◌<◌, ◌≤◌, ◌≡◌, [], ℕ, List, slice_index_or, ap, subst, sym, ◌∙◌}
+use Rattle.std.proofs.Common.{arith, length, ◌<◌, ◌≤◌, ◌≡◌, ℕ, List, slice_index_or, ap, subst, sym, ◌∙◌}
 use Rattle.jc_heap.specs.Above.{Added, AreAbove, IsIn, Put}
 use Rattle.jc_heap.specs.Supers.{supers_at}
 use Rattle.jc_heap.proofs.Walks.{begun, found, found_within, turn_at}

@@ -1,4 +1,4 @@
-use Rattle.std.proofs.Common.{◌≡◌, ◌+◌, ◌∙◌, ◌++◌, List, arith, subst, sym}
+use Rattle.std.proofs.Common.{◌+◌, ◌++◌, List, arith, subst, sym}
 use Rattle.std.proofs.lemmas.List.{append-nil, take_all}
 use Rattle.jc_class_out.specs.declared.model.MethodModel.{MethodModel}
 use Rattle.jc_heap.proofs.Signing.{signatures_step}

@@ -1,7 +1,6 @@
-use Rattle.std.proofs.Common.{◌≡◌, ◌+◌, ◌∙◌, ◌++◌, List, arith, subst}
+use Rattle.std.proofs.Common.{List, arith, subst}
 use Rattle.std.proofs.lemmas.List.{take_all}
 use Rattle.jc_class_out.specs.declared.model.ClassModel.{ClassModel}
-use Rattle.jc_class_out.specs.declared.model.MethodModel.{MethodModel}
 use Rattle.jc_heap.proofs.Signing.{class_added, signatures_none}
 use Rattle.jc_heap.specs.Signatures.{AreSignatures, all_methods}
 use Rattle.jc_heap.proofs.signatures.signatures_of.Goals as goal

@@ -1,4 +1,4 @@
-use Rattle.std.proofs.Common.{◌≡◌, ◌++◌, ◌∷◌, ◌∙◌, [], ℕ, List, length, reverse, sym, ap, subst}
+use Rattle.std.proofs.Common.{◌++◌, ◌∷◌, ◌∙◌, [], ℕ, List, length, reverse, sym, ap, subst}
 use Rattle.jc_jvm.specs.Classes.{field_on}
 use Rattle.jc_lookups.specs.Searched.{Stands}
 use Rattle.jc_lookups.specs.declared.seeking.Task.{Task}

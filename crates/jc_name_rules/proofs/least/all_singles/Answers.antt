@@ -1,4 +1,3 @@
-use Rattle.std.proofs.Common.{◌∙◌}
 use Rattle.jc_name_rules.proofs.Units.{next_unit}
 use Rattle.jc_name_rules.proofs.least.all_singles.Goals as goal
 

@@ -1,5 +1,4 @@
 use Rattle.std.proofs.Common.{arith, rules}
-use Rattle.jc_lexer.specs.declared.token.Key.TheVariants as key_of
 use Rattle.jc_expr_laws.specs.ExprReading.{exprs}
 use Rattle.jc_unit_laws.specs.UnitReading.{expr_in_run}
 use Rattle.jc_parse_heads.proofs.Aheads.{expr_in_inside}

@@ -6,7 +6,7 @@ use Rattle.jc_reading.specs.Reading.{Read}
 use Rattle.jc_expr_laws.specs.ExprReading.{exprs}
 use Rattle.jc_part_laws.specs.PartReading.{modifier_run, modifiers_run}
 use Rattle.jc_parse_heads.specs.UnitCode.{listed}
-use Rattle.jc_parse_heads.proofs.Aheads.{modifier_ahead}
+use Rattle.jc_parse_parts.proofs.PartInsides.{modifier_ahead}
 use Rattle.jc_parse_heads.proofs.Effects.{modifiers_none, modifiers_there}
 use Rattle.jc_parse_heads.proofs.Joinings.{cut, two_halts}
 use Rattle.jc_parse_heads.proofs.locals.some_modifiers.Goals as goal

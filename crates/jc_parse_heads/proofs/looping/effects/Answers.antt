@@ -1,7 +1,4 @@
 use Rattle.std.proofs.Common.{arith, rules}
-use Rattle.jc_lexer.specs.declared.token.Key.TheVariants as key_of
-use Rattle.jc_lexer.specs.declared.token.Sign.TheVariants as sign_of
-use Rattle.jc_parse_nodes.specs.declared.head_parts.ForKind.TheVariants as kind_is
 use Rattle.jc_expr_laws.specs.ExprReading.{strict_effect}
 use Rattle.jc_parse_heads.proofs.ForUpdates.{strict_inside}
 use Rattle.jc_parse_heads.proofs.looping.effects.Goals as goal

@@ -1,16 +1,13 @@
 use Rattle.std.proofs.Common.{List, sym, subst, arith, rules}
 use Rattle.std.proofs.lemmas.Result.{err_from_is_err_and}
-use Rattle.jc_lexer.specs.declared.token.Key.TheVariants as key_of
-use Rattle.jc_lexer.specs.declared.token.Sign.TheVariants as sign_of
 use Rattle.jc_reading.specs.Giving.{Is}
 use Rattle.jc_reading.specs.Reading.{Read}
 use Rattle.jc_part_laws.specs.PartReading.{modifier_run, modifiers_run}
 use Rattle.jc_expr_laws.specs.ExprReading.{exprs}
 use Rattle.jc_parse_heads.proofs.Joinings.{cut, two_halts}
-use Rattle.jc_parse_nodes.specs.declared.head_parts.ForKind.TheVariants as kind_is
 use Rattle.jc_tree.specs.declared.statement.Modifier.{Modifier}
 use Rattle.jc_parse_heads.specs.UnitCode.{listed}
-use Rattle.jc_parse_heads.proofs.Aheads.{modifier_ahead}
+use Rattle.jc_parse_parts.proofs.PartInsides.{modifier_ahead}
 use Rattle.jc_parse_heads.proofs.looping.first_modifiers.Goals as goal
 
 pub returns-in_err-first-clause-read : goal.returns-in_err-first-clause-read

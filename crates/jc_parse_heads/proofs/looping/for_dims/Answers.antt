@@ -1,13 +1,10 @@
 use Rattle.std.proofs.Common.{ℕ, sym, subst, arith}
-use Rattle.jc_lexer.specs.declared.token.Key.TheVariants as key_of
-use Rattle.jc_lexer.specs.declared.token.Sign.TheVariants as sign_of
 use Rattle.jc_reading.specs.Giving.{Gives}
 use Rattle.jc_reading.specs.Reading.{Read}
 use Rattle.jc_parse_type.specs.TypeReading.{dims_run}
 use Rattle.jc_parse_heads.proofs.Joinings.{two_gives}
 use Rattle.jc_parse_nodes.specs.declared.head_parts.ForKind.{ForKind}
 use Rattle.jc_parse_nodes.specs.declared.head_parts.ForDims.{ForDims}
-use Rattle.jc_parse_nodes.specs.declared.head_parts.ForKind.TheVariants as kind_is
 use Rattle.jc_parse_heads.specs.HeadCode.{for_kind_run}
 use Rattle.jc_parse_heads.proofs.ForForms.{for_dims_is}
 use Rattle.jc_parse_heads.proofs.looping.for_dims.Goals as goal

@@ -1,13 +1,10 @@
 use Rattle.std.proofs.Common.{List, sym, subst, arith}
 use Rattle.std.proofs.lemmas.Result.{err_from_is_err_and}
-use Rattle.jc_lexer.specs.declared.token.Key.TheVariants as key_of
-use Rattle.jc_lexer.specs.declared.token.Sign.TheVariants as sign_of
 use Rattle.jc_tree.specs.declared.statement.ForHead.{ForHead}
 use Rattle.jc_reading.specs.Giving.{Gives, Halts}
 use Rattle.jc_reading.specs.Reading.{Read}
 use Rattle.jc_parse_heads.proofs.Joinings.{two_gives, two_halts}
 use Rattle.jc_parse_nodes.specs.declared.head_parts.ForTyped.{ForTyped}
-use Rattle.jc_parse_nodes.specs.declared.head_parts.ForKind.TheVariants as kind_is
 use Rattle.jc_tree.specs.declared.statement.Modifier.{Modifier}
 use Rattle.jc_parse_heads.specs.HeadCode.{first_modifiers_run, for_typed_run, typed_head}
 use Rattle.jc_parse_heads.proofs.ForForms.{for_moded_is}

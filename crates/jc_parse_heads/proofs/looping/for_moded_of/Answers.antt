@@ -1,8 +1,5 @@
 use Rattle.std.proofs.Common.{List, arith, rules}
-use Rattle.jc_lexer.specs.declared.token.Key.TheVariants as key_of
-use Rattle.jc_lexer.specs.declared.token.Sign.TheVariants as sign_of
 use Rattle.jc_parse_nodes.specs.declared.head_parts.ForTyped.{ForTyped}
-use Rattle.jc_parse_nodes.specs.declared.head_parts.ForKind.TheVariants as kind_is
 use Rattle.jc_tree.specs.declared.statement.Modifier.{Modifier}
 use Rattle.jc_parse_heads.specs.HeadCode.{typed_head}
 use Rattle.jc_parse_heads.proofs.looping.for_moded_of.Goals as goal

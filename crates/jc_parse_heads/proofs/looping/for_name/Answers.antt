@@ -1,13 +1,10 @@
 use Rattle.std.proofs.Common.{sym, subst, arith}
 use Rattle.std.proofs.lemmas.Result.{err_from_is_err_and}
-use Rattle.jc_lexer.specs.declared.token.Key.TheVariants as key_of
-use Rattle.jc_lexer.specs.declared.token.Sign.TheVariants as sign_of
 use Rattle.jc_reading.specs.Giving.{Gives, Halts}
 use Rattle.jc_reading.specs.Reading.{Read}
 use Rattle.jc_parse_heads.proofs.Joinings.{two_gives, two_halts}
 use Rattle.jc_parse_nodes.specs.declared.head_parts.ForDims.{ForDims}
 use Rattle.jc_parse_nodes.specs.declared.head_parts.ForNamed.{ForNamed}
-use Rattle.jc_parse_nodes.specs.declared.head_parts.ForKind.TheVariants as kind_is
 use Rattle.jc_tree.specs.declared.name.Ident.{Ident}
 use Rattle.jc_reading.specs.Reading.{an_ident_at}
 use Rattle.jc_parse_heads.specs.HeadCode.{for_dims_run}

@@ -1,11 +1,8 @@
 use Rattle.std.proofs.Common.{◌≡◌, sym, subst, arith}
-use Rattle.jc_lexer.specs.declared.token.Key.TheVariants as key_of
-use Rattle.jc_lexer.specs.declared.token.Sign.TheVariants as sign_of
 use Rattle.jc_tree.specs.declared.statement.ForHead.{ForHead}
 use Rattle.jc_reading.specs.Giving.{Gives, Halts}
 use Rattle.jc_reading.specs.Reading.{Read}
 use Rattle.jc_parse_type.specs.TypeReading.{type_run}
-use Rattle.jc_parse_nodes.specs.declared.head_parts.ForKind.TheVariants as kind_is
 use Rattle.jc_reading.specs.Reading.{Stopped}
 use Rattle.jc_reading.specs.declared.reading.Halt.{Halt}
 use Rattle.jc_parse_heads.specs.HeadCode.{for_effects_run}

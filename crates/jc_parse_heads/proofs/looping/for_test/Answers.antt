@@ -1,12 +1,9 @@
 use Rattle.std.proofs.Common.{sym, subst, arith}
-use Rattle.jc_lexer.specs.declared.token.Key.TheVariants as key_of
-use Rattle.jc_lexer.specs.declared.token.Sign.TheVariants as sign_of
 use Rattle.jc_reading.specs.Giving.{Gives}
 use Rattle.jc_reading.specs.Reading.{Read}
 use Rattle.jc_expr_laws.specs.ExprReading.{exprs}
 use Rattle.jc_parse_heads.proofs.Joinings.{two_gives}
 use Rattle.jc_parse_nodes.specs.declared.head_parts.ForTail.{ForTail}
-use Rattle.jc_parse_nodes.specs.declared.head_parts.ForKind.TheVariants as kind_is
 use Rattle.jc_reading.specs.Reading.{perhaps}
 use Rattle.jc_unit_laws.specs.UnitReading.{expr_in_run}
 use Rattle.jc_parse_heads.specs.HeadCode.{for_update_run}

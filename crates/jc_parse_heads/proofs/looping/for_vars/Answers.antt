@@ -1,6 +1,4 @@
 use Rattle.std.proofs.Common.{Option, sym, subst, arith}
-use Rattle.jc_lexer.specs.declared.token.Key.TheVariants as key_of
-use Rattle.jc_lexer.specs.declared.token.Sign.TheVariants as sign_of
 use Rattle.jc_reading.specs.Giving.{Gives}
 use Rattle.jc_reading.specs.Reading.{Read}
 use Rattle.jc_parse_heads.proofs.Joinings.{two_gives}

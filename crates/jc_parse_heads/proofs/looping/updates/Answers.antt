@@ -1,9 +1,6 @@
 use Rattle.std.proofs.Common.{◌≡◌, List, sym, subst, arith}
-use Rattle.jc_lexer.specs.declared.token.Key.TheVariants as key_of
-use Rattle.jc_lexer.specs.declared.token.Sign.TheVariants as sign_of
 use Rattle.jc_reading.specs.Giving.{Gives, Halts}
 use Rattle.jc_reading.specs.Reading.{Read}
-use Rattle.jc_parse_nodes.specs.declared.head_parts.ForKind.TheVariants as kind_is
 use Rattle.jc_tree.specs.declared.expression.Expr.{Expr}
 use Rattle.jc_reading.specs.Reading.{Stopped, becoming}
 use Rattle.jc_reading.specs.declared.reading.Halt.{Halt}

@@ -1,5 +1,4 @@
 use Rattle.std.proofs.Common.{map, sym, subst, arith, rules}
-use Rattle.jc_lexer.specs.declared.token.Key.TheVariants as key_of
 use Rattle.jc_lexer.specs.declared.token.Sign.TheVariants as sign_of
 use Rattle.jc_reading.specs.Giving.{Gives}
 use Rattle.jc_reading.specs.Reading.{Read, as_new, behind_it, each_behind}

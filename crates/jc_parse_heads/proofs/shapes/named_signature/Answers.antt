@@ -1,7 +1,5 @@
 use Rattle.std.proofs.Common.{arith}
 use Rattle.std.proofs.lemmas.Result.{err_from_is_err_and}
-use Rattle.jc_lexer.specs.declared.token.Key.TheVariants as key_of
-use Rattle.jc_lexer.specs.declared.token.Sign.TheVariants as sign_of
 use Rattle.jc_reading.specs.Reading.{an_ident_at}
 use Rattle.jc_parse_heads.specs.MemberCode.{named_made, named_signature_run, signature_run}
 use Rattle.jc_parse_heads.proofs.Joinings.{two_gives, two_halts}

@@ -1,7 +1,5 @@
 use Rattle.std.proofs.Common.{arith}
 use Rattle.std.proofs.lemmas.Result.{err_from_is_err_and}
-use Rattle.jc_lexer.specs.declared.token.Key.TheVariants as key_of
-use Rattle.jc_lexer.specs.declared.token.Sign.TheVariants as sign_of
 use Rattle.jc_parse_type.specs.TypeReading.{type_run}
 use Rattle.jc_parse_heads.specs.MemberCode.{named_tail_run, typed_shape_run}
 use Rattle.jc_parse_nodes.specs.Nodes.{typed_shape}

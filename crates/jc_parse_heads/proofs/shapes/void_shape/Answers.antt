@@ -1,7 +1,6 @@
 use Rattle.std.proofs.Common.{arith}
 use Rattle.std.proofs.lemmas.Result.{err_from_is_err_and}
 use Rattle.jc_lexer.specs.declared.token.Key.TheVariants as key_of
-use Rattle.jc_lexer.specs.declared.token.Sign.TheVariants as sign_of
 use Rattle.jc_reading.specs.Kinds.{key_code}
 use Rattle.jc_reading.specs.Reading.{at_kind}
 use Rattle.jc_parse_heads.specs.MemberCode.{named_signature_run, void_shape, void_shape_run}

@@ -1,10 +1,6 @@
 use Rattle.std.proofs.Common.{rules}
-use Rattle.jc_tree.specs.declared.statement.ClauseHead.TheVariants as clause_head_of
-use Rattle.jc_tree.specs.declared.statement.ForHead.TheVariants as for_of
-use Rattle.jc_tree.specs.declared.statement.ForInit.TheVariants as init_of
 use Rattle.jc_tree.specs.declared.statement.Resource.{Resource}
 use Rattle.jc_parse_nodes.specs.declared.head_parts.MoreResources.{MoreResources}
-use Rattle.jc_parse_nodes.specs.declared.head_parts.ForKind.TheVariants as kind_is
 use Rattle.jc_parse_nodes.proofs.head_nodes.resources_of.Goals as goal
 
 pub returns : goal.returns

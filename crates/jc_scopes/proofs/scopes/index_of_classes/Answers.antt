@@ -1,4 +1,4 @@
-use Rattle.std.proofs.Common.{◌≡◌, ℕ, List, arith, ap, ◌∙◌}
+use Rattle.std.proofs.Common.{ℕ, List, arith, ap, ◌∙◌}
 use Rattle.jc_scopes.specs.Entries.{with_entry}
 use Rattle.jc_scopes.proofs.Turned.{binaries_turn}
 use Rattle.jc_scopes.proofs.scopes.index_of_classes.Goals as goal

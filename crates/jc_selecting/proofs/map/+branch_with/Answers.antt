@@ -1,4 +1,4 @@
-use Rattle.std.proofs.Common.{◌≡◌, ◌∙◌, ◌<◌, ◌/◌, ℕ, ap}
+use Rattle.std.proofs.Common.{◌∙◌, ap}
 use Rattle.std.specs.declared.option.Option.{Option}
 use Rattle.jc_selecting.proofs.Bits.{here_even, here_odd, here_zero, others_even, others_odd, others_zero}
 use Rattle.jc_selecting.specs.Held.{content, held_on}

@@ -1,4 +1,4 @@
-use Rattle.std.proofs.Common.{◌≡◌, ◌<◌, ◌≤◌, ◌+◌, ◌*◌, length, ℕ}
+use Rattle.std.proofs.Common.{◌≡◌, ◌<◌, ◌≤◌, ◌+◌, ◌*◌, length}
 use Rattle.jc_typed.specs.Parts.{links_of, operands_of}
 use Rattle.jc_typed.specs.Bulk.{capped, links_bulk, operands_bulk}
 use Rattle.jc_typed.proofs.expression_bulk.+exprs.Given as goal

@@ -1,4 +1,4 @@
-use Rattle.std.proofs.Common.{◌≡◌, refl}
+use Rattle.std.proofs.Common.{refl}
 use Rattle.jc_typed.specs.Bulk.{stmt_bulk, stmts_bulk}
 use Rattle.jc_typed.specs.Parts.{stmt_of, stmts_of}
 use Rattle.jc_typed.proofs.Weighing.{capped_copies}

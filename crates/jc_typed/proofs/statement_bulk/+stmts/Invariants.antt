@@ -1,4 +1,4 @@
-use Rattle.std.proofs.Common.{◌≡◌, ◌<◌, ◌≤◌, ◌+◌, ◌*◌, length, ℕ}
+use Rattle.std.proofs.Common.{◌≡◌, ◌<◌, ◌≤◌, ◌+◌, ◌*◌, length}
 use Rattle.jc_typed.specs.Parts.{arms_of, catches_of, stmts_of}
 use Rattle.jc_typed.specs.Bulk.{capped, arms_bulk, catches_bulk, stmts_bulk}
 use Rattle.jc_typed.proofs.statement_bulk.+stmts.Given as goal

@@ -1,4 +1,4 @@
-use Rattle.std.proofs.Common.{◌≡◌, ◌<◌, ◌≤◌, ◌+◌, ◌*◌, length, ℕ}
+use Rattle.std.proofs.Common.{◌≡◌, ◌<◌, ◌≤◌, ◌+◌, length}
 use Rattle.jc_typed.specs.Parts.{declared_of}
 use Rattle.jc_typed.specs.Bulk.{capped, declared_bulk}
 use Rattle.jc_typed.proofs.statement_bulk.declared_bulk.Given as goal

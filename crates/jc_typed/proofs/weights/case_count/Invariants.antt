@@ -1,4 +1,4 @@
-use Rattle.std.proofs.Common.{◌≡◌, ◌<◌, ◌≤◌, ◌+◌, ◌*◌, length, ℕ}
+use Rattle.std.proofs.Common.{◌≡◌, ◌<◌, ◌≤◌, ◌+◌, length}
 use Rattle.jc_typed.specs.Parts.{cases_of}
 use Rattle.jc_typed.specs.Bulk.{capped}
 use Rattle.jc_typed.proofs.weights.case_count.Given as goal

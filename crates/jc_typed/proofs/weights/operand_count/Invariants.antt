@@ -1,4 +1,4 @@
-use Rattle.std.proofs.Common.{◌≡◌, ◌<◌, ◌≤◌, ◌+◌, ◌*◌, length, ℕ}
+use Rattle.std.proofs.Common.{◌≡◌, ◌<◌, ◌≤◌, ◌+◌, length}
 use Rattle.jc_typed.specs.Parts.{operands_of}
 use Rattle.jc_typed.specs.Bulk.{capped, operand_count}
 use Rattle.jc_typed.proofs.weights.operand_count.Given as goal

@@ -1,4 +1,4 @@
-use Rattle.std.proofs.Common.{◌≡◌, ◌<◌, ◌≤◌, ◌+◌, ◌*◌, length, ℕ}
+use Rattle.std.proofs.Common.{◌≡◌, ◌<◌, ◌≤◌, ◌+◌, length}
 use Rattle.jc_typed.specs.Parts.{steps_of}
 use Rattle.jc_typed.specs.Bulk.{capped, steps_weight}
 use Rattle.jc_typed.proofs.weights.steps_weight.Given as goal

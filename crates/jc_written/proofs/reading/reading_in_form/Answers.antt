@@ -1,4 +1,4 @@
-use Rattle.std.proofs.Common.{◌≡◌, sym, ap, ◌∙◌}
+use Rattle.std.proofs.Common.{sym, ap, ◌∙◌}
 use Rattle.jc_declares.specs.declared.heads.ScopeForm.{ScopeForm}
 use Rattle.jc_declares.specs.Readings.{method_reading}
 use Rattle.jc_written.specs.At.{form_reading}

@@ -1,6 +1,5 @@
-use Rattle.std.proofs.Common.{◌≡◌, ◌∙◌, List, sym, ap}
+use Rattle.std.proofs.Common.{◌∙◌, List, sym, ap}
 use Rattle.std.specs.Option.{option_copied}
-use Rattle.std.specs.declared.option.Option.{Option}
 use Rattle.jc_class_out.specs.declared.model.ClassModel.{ClassModel}
 use Rattle.jc_rows.specs.Laid.{all_rows}
 use Rattle.jc_rows.proofs.Placement.{no_class, no_method, no_place, placed_is}
