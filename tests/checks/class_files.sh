@@ -1,4 +1,4 @@
-# What javag writes with --out is read by javap and loaded by java, where they are there.
+# What javag writes with --out is read by javap and run by java, where they are there.
 set -u
 javag=$1
 for tool in javap java; do
@@ -17,6 +17,6 @@ javap -v -p made/Main.class > listing 2>&1 || { echo "class files: javap failed"
 grep -q 'major version: 51' listing || { echo "class files: not of major version 51"; exit 1; }
 java -Xverify:all -cp made Main > shown 2> errors || { echo "class files: java failed"; cat errors; exit 1; }
 "$javag" --run Main Main.java > told || { echo "class files: javag --run failed"; exit 1; }
-# a real System.out.write keeps what isn't flushed, so compare what java shows with the first bytes
-cmp -s shown told || [ ! -s shown ] || { echo "class files: java and javag show different bytes"; exit 1; }
-echo "class files: javap reads and java loads what javag writes"
+# a real System.out.write keeps what isn't flushed, and the end of a line flushes: so the last byte is one
+cmp -s shown told || { echo "class files: java and javag show different bytes"; exit 1; }
+echo "class files: javap reads and java runs what javag writes"

@@ -9,6 +9,31 @@ tar -C "$top" --exclude=out --exclude=.git -cf - . | tar -C "$copy" -xf - || exi
 status=0
 cd "$copy/examples" || exit 1
 
+# a run of words by the build without proofs: what is to stand on the output, the status, the last line of the stream of errors, and the words
+runs() {
+    local out=$1 wanted=$2 line=$3 got
+    shift 3
+    { time "$copy/bin/javag" "$@" >"$copy/out.txt" 2>"$copy/err.txt"; } 2>"$copy/seconds.txt"
+    got=$?
+    if [ "$got" -ne "$wanted" ] || [ "$(cat "$copy/out.txt")" != "$out" ] || [[ $(head -n 1 "$copy/err.txt") != "javag: nothing is proved yet"* ]] ||
+        [[ $(tail -n 1 "$copy/err.txt") != "$line"* ]]; then
+        echo "first use: javag $*: status $got and not $wanted, or other output:"
+        cat "$copy/out.txt" "$copy/err.txt"
+        status=1
+    fi
+}
+
+# one source that is there and one that isn't; what README says of minutes is held to processor time, as any time by the clock is too short on a busy
+# machine, and to the lesser of the two, as a processor that others use too is slower
+TIMEFORMAT='%0U %0S'
+runs Hi 0 "javag: nothing is proved yet" --run Main Main.java
+read -r user system <"$copy/seconds.txt"
+took=$((user + system))
+runs "" 6 "javag: cannot read Missing.java" --run Main Missing.java
+read -r user system <"$copy/seconds.txt"
+[ "$took" -le $((user + system)) ] || took=$((user + system))
+[ "$took" -lt 120 ] || { echo "first use: a run without a program took $took seconds of processor time, and not under 120"; status=1; }
+
 # words, and what stands on the stream of errors where the status is 70
 refuses() {
     local said
@@ -27,5 +52,5 @@ sleep 1
 echo "fn" >>"$copy/crates/jc_rules/src/lib.rt"
 refuses "the program could not be proved and built"
 [ ! -e "$copy/crates/javag/out/javag" ] || { echo "first use: the old program stands after a build that failed"; status=1; }
-[ "$status" -ne 0 ] || echo "first use: words that write are refused without a program, and an old program never runs where a build fails"
+[ "$status" -ne 0 ] || echo "first use: without a program words run in $took seconds of processor time, those that write are refused, and no old program runs where a build fails"
 exit "$status"
