@@ -6,14 +6,13 @@ use Rattle.std.proofs.lemmas.Bool.{or_left, true≢false}
 use Rattle.jc_rules.proofs.Truths.{self_equal, and_first}
 use Rattle.jc_types.specs.declared.declarations.ClassDecl.{ClassDecl}
 use Rattle.jc_types.specs.declared.declarations.MethodDecl.{MethodDecl}
-use Rattle.jc_types.specs.declared.form.Ty.{Ty}
 use Rattle.jc_types.specs.declared.ids.ClassId.{ClassId}
 use Rattle.jc_types.specs.declared.ids.MethodId.{MethodId}
 use Rattle.jc_types.specs.declared.table.Table.{Table}
 use Rattle.jc_overriding.specs.declared.view.MethodView.{MethodView}
 use Rattle.jc_overriding.specs.Overriding.{candidates_from, inherits_in, is_candidate, is_inheritable, is_instance, is_member_of, is_method, is_own, owner, replaced, same_class, stands_for, subsignature_of, with_view, without_replaced, is_abstract}
 use Rattle.jc_overriding.specs.Signatures.{override_equivalent, subsignature}
-use Rattle.jc_overriding.specs.Viewing.{Seeing, With, Raised, class_view, declared_view, is_static, own_type, seeing_of, viewed_by, viewed_in}
+use Rattle.jc_overriding.specs.Viewing.{class_view, declared_view, is_static, own_type}
 use Rattle.jc_judge.specs.Kinds.{class_of}
 use Rattle.jc_header_rules.specs.Checked.{IsAmong}
 use Rattle.jc_header_rules.specs.Clashes.{all_methods, headers_breaks}
