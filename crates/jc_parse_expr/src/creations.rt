@@ -1,7 +1,6 @@
 //! What stands behind `new` (JLS 15.9, 15.10).
 ghost use Rattle.std.specs.Prelude.{◌<◌, ◌^◌, ◌∷◌, [], length, IfOk};
 ghost use Rattle.jc_lexer.specs.declared.token.Sign.TheVariants as sign_of;
-ghost use Rattle.jc_tree.specs.declared.types.BaseTree.TheVariants as base_of;
 ghost use Rattle.jc_tree.specs.declared.expression.Expr.TheVariants as expr_of;
 ghost use Rattle.jc_tree.specs.Heights.{creation_height, expr_height};
 ghost use Rattle.jc_reading.specs.Kinds.{sign_code};

@@ -1,7 +1,6 @@
 //! Nodes that are built of trees with their heights.
 ghost use Rattle.std.specs.Prelude.{◌≡◌, IfOk};
 ghost use Rattle.jc_parse_expr.specs.BinaryLevels.{measured_operand};
-ghost use Rattle.jc_tree.specs.declared.expression.Expr.TheVariants as expr_of;
 ghost use Rattle.jc_tree.specs.declared.expression.Operand.TheVariants as operand_of;
 ghost use Rattle.jc_parse_expr.specs.Nodes.{assign_node, binary_node, cast_node, chain_node, conditional_node, prefix_node};
 

@@ -1,6 +1,5 @@
 //! Class literals and outer `this` (JLS 15.8.2, 15.8.4).
 ghost use Rattle.std.specs.Prelude.{◌≡◌, ℕ, ◌<◌, ◌^◌, [], ◌∷◌, List, length, map, IfOk, MatchOption, MatchResult};
-ghost use Rattle.jc_lexer.specs.declared.token.Sign.TheVariants as sign_of;
 ghost use Rattle.jc_lexer.specs.declared.token.Token.{Token};
 ghost use Rattle.jc_tree.specs.declared.name.Ident.{Ident};
 ghost use Rattle.jc_tree.specs.Heights.{expr_height};

@@ -1,6 +1,5 @@
 //! Heads of `for` (JLS 14.14).
 ghost use Rattle.std.specs.Prelude.{◌<◌, ◌≤◌, ◌≡◌, ◌^◌, List, length, IfOk};
-ghost use Rattle.jc_lexer.specs.declared.token.Sign.TheVariants as sign_of;
 ghost use Rattle.jc_reading.specs.Giving.{Gives};
 ghost use Rattle.jc_reading.specs.Reading.{Read, becoming};
 ghost use Rattle.jc_expr_laws.specs.ExprReading.{exprs, strict_effect};

@@ -1,6 +1,5 @@
 //! What is declared beside types: fields, methods and their scopes, with the types that their bodies write.
 ghost use Rattle.std.specs.Prelude.{◌≡◌, ◌++◌, [], ◌∷◌, map, cond, OnOk, IfOk, true};
-ghost use Rattle.jc_declares.specs.Sites as site;
 ghost use Rattle.jc_declares.specs.Sites.{innermost, variable_sites, listed_params, field_sites, field_walk, method_walk, implied_sites, class_sites, walked, only_uses, used_at, uses_in_each, uses_of_stmt, uses_of_var};
 ghost use Rattle.jc_declares.specs.Words.{says_static};
 ghost use Rattle.jc_sites.specs.Joining.{with_sites, counted};
