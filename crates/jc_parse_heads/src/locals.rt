@@ -41,6 +41,7 @@ pub fn finally_opening(tokens: &[Token]) -> Result<Found<'_, Opening>, Halt>
 }
 
 /// A catch up to its block.
+#[inline(never)]
 pub fn catch_opening(
     alloc: Global,
     tokens: &[Token],
@@ -56,6 +57,7 @@ pub fn catch_opening(
 }
 
 /// A `for` up to its body.
+#[inline(never)]
 #[tactic(auto, using(crate::proofs::ForForms::for_opening_none))]
 pub fn for_opening(
     alloc: Global,
@@ -75,6 +77,7 @@ pub fn for_opening(
 }
 
 /// The resources of a `try`, where there is room for them.
+#[inline(never)]
 #[tactic(auto, using(crate::proofs::ResourceForms::resources_none))]
 pub fn resources(alloc: Global, tokens: &[Token], height: u32) -> Result<Found<'_, Resources>, Halt>
     requires { length tokens.now < 2 ^ 32 }
@@ -104,6 +107,7 @@ fn ended_strict(alloc: Global, tokens: &[Token], height: u32) -> Result<Found<'_
 }
 
 /// An effect and a semicolon.
+#[inline(never)]
 #[tactic(auto, using(crate::proofs::Effects::ended_effect_is))]
 pub fn ended_effect(alloc: Global, tokens: &[Token], height: u32) -> Result<Found<'_, Stmt>, Halt>
     requires { length tokens.now < 2 ^ 32 }
@@ -151,6 +155,7 @@ fn typed_or<'a>(
 }
 
 /// Variables without modifiers, or an effect.
+#[inline(never)]
 pub fn local_or_effect(
     alloc: Global,
     tokens: &[Token],
@@ -191,6 +196,7 @@ fn some_modifiers(
 }
 
 /// Variables with modifiers.
+#[inline(never)]
 pub fn local(alloc: Global, tokens: &[Token], height: u32) -> Result<Found<'_, Stmt>, Halt>
     requires { length tokens.now < 2 ^ 32 }
     ensures { Gives result (local_run exprs height tokens.now) }

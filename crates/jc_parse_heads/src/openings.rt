@@ -145,6 +145,7 @@ pub fn tested(
 }
 
 /// A keyword and the test behind it, where there is room for them.
+#[inline(never)]
 #[tactic(auto, using(crate::proofs::Starts::roomy_none, crate::proofs::Starts::roomy_there))]
 pub fn roomy_tested(
     alloc: Global,
@@ -235,6 +236,7 @@ fn default_label(tokens: &[Token]) -> Result<Found<'_, Opening>, Halt>
 }
 
 /// A label of a switch.
+#[inline(never)]
 #[tactic(auto, using(crate::proofs::Starts::label_case, crate::proofs::Starts::label_default))]
 pub fn label(alloc: Global, tokens: &[Token], height: u32) -> Result<Found<'_, Opening>, Halt>
     requires { length tokens.now < 2 ^ 32 }

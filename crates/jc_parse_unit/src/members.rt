@@ -340,6 +340,7 @@ fn super_or_item(alloc: Global, tokens: &[Token], height: u32) -> Result<Found<'
 
 /// A declaration or variables, with their modifiers.
 #[cycle(units)]
+#[inline(never)]
 fn moded_item(alloc: Global, tokens: &[Token], height: u32) -> Result<Found<'_, Stmt>, Halt>
     requires { length tokens.now < 2 ^ 32 }
     ensures { Gives result (moded_item_run exprs height (levels exprs height) tokens.now) }

@@ -150,6 +150,7 @@ pub fn braced_items(
 
 /// A block.
 #[cycle(units)]
+#[inline(never)]
 fn block(alloc: Global, tokens: &[Token], height: u32) -> Result<Found<'_, Stmt>, Halt>
     requires { length tokens.now < 2 ^ 32 }
     ensures { Gives result (block_run exprs height (levels exprs height) tokens.now) }
@@ -161,6 +162,7 @@ fn block(alloc: Global, tokens: &[Token], height: u32) -> Result<Found<'_, Stmt>
 
 /// A `while`.
 #[cycle(units)]
+#[inline(never)]
 fn while_at(alloc: Global, tokens: &[Token], height: u32) -> Result<Found<'_, Stmt>, Halt>
     requires { length tokens.now < 2 ^ 32 }
     ensures { Gives result (while_run exprs height (levels exprs height) tokens.now) }
@@ -172,6 +174,7 @@ fn while_at(alloc: Global, tokens: &[Token], height: u32) -> Result<Found<'_, St
 
 /// A `do`.
 #[cycle(units)]
+#[inline(never)]
 #[tactic(auto, using(crate::proofs::Tails::do_none))]
 fn do_at(alloc: Global, tokens: &[Token], height: u32) -> Result<Found<'_, Stmt>, Halt>
     requires { length tokens.now < 2 ^ 32 }
@@ -188,6 +191,7 @@ fn do_at(alloc: Global, tokens: &[Token], height: u32) -> Result<Found<'_, Stmt>
 
 /// A `for`.
 #[cycle(units)]
+#[inline(never)]
 fn for_at(alloc: Global, tokens: &[Token], height: u32) -> Result<Found<'_, Stmt>, Halt>
     requires { length tokens.now < 2 ^ 32 }
     ensures { Gives result (for_run exprs height (levels exprs height) tokens.now) }
@@ -210,6 +214,7 @@ fn labeled(alloc: Global, tokens: &[Token], height: u32) -> Result<Found<'_, Stm
 
 /// A part of a switch.
 #[cycle(units)]
+#[inline(never)]
 fn group(alloc: Global, tokens: &[Token], height: u32) -> Result<Found<'_, Clause>, Halt>
     requires { length tokens.now < 2 ^ 32 }
     ensures { Gives result (case_run exprs height (levels exprs height) tokens.now) }
@@ -257,6 +262,7 @@ fn braced_groups(
 
 /// A `switch`.
 #[cycle(units)]
+#[inline(never)]
 fn switch_at(alloc: Global, tokens: &[Token], height: u32) -> Result<Found<'_, Stmt>, Halt>
     requires { length tokens.now < 2 ^ 32 }
     ensures { Gives result (switch_run exprs height (levels exprs height) tokens.now) }
@@ -268,6 +274,7 @@ fn switch_at(alloc: Global, tokens: &[Token], height: u32) -> Result<Found<'_, S
 
 /// A `finally`.
 #[cycle(units)]
+#[inline(never)]
 fn finally_at(alloc: Global, tokens: &[Token], height: u32) -> Result<Found<'_, Clause>, Halt>
     requires { length tokens.now < 2 ^ 32 }
     ensures { Gives result (finally_run exprs height (levels exprs height) tokens.now) }
@@ -279,6 +286,7 @@ fn finally_at(alloc: Global, tokens: &[Token], height: u32) -> Result<Found<'_, 
 
 /// A catch.
 #[cycle(units)]
+#[inline(never)]
 fn catch_at(alloc: Global, tokens: &[Token], height: u32) -> Result<Found<'_, Clause>, Halt>
     requires { length tokens.now < 2 ^ 32 }
     ensures { Gives result (catch_run exprs height (levels exprs height) tokens.now) }
@@ -290,6 +298,7 @@ fn catch_at(alloc: Global, tokens: &[Token], height: u32) -> Result<Found<'_, Cl
 
 /// Catches, as many as stand there.
 #[cycle(units)]
+#[inline(never)]
 fn catches(
     alloc: Global,
     tokens: &[Token],
@@ -311,6 +320,7 @@ fn catches(
 
 /// Catches, and a `finally` or none.
 #[cycle(units)]
+#[inline(never)]
 fn clauses(alloc: Global, tokens: &[Token], height: u32) -> Result<Found<'_, Items<Clause>>, Halt>
     requires { length tokens.now < 2 ^ 32 }
     ensures { Gives result (clauses_run exprs height (levels exprs height) tokens.now) }
@@ -322,6 +332,7 @@ fn clauses(alloc: Global, tokens: &[Token], height: u32) -> Result<Found<'_, Ite
 
 /// What stands behind a block of a `try` without resources: a catch or a `finally` at least.
 #[cycle(units)]
+#[inline(never)]
 #[tactic(auto, using(crate::proofs::Tails::some_clauses_last))]
 fn some_clauses(
     alloc: Global,
@@ -341,6 +352,7 @@ fn some_clauses(
 
 /// One catch or more.
 #[cycle(units)]
+#[inline(never)]
 fn some_catches(
     alloc: Global,
     tokens: &[Token],
@@ -363,6 +375,7 @@ fn some_catches(
 
 /// A block, and what stands behind that of a `try` with resources.
 #[cycle(units)]
+#[inline(never)]
 fn guarded(alloc: Global, tokens: &[Token], height: u32) -> Result<Found<'_, Guarded>, Halt>
     requires { length tokens.now < 2 ^ 32 }
     ensures { Gives result (guarded_run height tokens.now) }
@@ -374,6 +387,7 @@ fn guarded(alloc: Global, tokens: &[Token], height: u32) -> Result<Found<'_, Gua
 
 /// A block, and what stands behind that of a `try` without resources.
 #[cycle(units)]
+#[inline(never)]
 fn plain_guarded(alloc: Global, tokens: &[Token], height: u32) -> Result<Found<'_, Guarded>, Halt>
     requires { length tokens.now < 2 ^ 32 }
     ensures { Gives result (plain_guarded_run height tokens.now) }
@@ -385,6 +399,7 @@ fn plain_guarded(alloc: Global, tokens: &[Token], height: u32) -> Result<Found<'
 
 /// A `try` behind its keyword, with resources.
 #[cycle(units)]
+#[inline(never)]
 fn try_with(alloc: Global, at: u32, tokens: &[Token], height: u32) -> Result<Found<'_, Stmt>, Halt>
     requires { length tokens.now < 2 ^ 32 }
     ensures { Gives result (as_new (with_node at) (in_turn (roomy_resources_run height) (guarded_run height)) tokens.now) }
@@ -396,6 +411,7 @@ fn try_with(alloc: Global, at: u32, tokens: &[Token], height: u32) -> Result<Fou
 
 /// A `try`.
 #[cycle(units)]
+#[inline(never)]
 fn try_at(alloc: Global, tokens: &[Token], height: u32) -> Result<Found<'_, Stmt>, Halt>
     requires { length tokens.now < 2 ^ 32 }
     ensures { Gives result (try_run exprs height (levels exprs height) tokens.now) }
@@ -410,6 +426,7 @@ fn try_at(alloc: Global, tokens: &[Token], height: u32) -> Result<Found<'_, Stmt
 
 /// A label or an effect.
 #[cycle(units)]
+#[inline(never)]
 #[tactic(auto, using(crate::proofs::Tails::plain_none, crate::proofs::Tails::plain_label, crate::proofs::Tails::plain_effect))]
 fn plain(alloc: Global, tokens: &[Token], height: u32) -> Result<Found<'_, Stmt>, Halt>
     requires { length tokens.now < 2 ^ 32 }
@@ -426,6 +443,7 @@ fn plain(alloc: Global, tokens: &[Token], height: u32) -> Result<Found<'_, Stmt>
 
 /// An arm of an `if`.
 #[cycle(units)]
+#[inline(never)]
 fn arm(alloc: Global, tokens: &[Token], height: u32) -> Result<Found<'_, Clause>, Halt>
     requires { length tokens.now < 2 ^ 32 }
     ensures { Gives result (arm_run exprs height (levels exprs height) tokens.now) }
@@ -437,6 +455,7 @@ fn arm(alloc: Global, tokens: &[Token], height: u32) -> Result<Found<'_, Clause>
 
 /// An `else` and what stands behind it.
 #[cycle(units)]
+#[inline(never)]
 #[tactic(auto, using(crate::proofs::Tails::branch_arm, crate::proofs::Tails::branch_last))]
 fn branch(alloc: Global, tokens: &[Token], height: u32) -> Result<Found<'_, Branch>, Halt>
     requires { length tokens.now < 2 ^ 32 }
@@ -451,6 +470,7 @@ fn branch(alloc: Global, tokens: &[Token], height: u32) -> Result<Found<'_, Bran
 
 /// What stands behind the first arm of an `if`.
 #[cycle(units)]
+#[inline(never)]
 fn arms<'a>(alloc: Global, first: Found<'a, Clause>, height: u32) -> Result<Found<'a, Stmt>, Halt>
     requires { length first.rest.now < 2 ^ 32 }
     ensures { Gives result (noting first.entry.left (arms_run height first.entry.value first.entry.rest.now)) }
