@@ -102,6 +102,7 @@ pub struct Body {
 /// abstract or native method has no body.
 #[derive(Drop)]
 pub struct TypedMethod {
+    pub id: MethodId,
     pub locals: Items<Local>,
     pub captured: Env,
     pub nodes: Nodes,
