@@ -41,13 +41,16 @@ BodiesAlike P E = (d : ℕ) (m : MethodId) → Erases (erasure P.table []) ((mea
 module _ (P : TypedProgram) (F : ErasedProgram) (A : AreErasedMethods P P.methods F.methods) (B : BodiesAlike P (over P F)) where
   readies : (d : ℕ) (x : ClassId) → k.Alike P.table ((meaning P d).ready x) ((erased_meaning (over P F) d).ready x)
   unfolding meaning erased_meaning
-  readies zero = c.readies P F A (λ x. stop) (λ x. stop) (λ x u s. refl)
+  readies zero = c.readies P F A (λ x. stop) (λ x. stop) (λ x. record { same = λ u s. refl })
   readies (suc d) =
       c.readies P F A (λ x. node (tc.initialise P (meaning P d).body (meaning P d).ready x)) (λ x. node (ec.initialise (over P F) (erased_meaning (over P F) d).body (erased_meaning (over P F) d).ready x))
-      (λ x. x.erases_node Ty Frame (List Read) (erasure P.table []) _ _ (c.initialises P F A (meaning P d).body (erased_meaning (over P F) d).body (B d) (meaning P d).ready (erased_meaning (over P F) d).ready (readies d) x))
+      (λ y. record {
+        same = x.erases_node Ty Frame (List Read) (erasure P.table []) (tc.initialise P (meaning P d).body (meaning P d).ready y) (ec.initialise (over P F) (erased_meaning (over P F) d).body (erased_meaning (over P F) d).ready y)
+            (c.initialises P F A (meaning P d).body (erased_meaning (over P F) d).body (λ m. record { same = B d m }) (meaning P d).ready (erased_meaning (over P F) d).ready (readies d) y).same;
+      })
 
   statics_alike : (m : MethodId) (d : ℕ) → k.Alike P.table (t.run_static P m d) (e.run_static (over P F) m d)
-  statics_alike m d = k.andso P.table (readies d (method_class P.table m)) (λ _. c.calls_static P F A (meaning P d).body (erased_meaning (over P F) d).body (B d) m [] [])
+  statics_alike m d = k.andso P.table (readies d (method_class P.table m)) (λ _. c.calls_static P F A (meaning P d).body (erased_meaning (over P F) d).body (λ m. record { same = B d m }) m [] [])
 
   strings : (texts : List (List ℕ)) → k.Alike P.table (t.argument_strings P texts) (e.argument_strings (over P F) texts)
   strings [] = k.gives P.table []
@@ -57,13 +60,13 @@ module _ (P : TypedProgram) (F : ErasedProgram) (A : AreErasedMethods P P.method
   mains_alike m args d =
       k.andso P.table (strings args) (λ vs.
       k.andso P.table (k.makes P.table (array_over 0 (Class P.known.string [])) (raised 1 (plain (base.Class P.known.string))) vs (k.plain_array P.table P.known.string)) (λ a.
-      k.andso P.table (readies d (method_class P.table m)) (λ _. c.calls_static P F A (meaning P d).body (erased_meaning (over P F) d).body (B d) m (Address a ∷ []) [])))
+      k.andso P.table (readies d (method_class P.table m)) (λ _. c.calls_static P F A (meaning P d).body (erased_meaning (over P F) d).body (λ m. record { same = B d m }) m (Address a ∷ []) [])))
 
   outcomes : (m : MethodId) (input : List ℕ) (n : ℕ) → erase_out (erasure P.table []) (t.outcome P m input n) ≡ e.outcome (over P F) m input n
-  outcomes m input n = x.erases_node Ty Frame (List Read) (erasure P.table []) (t.run_static P m n) (e.run_static (over P F) m n) (statics_alike m n) n (t.first_state P m input)
+  outcomes m input n = x.erases_node Ty Frame (List Read) (erasure P.table []) (t.run_static P m n) (e.run_static (over P F) m n) (statics_alike m n).same n (t.first_state P m input)
 
   main_outcomes : (m : MethodId) (args : List (List ℕ)) (input : List ℕ) (n : ℕ) → erase_out (erasure P.table []) (t.main_outcome P m args input n) ≡ e.main_outcome (over P F) m args input n
-  main_outcomes m args input n = x.erases_node Ty Frame (List Read) (erasure P.table []) (t.run_main P m args n) (e.run_main (over P F) m args n) (mains_alike m args n) n (t.first_state P m input)
+  main_outcomes m args input n = x.erases_node Ty Frame (List Read) (erasure P.table []) (t.run_main P m args n) (e.run_main (over P F) m args n) (mains_alike m args n).same n (t.first_state P m input)
 
   names : (o : Option (Object Ty)) → e.class_name (over P F) (option_map (erase_object (erasure P.table [])) o) ≡ t.class_name P o
   names None = refl

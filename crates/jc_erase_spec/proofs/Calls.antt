@@ -1,6 +1,6 @@
 -- Calls of methods and initialisations of classes are alike where bodies are.
 use Rattle.std.proofs.Common.{◌≡◌, ℕ, List, [], ◌∷◌, refl, ap, sym, ◌∙◌, subst, Option, Some, None, map, zero, suc, ◌++◌, length, drop}
-use Rattle.std.specs.Prelude.{Bool, true, false, if◌then◌else◌, slice_get, slice_set}
+use Rattle.std.specs.Prelude.{Bool, true, false, if◌then◌else◌, slice_get}
 use Rattle.std.proofs.lemmas.List.{drop-map}
 use Rattle.jc_types.specs.declared.form.Ty.{Ty}
 use Rattle.jc_types.specs.declared.ids.ClassId.{ClassId}
@@ -12,7 +12,7 @@ use Rattle.jc_running.specs.declared.value.Readiness.{Readiness}
 use Rattle.jc_running.specs.declared.value.Readiness.TheVariants.{Untouched, Begun, Ready, Failed}
 use Rattle.jc_running.specs.declared.value.Completion.{Completion}
 use Rattle.jc_running.specs.declared.value.Completion.TheVariants.{Normal, Broke, Continued, Returned}
-use Rattle.jc_running.specs.Outcomes.{give, throw, bind, both_ways}
+use Rattle.jc_running.specs.Outcomes.{bind, both_ways}
 use Rattle.jc_heaps.specs.declared.state.Object.{Object}
 use Rattle.jc_heaps.specs.Layout.{default_value}
 use Rattle.jc_heaps.specs.Classes.{superclass_of, is_subclass, methods_class}
@@ -22,13 +22,13 @@ use Rattle.jc_typed.specs.declared.program.TypedMethod.{TypedMethod}
 use Rattle.jc_typed.specs.declared.program.TypedProgram.{TypedProgram}
 use Rattle.jc_meaning.specs.declared.frame.Frame.{Frame}
 use Rattle.jc_meaning.specs.declared.frame.Read.{Read}
-use Rattle.jc_meaning.specs.Kept.{TypedRun, typed_keeping}
-use Rattle.jc_meaning.specs.Programs.{begun_with, locals_in, local_types, initialiser_of}
+use Rattle.jc_meaning.specs.Kept.{TypedRun}
+use Rattle.jc_meaning.specs.Programs.{begun_with, locals_in, initialiser_of}
 use Rattle.jc_meaning.specs.Calls as t
 use Rattle.jc_meaning.specs.Classes as tc
 use Rattle.jc_erased.specs.declared.program.ErasedMethod.{ErasedMethod}
 use Rattle.jc_erased.specs.declared.program.ErasedProgram.{ErasedProgram}
-use Rattle.jc_erased.specs.Programs.{ErasedRun, erased_keeping, tree_in}
+use Rattle.jc_erased.specs.Programs.{ErasedRun, tree_in}
 use Rattle.jc_erased.specs.Calls as e
 use Rattle.jc_erased.specs.Classes as ec
 use Rattle.jc_erase_spec.specs.Meeting.{AreErasedMethods}
@@ -71,15 +71,17 @@ module _ (P : TypedProgram) (F : ErasedProgram) (A : AreErasedMethods P P.method
     pub runs : (m : MethodId) (o : Option (Object Ty)) (vs : List Value) (ts : List Ty) → k.Alike P.table (t.run_method P body m o vs ts) (e.run_method E body' m vs)
     runs m o vs ts =
         subst (λ ls. k.Alike P.table (t.run_method P body m o vs ts) (in_frame ls tt (bind (body' m) (e.answer_of E m)))) (begins P P.methods F.methods A m.0 vs)
-        (h.erases_frame Ty Frame (List Read) (erasure P.table []) (t.first_locals P m vs) (t.frame_of P m o ts) (bind (body m) (t.answer_of P m)) (bind (body' m) (e.answer_of E m))
-        (k.andso P.table (B m) (answers m)))
+        (record {
+          same = h.erases_frame Ty Frame (List Read) (erasure P.table []) (t.first_locals P m vs) (t.frame_of P m o ts) (bind (body m) (t.answer_of P m)) (bind (body' m) (e.answer_of E m))
+              (k.andso P.table (B m) (answers m)).same;
+        })
 
     pub calls_static : (m : MethodId) (vs : List Value) (ts : List Ty) → k.Alike P.table (t.call_static P body m vs ts) (e.call_static E body' m vs)
     calls_static m vs ts = runs m None vs ts
 
     -- initialisations
     marks : (c : ClassId) (r : Readiness) → k.Alike P.table (tc.set_readiness c r) (ec.set_readiness c r)
-    marks c r u s = refl
+    marks c r = record { same = λ u s. refl }
 
     if_then : {X : Type 0} (b : Bool) {m n : TypedRun X} {m' n' : ErasedRun X} → k.Alike P.table m m' → k.Alike P.table n n' → k.Alike P.table (if b then m else n) (if b then m' else n')
     if_then true em en = em
@@ -104,7 +106,7 @@ module _ (P : TypedProgram) (F : ErasedProgram) (A : AreErasedMethods P P.method
 
       both : {X Y : Type 0} {m : TypedRun X} {m' : ErasedRun X} {f : X → TypedRun Y} {f' : X → ErasedRun Y} {g : ℕ → TypedRun Y} {g' : ℕ → ErasedRun Y} →
           k.Alike P.table m m' → ((a : X) → k.Alike P.table (f a) (f' a)) → ((a : ℕ) → k.Alike P.table (g a) (g' a)) → k.Alike P.table (both_ways m f g) (both_ways m' f' g')
-      both {m = m} {m' = m'} {f = f} {f' = f'} {g = g} {g' = g'} em ef eg = x.erases_both Ty Frame (List Read) (erasure P.table []) m m' f f' g g' em ef eg
+      both {m = m} {m' = m'} {f = f} {f' = f'} {g = g} {g' = g'} em ef eg = record { same = x.erases_both Ty Frame (List Read) (erasure P.table []) m m' f f' g g' em.same (λ a. (ef a).same) (λ a. (eg a).same) }
 
       pub initialises : (c : ClassId) → k.Alike P.table (tc.initialise P body ready c) (ec.initialise E body' ready' c)
       initialises c =
@@ -121,4 +123,4 @@ module _ (P : TypedProgram) (F : ErasedProgram) (A : AreErasedMethods P P.method
 
   pub readies : (f : ClassId → TypedRun (Unit {0})) (f' : ClassId → ErasedRun (Unit {0})) → ((c : ClassId) → k.Alike P.table (f c) (f' c)) → (c : ClassId) → k.Alike P.table (tc.ready_by P f c) (ec.ready_by E f' c)
   readies f f' ef c =
-      k.andso P.table (h.erases_look Ty Frame (List Read) (erasure P.table []) (λ s. slice_get s.classes c.0) (λ s. slice_get s.classes c.0) (λ s. refl)) (uses (ef c))
+      k.andso P.table (record { same = h.erases_look Ty Frame (List Read) (erasure P.table []) (λ s. slice_get s.classes c.0) (λ s. slice_get s.classes c.0) (λ s. refl) }) (uses (ef c))

@@ -1,10 +1,9 @@
 -- What the erasure of a program has to meet (JLS 4.6): it says the same of its classes, each of its methods is the erasure of a typed one, and with the
 -- same units it does, on the erased state, what the typed one does. Guards, conversions and bridges spend no units in either.
-use Rattle.std.specs.Prelude.{◌≡◌, ℕ, suc, List, [], ◌∷◌, map, length}
+use Rattle.std.specs.Prelude.{◌≡◌, ℕ, suc, List, [], ◌∷◌, map}
 use Rattle.jc_types.specs.Erasing.{erasure}
 use Rattle.jc_types.specs.declared.declarations.ClassDecl.{ClassDecl}
 use Rattle.jc_types.specs.declared.environment.Bounds.{Bounds}
-use Rattle.jc_types.specs.declared.form.Ty.{Ty}
 use Rattle.jc_types.specs.declared.ids.MethodId.{MethodId}
 use Rattle.jc_types.specs.declared.table.Table.{Table}
 use Rattle.jc_running.specs.declared.value.Value.{Value}
