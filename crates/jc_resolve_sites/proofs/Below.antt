@@ -1,5 +1,5 @@
 -- Types name no variable whose number is not below the number above theirs.
-use Rattle.std.proofs.Common.{◌≡◌, ℕ, zero, suc, ◌+◌, ◌<◌, ◌≤◌, ◌==◌, max, Bool, true, false, List, [], ◌∷◌, map, length, refl, sym, ap, subst, ◌∙◌, arith}
+use Rattle.std.proofs.Common.{◌≡◌, ℕ, ◌+◌, ◌<◌, ◌≤◌, ◌==◌, max, Bool, false, List, [], ◌∷◌, map, refl, sym, subst, ◌∙◌, arith}
 use Rattle.std.specs.Prelude.{◌||◌}
 use Rattle.std.proofs.lemmas.Bool.Decides.{nat_tests}
 use Rattle.jc_types.specs.declared.form.Arg.{Arg, Arg-F, map-Arg, roll-Arg}

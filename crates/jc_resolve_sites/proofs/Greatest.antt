@@ -1,5 +1,5 @@
 -- The greatest of some numbers, one after another.
-use Rattle.std.proofs.Common.{◌≡◌, ℕ, zero, suc, ◌+◌, ◌<◌, max, List, [], ◌∷◌, length, map, take, get_or, arith, sym, ap, subst, ◌∙◌, refl}
+use Rattle.std.proofs.Common.{◌≡◌, ℕ, zero, suc, ◌+◌, ◌<◌, max, List, [], ◌∷◌, length, map, take, get_or, arith, ap, ◌∙◌, refl}
 use Rattle.jc_types.specs.declared.form.Ty.{Ty}
 use Rattle.jc_resolve_sites.specs.Above.{above, above_all, greatest}
 

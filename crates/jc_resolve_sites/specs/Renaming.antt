@@ -1,9 +1,8 @@
 -- Members whose type parameters are renamed. A type parameter's name has no meaning of its own (JLS 8.4.4), so a member may have any others in its place that nothing else names.
-use Rattle.std.specs.Prelude.{ℕ, zero, suc, ◌+◌, max, List, [], ◌∷◌, length, map, Option, Some, None}
+use Rattle.std.specs.Prelude.{ℕ, zero, suc, ◌+◌, max, List, [], ◌∷◌, length, map}
 use Rattle.std.specs.Option.{option_map}
-use Rattle.jc_types.specs.declared.form.Ty.{Ty, out-Ty}
+use Rattle.jc_types.specs.declared.form.Ty.{Ty}
 use Rattle.jc_types.specs.declared.ids.VarId.{VarId}
-use Rattle.jc_types.specs.declared.table.Table.{Table}
 use Rattle.jc_types.specs.Substitution.{subst}
 use Rattle.jc_overriding.specs.declared.view.MethodView.{MethodView}
 use Rattle.jc_overriding.specs.Signatures.{variables}

@@ -1,4 +1,4 @@
-use Rattle.std.proofs.Common.{◌≡◌, ◌+◌, ◌++◌, length, map}
+use Rattle.std.proofs.Common.{◌≡◌, ◌+◌, ◌++◌, length}
 use Rattle.jc_resolve_sites.specs.Constructors.{constructor_ids, constructors_among}
 use Rattle.jc_resolve_sites.proofs.constructors.constructor_ids.Given as goal
 

@@ -1,4 +1,4 @@
-use Rattle.std.proofs.Common.{◌≡◌, ◌+◌, ◌++◌, length, map}
+use Rattle.std.proofs.Common.{◌≡◌, ◌+◌, ◌++◌, length}
 use Rattle.jc_resolve_sites.specs.Renaming.{numbered}
 use Rattle.jc_resolve_sites.proofs.renaming.numbered.Given as goal
 

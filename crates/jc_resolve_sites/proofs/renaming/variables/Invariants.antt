@@ -1,4 +1,4 @@
-use Rattle.std.proofs.Common.{◌≡◌, ◌+◌, ◌++◌, length, map}
+use Rattle.std.proofs.Common.{◌≡◌, ◌+◌, ◌++◌, length}
 use Rattle.jc_overriding.specs.Signatures.{variables}
 use Rattle.jc_resolve_sites.proofs.renaming.variables.Given as goal
 

@@ -1,4 +1,4 @@
-use Rattle.std.proofs.Common.{◌≡◌, ◌+◌, ◌++◌, length, map}
+use Rattle.std.proofs.Common.{◌≡◌, ◌+◌, ◌++◌, length}
 use Rattle.jc_judge.specs.Views.{exacts}
 use Rattle.jc_resolve_sites.proofs.sites.exacts.Given as goal
 
