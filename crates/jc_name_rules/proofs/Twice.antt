@@ -61,14 +61,18 @@ module _ (H : Heads) (K : Knowledge) (r : Reading) (file : ℕ) where
       ∙ sym (least_append found here rest)
       ∙ ap (λ (l : List ClassTree). least found (repeated_breaks H K r file before l)) (sym (first_left xs i t within is))
 
-pub few_interfaces : (H : Heads) (K : Knowledge) (r : Reading) (file : ℕ) (ts : List ClassTree) → length ts < 2 → repeated_breaks H K r file [] ts ≡ []
-few_interfaces H K r file [] l = refl
-few_interfaces H K r file (t ∷ []) l = by (sound_type (wrote_class H K r t))
+few : (H : Heads) (K : Knowledge) (r : Reading) (file : ℕ) (ts : List ClassTree) → length ts < 2 → repeated_breaks H K r file [] ts ≡ []
+few H K r file [] l = refl
+few H K r file (t ∷ []) l = by (sound_type (wrote_class H K r t))
   where
     by : (o : Option Ty) → unless (not (is_repeated o [])) (broken_at 305 file (first_offset_of_class t)) ++ [] ≡ []
     by None = refl
     by (Some u) = refl
-few_interfaces H K r file (t ∷ u ∷ ts) l = absurd (omega (arith, l))
+few H K r file (t ∷ u ∷ ts) l = absurd (omega (arith, l))
+
+-- of one alone none is
+pub few_interfaces : (H : Heads) (K : Knowledge) (r : Reading) (file : ℕ) (ts : List ClassTree) (found : Option Refusal) → length ts < 2 → found ≡ least found (repeated_breaks H K r file [] ts)
+few_interfaces H K r file ts found l = ap (least found) (sym (few H K r file ts l))
 
 -- ---- formal parameters
 
@@ -84,9 +88,12 @@ formal_first fs k f e =
     ∙ ap (λ j. is_number (named f.name.text (marked (λ (g : Formal). true) (λ (g : Formal). g.name.text) 0 fs)) j) (sym (zero-add k))
     ∙ first_of (λ (g : Formal). true) (λ (g : Formal). g.name.text) f.name.text (λ (g : Formal). bytes_eq f.name.text g.name.text) (λ g. refl) 0 k fs f e refl (own_bytes f.name.text)
 
-pub few_formals : (file : ℕ) (fs : List Formal) → length fs < 2 → formals_twice file fs ≡ []
-few_formals file [] l = refl
-few_formals file (f ∷ []) l = refl
-few_formals file (f ∷ g ∷ fs) l = absurd (omega (arith, l))
+one : (file : ℕ) (fs : List Formal) → length fs < 2 → formals_twice file fs ≡ []
+one file [] l = refl
+one file (f ∷ []) l = refl
+one file (f ∷ g ∷ fs) l = absurd (omega (arith, l))
+
+pub few_formals : (file : ℕ) (fs : List Formal) (found : Option Refusal) → length fs < 2 → found ≡ least found (formals_twice file fs)
+few_formals file fs found l = ap (least found) (sym (one file fs l))
 
 pub ruleset formal_told = (formal_first)

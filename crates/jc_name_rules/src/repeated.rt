@@ -3,7 +3,9 @@ ghost use Rattle.std.specs.Prelude.{◌≡◌, [], Some, not, slice_get, IfOk, O
 ghost use Rattle.jc_types.specs.Breaks.{least};
 ghost use Rattle.jc_types.specs.Sameness.{same};
 ghost use Rattle.jc_declares.specs.HeadBreaks.{broken_at, some_in, unless};
-ghost use Rattle.jc_declares.specs.Breaks.{class_repeated_breaks, formals_twice, is_repeated, repeated_breaks, sound_type, twice_formal, with_type};
+ghost use Rattle.jc_declares.specs.Breaks.{formals_twice, is_repeated, repeated_breaks, sound_type, twice_formal, with_type};
+ghost use Rattle.jc_declares.specs.Heads.{interface_trees};
+ghost use Rattle.jc_declares.specs.Readings.{head_reading};
 ghost use Rattle.jc_declares.specs.Writing.{wrote_class};
 ghost use Rattle.jc_looking.specs.Members.{known_in};
 ghost use Rattle.jc_looking.specs.Scenes.{IsScene};
@@ -16,8 +18,7 @@ use jc_heads::interface_trees;
 use jc_looking::Scene;
 use jc_name_index::Spaces;
 use jc_rules::{Items, Place, Refusal, Rule, WantOfMemory};
-use jc_sites::ClassSite;
-use jc_tree::{ClassTree, Formal, first_offset_of_class};
+use jc_tree::{ClassTree, DeclarationHead, Formal, first_offset_of_class};
 use jc_types::{Ty, Written, same_type};
 use jc_written::{Reading, class_broken, head_reading, or_break, written_class};
 use std::alloc::Global;
@@ -126,14 +127,16 @@ pub fn class_repeated(
     alloc: Global,
     scene: &Scene,
     number: u64,
-    site: &ClassSite,
+    file: u64,
+    head: &DeclarationHead,
     found: Option<Refusal>,
 ) -> Result<Option<Refusal>, WantOfMemory>
     requires { IsScene scene.now.declared.heads.now scene.now.declared.index.now scene.now.imports.now }
-    ensures { let H = scene.now.declared.heads.now in let K = known_in scene.now.known.now in IfOk result (λ it. it ≡ least found (class_repeated_breaks H K number site.now)) }
+    ensures { let H = scene.now.declared.heads.now in let K = known_in scene.now.known.now in IfOk result (λ it. it ≡ least found (repeated_breaks H K (head_reading H K number) file [] (interface_trees head.now))) }
 {
     let reading = head_reading(number);
-    let found = some_repeated(alloc, scene, reading, site.file, interface_trees(site.head), found)?;
+    let trees = interface_trees(head);
+    let found = some_repeated(alloc, scene, reading, file, trees, found)?;
     Ok(found)
 }
 

@@ -163,7 +163,7 @@ pub fn class_site_broken(
     requires { IsScene scene.now.declared.heads.now scene.now.declared.index.now scene.now.imports.now }
     ensures { let H = scene.now.declared.heads.now in let K = known_in scene.now.known.now in IfOk result (λ it. it ≡ least found (class_site_breaks H K number site.now)) }
 {
-    let found = class_repeated(alloc, scene, number, site, found)?;
+    let found = class_repeated(alloc, scene, number, site.file, site.head, found)?;
     let found = class_modifiers_broken(site, found);
     let found = class_head_broken(alloc, scene, number, site.file, site.head, found)?;
     Ok(found)
