@@ -1,5 +1,5 @@
 -- What stands twice in the head of a type or a method.
-use Rattle.std.proofs.Common.{◌≡◌, ◌+◌, ◌<◌, ◌==◌, ℕ, Bool, true, false, not, ◌&&◌, cond, List, [], ◌∷◌, ◌++◌, drop, length, get_or, Option, Some, None, if◌then◌else◌, slice_get, zero-add, arith, refl, sym, ap, ◌∙◌}
+use Rattle.std.proofs.Common.{◌≡◌, ◌+◌, ◌<◌, ◌==◌, ℕ, suc, Bool, true, false, not, ◌&&◌, cond, List, [], ◌∷◌, ◌++◌, drop, length, get_or, Option, Some, None, if◌then◌else◌, slice_get, zero-add, arith, refl, sym, ap, ◌∙◌}
 use Rattle.std.specs.Str.{bytes_eq}
 use Rattle.jc_rules.proofs.Truths.{own_bytes}
 use Rattle.jc_rules.specs.declared.rule.Refusal.{Refusal}
@@ -79,7 +79,7 @@ few_interfaces H K r file ts found l = ap (least found) (sym (few H K r file ts 
 picked_marked : (i : ℕ) (fs : List Formal) → picked as_formal 0 i fs ≡ marked (λ (f : Formal). true) (λ (f : Formal). f.name.text) i fs
 unfolding marked
 picked_marked i [] = refl
-picked_marked i (f ∷ fs) = ap (λ (l : Named). (f.name.text, i) ∷ [] ++ l) (picked_marked (1 + i) fs)
+picked_marked i (f ∷ fs) = ap (λ (l : Named). (f.name.text, i) ∷ [] ++ l) (picked_marked (suc i) fs)
 
 pub formal_first : (fs : List Formal) (k : ℕ) (f : Formal) → slice_get fs k ≡ Some f
     → is_number (space_named (noted_all as_formal 0 fs []) 0 f.name.text) k ≡ not (some_before (λ (g : Formal). bytes_eq f.name.text g.name.text) k fs)
