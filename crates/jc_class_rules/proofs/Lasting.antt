@@ -68,7 +68,7 @@ module _ (T : Table) (k : ClassId) where
 
   -- a test that no such method passes, of those that stand in the class, is one of all methods
   module _ (f : MethodId → Bool) (g : ℕ → List MethodDecl → Bool) (none : (i : ℕ) → g i [] ≡ false) (some : (i : ℕ) (d : MethodDecl) (ds : List MethodDecl) → g i (d ∷ ds) ≡ (f (record { 0 = i }) || g (i + 1) ds))
-    (apart : (m : MethodId) → stands_in T k m ≡ false → f m ≡ false) where
+      (apart : (m : MethodId) → stands_in T k m ≡ false → f m ≡ false) where
     any_from : (i : ℕ) (ds : List MethodDecl) → list_any f (ids_of (picked (is_standing T k) i (length ds))) ≡ g i ds
     any_from i [] = sym (none i)
     any_from i (d ∷ ds) = by (is_standing T k i) refl (any_from (suc i) ds ∙ ap (λ j. g j ds) (sym (add-one i))) ∙ sym (some i d ds)

@@ -189,7 +189,14 @@ fn each_twice(
     let noted = formals_noted(alloc, formals)?;
     let mut found = found;
     for number in 0..formals.len() {
-        found = formal_twice(file, formals, &noted, number as u64, &formals[number], found);
+        found = formal_twice(
+            file,
+            formals,
+            &noted,
+            number as u64,
+            &formals[number],
+            found,
+        );
     }
     Ok(found)
 }
