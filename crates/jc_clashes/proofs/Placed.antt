@@ -1,5 +1,5 @@
 -- Where a clash is told, by the methods of a name.
-use Rattle.std.proofs.Common.{◌≡◌, ℕ, suc, ◌+◌, Bool, true, false, not, ◌&&◌, cond, Option, Some, None, List, [], ◌∷◌, ◌++◌, length, if◌then◌else◌, refl, sym, ap, ◌∙◌}
+use Rattle.std.proofs.Common.{◌≡◌, ℕ, suc, ◌+◌, Bool, true, false, ◌&&◌, cond, Option, Some, None, List, [], ◌∷◌, ◌++◌, length, if◌then◌else◌, refl, sym, ap, ◌∙◌}
 use Rattle.std.proofs.Math.Numerals.{add-one}
 use Rattle.std.proofs.lemmas.Bool.{and_right}
 use Rattle.std.specs.Str.{bytes_eq}
@@ -31,7 +31,7 @@ module _ (T : Table) (k : ClassId) (x : List ℕ) (n : MethodId) (named : method
     where
       by : (b : Bool) → replaces T m n ≡ b → replaces T m n ≡ false
       by false f = f
-      by true f = absurd (not_both (has_name T x m) (ap (λ y. bytes_eq y x) (replaces_named T m n f ∙ named) ∙ own_bytes x) (ap not e))
+      by true f = absurd (not_both (has_name T x m) (ap (λ y. bytes_eq y x) (replaces_named T m n f ∙ named) ∙ own_bytes x) e)
 
   -- a method of the name before others
   beside : (i : ℕ) (r : Bool) (ms : List MethodId) (o : Option MethodId) → own_among T k ms ≡ o → own_among T k (cond r (at i ∷ []) [] ++ ms) ≡ (if own (at i) && r then Some (at i) else o)
