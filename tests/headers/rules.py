@@ -94,7 +94,10 @@ def leaves_open(table, name):
     def is_member(method):
         return method.owner == name or (table.is_above(name, method.owner) and method.access != "private")
 
-    return any(method.is_abstract and not method.is_static and is_member(method) and table.select(name, method) is None for method in table.methods)
+    def is_inherited(method):
+        return is_member(method) and not any(is_member(other) and table.overrides(other, method) for other in table.methods)
+
+    return any(method.is_abstract and not method.is_static and is_inherited(method) and table.select(name, method) is None for method in table.methods)
 
 
 def disagree(table, name, members):
@@ -144,7 +147,10 @@ def clash_line(table, name, method, other):
     mine, theirs = method.owner == name, other.owner == name
     if mine and theirs:
         return max(method.line, other.line)
-    return method.line if mine else other.line if theirs else table.classes[name].line
+    if mine or theirs:
+        return method.line if mine else other.line
+    over = [one.line for one in table.methods if one.owner == name and table.replaces(one, other)]
+    return min(over, default=table.classes[name].line)
 
 
 def class_rules(table, name, members):

@@ -7,6 +7,7 @@ pub mod Grown
 pub mod Lists
 pub mod Marked
 pub mod Named
+pub mod Placed
 pub mod Reaching
 pub mod Rounds
 pub mod Spread

@@ -31,7 +31,7 @@ use Rattle.jc_members.specs.Listing.{has_method}
 use Rattle.jc_members.specs.Named.{all_named}
 use Rattle.jc_members.proofs.Remaining.{id_of_view}
 use Rattle.jc_clashes.specs.declared.shapes.Shape.{Shape}
-use Rattle.jc_clashes.specs.Clashing.{belongs, beside_broken, clash_at, class_clashes, group_broken, groups_broken, is_member, is_replaced, member_broken, passed_over, settles, views_clash}
+use Rattle.jc_clashes.specs.Clashing.{belongs, beside_broken, clash_at, class_clashes, group_broken, groups_broken, is_member, is_replaced, member_broken, passed_over, settles, shape_place, views_clash}
 use Rattle.jc_clashes.specs.Constructors.{constructors_breaks}
 use Rattle.jc_clashes.specs.Erasures.{share_some}
 use Rattle.jc_clashes.specs.Marks.{behind_first, first_mark}
@@ -42,6 +42,7 @@ use Rattle.jc_clashes.proofs.Lists.{In, all_same, any_in, in_any, in_either, in_
 use Rattle.jc_clashes.proofs.Fixed.{same_erasure, same_fixed}
 use Rattle.jc_clashes.proofs.Alike.{Meeting, above_told, fixed_name, fixed_of, group_in, group_named, group_told, in_above, meet_told, meeting_of, of_shape, shape_in}
 use Rattle.jc_clashes.proofs.Named.{IsNamed, in_named, named_in}
+use Rattle.jc_clashes.proofs.Placed.{place_told}
 use Rattle.jc_clashes.proofs.Reaching.{reached_told, replaces_named, replaces_signed}
 
 -- ---- breaks in lists
@@ -430,26 +431,26 @@ module _ (T : Table) (k : ClassId) where
 
     -- .. and one that is found name by name
     module _ (all : List Shape) where
-      beside_of : (s : Shape) (marks : List Bool) (us : List Shape) → IsOf b (beside_broken T k place s marks us) → (u : Shape) × In u us × IsOf b (broken_if (clash_at T k s u) 801 (clash_place T k place s.id u.id))
+      beside_of : (s : Shape) (marks : List Bool) (us : List Shape) → IsOf b (beside_broken T k place s marks us) → (u : Shape) × In u us × IsOf b (broken_if (clash_at T k s u) 801 (shape_place T k place s.id u))
       beside_of s marks [] h = absurd h
       beside_of s marks (u ∷ us) h =
-          by (first_mark marks) (of_either b (cond (first_mark marks) [] (broken_if (clash_at T k s u) 801 (clash_place T k place s.id u.id))) (beside_broken T k place s (behind_first marks) us) h)
+          by (first_mark marks) (of_either b (cond (first_mark marks) [] (broken_if (clash_at T k s u) 801 (shape_place T k place s.id u))) (beside_broken T k place s (behind_first marks) us) h)
           (λ h. beside_of s (behind_first marks) us h)
         where
-          by : (c : Bool) → IsOf b (cond c [] (broken_if (clash_at T k s u) 801 (clash_place T k place s.id u.id))) ⊎ IsOf b (beside_broken T k place s (behind_first marks) us)
-              → (IsOf b (beside_broken T k place s (behind_first marks) us) → (t : Shape) × In t us × IsOf b (broken_if (clash_at T k s t) 801 (clash_place T k place s.id t.id)))
-              → (t : Shape) × In t (u ∷ us) × IsOf b (broken_if (clash_at T k s t) 801 (clash_place T k place s.id t.id))
+          by : (c : Bool) → IsOf b (cond c [] (broken_if (clash_at T k s u) 801 (shape_place T k place s.id u))) ⊎ IsOf b (beside_broken T k place s (behind_first marks) us)
+              → (IsOf b (beside_broken T k place s (behind_first marks) us) → (t : Shape) × In t us × IsOf b (broken_if (clash_at T k s t) 801 (shape_place T k place s.id t)))
+              → (t : Shape) × In t (u ∷ us) × IsOf b (broken_if (clash_at T k s t) 801 (shape_place T k place s.id t))
           by true (inl h) g = absurd h
           by false (inl h) g = (u, inl refl, h)
           by true (inr h) g = let rest = g h in (rest.0, inr rest.1, rest.2)
           by false (inr h) g = let rest = g h in (rest.0, inr rest.1, rest.2)
 
-      of_rest : (s u : Shape) (us : List Shape) → In u us → IsOf b (broken_if (clash_at T k s u) 801 (clash_place T k place s.id u.id)) → IsOf b (beside_broken T k place s [] us)
+      of_rest : (s u : Shape) (us : List Shape) → In u us → IsOf b (broken_if (clash_at T k s u) 801 (shape_place T k place s.id u)) → IsOf b (beside_broken T k place s [] us)
       of_rest s u [] h m = absurd h
       of_rest s u (t ∷ us) (inl is) m =
-          of_left b (broken_if (clash_at T k s t) 801 (clash_place T k place s.id t.id)) (beside_broken T k place s [] us)
-          (subst (λ (z : Shape). IsOf b (broken_if (clash_at T k s z) 801 (clash_place T k place s.id z.id))) is m)
-      of_rest s u (t ∷ us) (inr h) m = of_right b (broken_if (clash_at T k s t) 801 (clash_place T k place s.id t.id)) (beside_broken T k place s [] us) (of_rest s u us h m)
+          of_left b (broken_if (clash_at T k s t) 801 (shape_place T k place s.id t)) (beside_broken T k place s [] us)
+          (subst (λ (z : Shape). IsOf b (broken_if (clash_at T k s z) 801 (shape_place T k place s.id z))) is m)
+      of_rest s u (t ∷ us) (inr h) m = of_right b (broken_if (clash_at T k s t) 801 (shape_place T k place s.id t)) (beside_broken T k place s [] us) (of_rest s u us h m)
 
       member_at : (s : Shape) → IsOf b (member_broken T k place all s) → (is_member T k s ≡ true) × IsOf b (beside_broken T k place s (passed_over T k s) all)
       member_at s h = by (is_member T k s) h
@@ -475,12 +476,12 @@ module _ (T : Table) (k : ClassId) where
       of_group s (t ∷ ss) (inl is) m = of_left b (member_broken T k place all t) (group_broken T k place all ss) (subst (λ z. IsOf b (member_broken T k place all z)) is m)
       of_group s (t ∷ ss) (inr h) m = of_right b (member_broken T k place all t) (group_broken T k place all ss) (of_group s ss h m)
 
-    module _ (x : List ℕ) (m n : MethodId) (found : IsOf b (broken_if (clash_at T k (shape_of T (all_named T x) m) (shape_of T (all_named T x) n)) 801 (clash_place T k place m n))) where
+    module _ (x : List ℕ) (m n : MethodId) (found : IsOf b (broken_if (clash_at T k (shape_of T (all_named T x) m) (shape_of T (all_named T x) n)) 801 (shape_place T k place m (shape_of T (all_named T x) n)))) where
       abbrev ids : List MethodId
       ids = all_named T x
 
       abbrev pair : MethodId → List Refusal
-      pair p = broken_if (clash_at T k (shape_of T ids m) (shape_of T ids p)) 801 (clash_place T k place m p)
+      pair p = broken_if (clash_at T k (shape_of T ids m) (shape_of T ids p)) 801 (shape_place T k place m (shape_of T ids p))
 
       of_marked : same_class (owner T m) k ≡ true → (ms : List MethodId) → In n ms → IsOf b (beside_broken T k place (shape_of T ids m) (map (replaces T m) ms) (shapes_of T ids ms))
       of_marked own [] h = absurd h
@@ -492,7 +493,7 @@ module _ (T : Table) (k : ClassId) where
 
           by : (c : Bool) → replaces T m p ≡ c → IsOf b (cond c [] (pair p))
           by true r =
-              absurd (not_both (clash_at T k (shape_of T ids m) (shape_of T ids p)) (broken_true b (clash_at T k (shape_of T ids m) (shape_of T ids p)) 801 (clash_place T k place m p) here) (overridden_clear x m p own r))
+              absurd (not_both (clash_at T k (shape_of T ids m) (shape_of T ids p)) (broken_true b (clash_at T k (shape_of T ids m) (shape_of T ids p)) 801 (shape_place T k place m (shape_of T ids p)) here) (overridden_clear x m p own r))
           by false r = here
       of_marked own (p ∷ ms) (inr h) = of_right b (cond (replaces T m p) [] (pair p)) (beside_broken T k place (shape_of T ids m) (map (replaces T m) ms) (shapes_of T ids ms)) (of_marked own ms h)
 
@@ -556,8 +557,10 @@ module _ (T : Table) (k : ClassId) where
             let third = beside_of group (shape_of T ids m) (passed_over T k (shape_of T ids m)) group at.1 in
             let u = of_shape T ids third.0 ids third.1 in
             let n = u.0 in
+            let shaped : IsOf b (broken_if (clash_at T k (shape_of T ids m) (shape_of T ids n)) 801 (shape_place T k place m (shape_of T ids n))) =
+            subst (λ (z : Shape). IsOf b (broken_if (clash_at T k (shape_of T ids m) z) 801 (shape_place T k place m z))) u.2 third.2 in
             let found : IsOf b (broken_if (clash_at T k (shape_of T ids m) (shape_of T ids n)) 801 (clash_place T k place m n)) =
-            subst (λ (z : Shape). IsOf b (broken_if (clash_at T k (shape_of T ids m) z) 801 (clash_place T k place m z.id))) u.2 third.2 in
+            subst (λ p. IsOf b (broken_if (clash_at T k (shape_of T ids m) (shape_of T ids n)) 801 p)) (place_told T k x n (named_in T x n u.1).name place m) shaped in
             by_ids x m n (named_in T x m s.1) (named_in T x n u.1) at.0 found
 
     -- .. and each is found
@@ -576,8 +579,9 @@ module _ (T : Table) (k : ClassId) where
         let group = group_named T x in
         let member : is_member T k (shape_of T ids v.id) ≡ true =
         and_from (belongs T k v.id) (not (is_replaced T k (shape_of T ids v.id))) (has_belongs v hv) (ap not (sym (replaced_there x v hv refl) ∙ inside.1)) in
-        let found : IsOf b (broken_if (clash_at T k (shape_of T ids v.id) (shape_of T ids w.id)) 801 (clash_place T k place v.id w.id)) =
-        subst (λ c. IsOf b (broken_if c 801 (clash_place T k place v.id w.id))) (sym (clash_told x v w hv hw refl ew)) h.broken in
+        let found : IsOf b (broken_if (clash_at T k (shape_of T ids v.id) (shape_of T ids w.id)) 801 (shape_place T k place v.id (shape_of T ids w.id))) =
+        subst (λ p. IsOf b (broken_if (clash_at T k (shape_of T ids v.id) (shape_of T ids w.id)) 801 p)) (sym (place_told T k x w.id ew place v.id))
+        (subst (λ c. IsOf b (broken_if c 801 (clash_place T k place v.id w.id))) (sym (clash_told x v w hv hw refl ew)) h.broken) in
         of_groups group (groups T) (group_in T x v.id (named x v hv refl) hard)
         (of_group group (shape_of T ids v.id) group (shape_in T ids v.id ids (in_named T x v.id (named x v hv refl)))
         (at_member group (shape_of T ids v.id) member

@@ -1,5 +1,5 @@
 -- The clashes in a class among methods of one name, by their ids (JLS 8.4.8.3).
-use Rattle.std.specs.Prelude.{ℕ, ◌==◌, Bool, false, not, ◌&&◌, ◌||◌, cond, List, [], ◌∷◌, ◌++◌, Option, Some}
+use Rattle.std.specs.Prelude.{ℕ, ◌==◌, Bool, false, not, ◌&&◌, ◌||◌, cond, if◌then◌else◌, List, [], ◌∷◌, ◌++◌, Option, Some, None}
 use Rattle.std.specs.List.{list_any}
 use Rattle.jc_rules.specs.declared.rule.Place.{Place}
 use Rattle.jc_rules.specs.declared.rule.Refusal.{Refusal}
@@ -11,7 +11,7 @@ use Rattle.jc_overriding.specs.declared.view.MethodView.{MethodView}
 use Rattle.jc_overriding.specs.Overriding.{is_inheritable, is_method, owner, same_class}
 use Rattle.jc_overriding.specs.Signatures.{subsignature}
 use Rattle.jc_overriding.specs.Viewing.{class_view, own_type}
-use Rattle.jc_header_rules.specs.Clashes.{clash_place}
+use Rattle.jc_header_rules.specs.Clashes.{clash_place_or, place_of_some}
 use Rattle.jc_header_rules.specs.Inheriting.{with_body}
 use Rattle.jc_header_rules.specs.Places.{broken_if}
 use Rattle.jc_members.specs.Listing.{has_method}
@@ -45,9 +45,18 @@ unfoldable pub clash_at : Table → ClassId → Shape → Shape → Bool
 clash_at T k s u =
     not (s.id.0 == u.id.0) && share_some s.erasures u.erasures && belongs T k u.id && views_clash T k u (class_view T k s.id) (class_view T k u.id)
 
+-- the first of these methods that class k declares
+abbrev pub own_among : Table → ClassId → List MethodId → Option MethodId
+own_among T k [] = None
+own_among T k (m ∷ ms) = if same_class (owner T m) k then Some m else own_among T k ms
+
+-- where a clash of member m with the method of a shape is told: where k declares neither, at the first method of k that overrides or hides the other
+abbrev pub shape_place : Table → ClassId → Place → MethodId → Shape → Place
+shape_place T k place m u = clash_place_or T k place m u.id (place_of_some T place (own_among T k u.above))
+
 -- a member beside another method
 abbrev pub pair_broken : Table → ClassId → Place → Shape → Shape → List Refusal
-pair_broken T k place s u = broken_if (clash_at T k s u) 801 (clash_place T k place s.id u.id)
+pair_broken T k place s u = broken_if (clash_at T k s u) 801 (shape_place T k place s.id u)
 
 -- .. and beside each of these that isn't marked
 abbrev pub beside_broken : Table → ClassId → Place → Shape → List Bool → List Shape → List Refusal

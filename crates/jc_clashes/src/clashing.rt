@@ -9,9 +9,9 @@ ghost use Rattle.jc_clashes.specs.Clashing.{belongs, beside_broken, clash_at, gr
 
 use crate::erasures::share_some;
 use crate::marks::{behind_first, first_mark};
-use crate::places::clash_place;
+use crate::places::shape_place;
 use crate::shapes::Shape;
-use jc_header_rules::if_broken;
+use jc_header_rules::or_break;
 use jc_members::{
     MethodView, Supertypes, has_view, is_abstract, is_inheritable, is_method, method_in, owner,
     same_class, subsignature,
@@ -169,9 +169,11 @@ impl<'a> Setting<'a> {
         if is_passed {
             return Ok(found);
         }
-        let clashes = self.clash_at(s, a, u)?;
-        let at = clash_place(self.table, self.class, self.place, s.id, u.id);
-        Ok(if_broken(found, clashes, Rule::known(801), at))
+        if !self.clash_at(s, a, u)? {
+            return Ok(found);
+        }
+        let at = shape_place(self.table, self.class, self.place, s.id, u);
+        Ok(or_break(found, Rule::known(801), at))
     }
 
     // Marks for the methods of its name that a method overrides or hides, where the class declares it: these don't clash with it.

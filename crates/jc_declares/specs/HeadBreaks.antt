@@ -102,34 +102,27 @@ superclass_fits H c (Some (AClass d ∷ [])) = not (is_interface H d) && not (is
 superclass_fits H c (Some (AVariable v ∷ [])) = not (is_own (owner_of H v) (Some c))
 superclass_fits H c _ = true
 
--- a superinterface is an interface that doesn't stand before it in its list
-abbrev pub interface_fits : Heads → ℕ → Look → List ℕ → Bool
-interface_fits H c (Some (AClass d ∷ [])) before = is_interface H d && not (has d before)
-interface_fits H c (Some (AVariable v ∷ [])) before = not (is_own (owner_of H v) (Some c))
-interface_fits H c _ before = true
+-- a superinterface is an interface; that it is no type which stands before it in its list is asked where its arguments are read
+abbrev pub interface_fits : Heads → ℕ → Look → Bool
+interface_fits H c (Some (AClass d ∷ [])) = is_interface H d
+interface_fits H c (Some (AVariable v ∷ [])) = not (is_own (owner_of H v) (Some c))
+interface_fits H c _ = true
 
 -- each class that a name in the head of class c names may be named there; where one can't, that is the rule that the name breaks, and its kind isn't asked
 abbrev pub is_nameable : Heads → Knowledge → ℕ → Path → Bool
 is_nameable H K c p = all_accessible H (head_asker H c) (passed_by H K c p)
 
--- the class that a look-up found; empty where it is no single class, or isn't known
-abbrev pub class_meant : Look → List ℕ
-class_meant None = []
-class_meant (Some ms) = meant_class ms
-
--- what the superclass and the interfaces of a head break; `before` holds the classes that the interfaces before it mean
+-- what the superclass and the interfaces of a head break
 abbrev pub superclass_breaks : Heads → Knowledge → ℕ → ClassHead → List Path → List Refusal
 superclass_breaks H K c s [] = []
 superclass_breaks H K c s (p ∷ ps) = unless (not (is_nameable H K c p) || superclass_fits H c (meant_in_head H K c p)) (broken_at 305 s.file p.at) ++ superclass_breaks H K c s ps
 
-abbrev pub interface_breaks : Heads → Knowledge → ℕ → ClassHead → List ℕ → List Path → List Refusal
-interface_breaks H K c s before [] = []
-interface_breaks H K c s before (p ∷ ps) =
-    let look : Look = meant_in_head H K c p in
-    unless (not (is_nameable H K c p) || interface_fits H c look before) (broken_at 305 s.file p.at) ++ interface_breaks H K c s (before ++ class_meant look) ps
+abbrev pub interface_breaks : Heads → Knowledge → ℕ → ClassHead → List Path → List Refusal
+interface_breaks H K c s [] = []
+interface_breaks H K c s (p ∷ ps) = unless (not (is_nameable H K c p) || interface_fits H c (meant_in_head H K c p)) (broken_at 305 s.file p.at) ++ interface_breaks H K c s ps
 
 abbrev pub super_breaks : Heads → Knowledge → ℕ → ClassHead → List Refusal
-super_breaks H K c s = superclass_breaks H K c s s.superclass ++ interface_breaks H K c s [] s.interfaces
+super_breaks H K c s = superclass_breaks H K c s s.superclass ++ interface_breaks H K c s s.interfaces
 
 -- ---- 306 and 310: imports (JLS 7.5)
 

@@ -27,7 +27,7 @@ use Rattle.jc_overriding.specs.Viewing.{class_view}
 use Rattle.jc_header_rules.specs.Places.{broken_if, of_each, of_written}
 use Rattle.jc_header_rules.specs.Clashes.{headers_breaks}
 use Rattle.jc_header_rules.specs.Headers.{answer_of_views, differ, says_wrongly, thrown_broken, wants_body, is_final, is_weaker, method_breaks, pair_broken, repeats, replaces, replacing_broken, result_answer_of, result_broken, statics_meet, throws_more}
-use Rattle.jc_header_rules.specs.Inheriting.{agreement_broken, agreements, all_members, all_above, class_breaks, conflicts, has_conflict, is_concrete, is_generic_throwable, is_left_open, is_member_above, is_none, is_of_class, leaves_open, members_disagree}
+use Rattle.jc_header_rules.specs.Inheriting.{agreement_broken, agreements, all_members, all_above, class_breaks, conflicts, has_conflict, has_no_body, is_concrete, is_generic_throwable, is_left_open, is_member_above, is_none, is_of_class, is_overridden_above, leaves_open, members_disagree}
 use Rattle.jc_header_rules.specs.Results.{answer_by, converts_unchecked, reference_answer, result_answer, yes_if}
 use Rattle.jc_header_laws.specs.Facts.{AreOne, Fit, FindsBody, IsNumber, ReferenceFits, ResultFits, TypeFits}
 use Rattle.jc_header_laws.proofs.Lists.{and_rest, each_unbroken, fore, none_is, not_broken, not_false, rear}
@@ -70,6 +70,10 @@ are_one T e n c at s t l h g p q =
     let pair : conflicts s t ≡ false = none_is (conflicts s) t above (none_is (λ x. list_any (conflicts x) above) s above none h) g in
     same_told s t (not_false (same s t) (and_rest (is_of_class (class_of s) t) (not (same s t)) (are_of_class s t l p q) pair))
 
+and_first : (a b : Bool) → b ≡ true → a && b ≡ false → a ≡ false
+and_first true b e f = sym e ∙ f
+and_first false b e f = refl
+
 some_of : {X : Type 0} (o : Option X) → is_none o ≡ false → (x : X) × (o ≡ Some x)
 some_of None e = absurd cc
 some_of (Some x) e = (x, refl)
@@ -82,7 +86,7 @@ not_left T k i m d (x ∷ ds) e (inr h) =
     not_left T k (suc i) m d ds (ap (λ j. leaves_open T k j ds) (sym (add-one i)) ∙ (or_parts (is_left_open T k (record { 0 = i })) (leaves_open T k (i + 1) ds) e).1) h
 
 pub finds_body : (T : Table) → headers_breaks T ≡ [] → (n m : ℕ) (c : ClassDecl) (d : MethodDecl) → IsNumber 0 n c T.classes → IsNumber 0 m d T.methods → FindsBody T (record { 0 = n }) c (record { 0 = m })
-finds_body T e n m c d at there concrete instance abstract member =
+finds_body T e n m c d at there concrete instance abstract member plain =
     let k : ClassId = record { 0 = n } in
     let i : MethodId = record { 0 = m } in
     let open_here : Bool = leaves_open T k 0 T.methods in
@@ -92,7 +96,8 @@ finds_body T e n m c d at there concrete instance abstract member =
     let closed : is_left_open T k i ≡ false = not_left T k 0 m d T.methods none there in
     let two : (is_instance T i && is_abstract T i) ≡ true = and_from (is_instance T i) (is_abstract T i) instance abstract in
     let three : (is_instance T i && is_abstract T i && is_member_above T k i) ≡ true = and_from (is_instance T i && is_abstract T i) (is_member_above T k i) two member in
-    let found : is_none (select T k i) ≡ false = and_rest (is_instance T i && is_abstract T i && is_member_above T k i) (is_none (select T k i)) three closed in
+    let bare : has_no_body T k i ≡ false = and_first (has_no_body T k i) (not (is_overridden_above T k i 0 T.methods)) (ap not plain) closed in
+    let found : is_none (select T k i) ≡ false = and_rest (is_instance T i && is_abstract T i && is_member_above T k i) (is_none (select T k i)) three bare in
     some_of (select T k i) found
 
 -- ---- at two methods

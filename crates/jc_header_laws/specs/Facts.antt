@@ -24,7 +24,7 @@ use Rattle.jc_overriding.specs.Viewing.{class_view, declared_view}
 use Rattle.jc_header_rules.specs.Checked.{IsAmong}
 use Rattle.jc_header_rules.specs.Clashes.{all_methods, erased_params, erasures_meet, is_settled, reaches}
 use Rattle.jc_header_rules.specs.Headers.{is_final, is_same_sort, is_weaker, replaces, throws_more}
-use Rattle.jc_header_rules.specs.Inheriting.{all_above, all_members, is_concrete, is_member_above}
+use Rattle.jc_header_rules.specs.Inheriting.{all_above, all_members, is_concrete, is_member_above, is_overridden_above}
 use Rattle.jc_header_rules.specs.Results.{converts_unchecked}
 use Rattle.jc_clashes.specs.Constructors.{is_constructor}
 
@@ -93,9 +93,11 @@ Fit T m n = replaces T m n ≡ true → Fits T m n
 
 -- ---- bodies
 
+-- a class that isn't abstract has a body for each abstract method that it declares or inherits: that no other method which it has overrides
 abbrev pub FindsBody : Table → ClassId → ClassDecl → MethodId → Type 0
 FindsBody T k c m =
-    is_concrete T k c ≡ true → is_instance T m ≡ true → is_abstract T m ≡ true → is_member_above T k m ≡ true → (n : MethodId) × (select T k m ≡ Some n)
+    is_concrete T k c ≡ true → is_instance T m ≡ true → is_abstract T m ≡ true → is_member_above T k m ≡ true → is_overridden_above T k m 0 T.methods ≡ false
+    → (n : MethodId) × (select T k m ≡ Some n)
 
 -- methods, or constructors, of one class, of which one's signature is a subsignature of the other's
 abbrev pub OneDeclaration : Table → MethodId → MethodId → Type 0

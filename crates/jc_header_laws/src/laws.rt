@@ -47,7 +47,7 @@ pub fn overriding_methods_fit()
     ensures { (T : Table) → IsUnbroken T → (m n : ℕ) (d e : MethodDecl) → IsNumber 0 m d T.methods → IsNumber 0 n e T.methods → Fit T (record { 0 = m }) (record { 0 = n }) }
 {}
 
-/// .. and a class that isn't abstract has a body for each abstract method that is a member of it (JLS 8.1.1.1).
+/// .. and a class that isn't abstract has a body for each abstract method that it declares or inherits (JLS 8.1.1.1, 8.4.8).
 pub fn selection_finds_a_body()
     ensures { (T : Table) → IsUnbroken T → (n m : ℕ) (c : ClassDecl) (d : MethodDecl) → IsNumber 0 n c T.classes → IsNumber 0 m d T.methods → FindsBody T (record { 0 = n }) c (record { 0 = m }) }
 {}

@@ -1,5 +1,5 @@
 -- The stage of clashes: methods of one erasure of which neither overrides the other (JLS 8.4.8.3); and the breaks of the three stages of headers.
-use Rattle.std.specs.Prelude.{ℕ, zero, suc, ◌+◌, ◌==◌, nat_lt, Bool, true, false, not, ◌&&◌, ◌||◌, List, [], ◌∷◌, ◌++◌, map, length, Option, Some, None}
+use Rattle.std.specs.Prelude.{ℕ, zero, suc, ◌+◌, ◌==◌, nat_lt, Bool, true, false, not, ◌&&◌, ◌||◌, List, [], ◌∷◌, ◌++◌, map, length, Option, Some, None, if◌then◌else◌}
 use Rattle.std.specs.List.{list_any}
 use Rattle.std.specs.Str.{bytes_eq}
 use Rattle.jc_rules.specs.declared.rule.Place.{Place}
@@ -80,9 +80,21 @@ abbrev pub place_or : Place → Option Place → Place
 place_or place None = place
 place_or place (Some p) = p
 
--- the place at which class k's clash of m and n is told; `place` is that of the class
-abbrev pub clash_place : Table → ClassId → Place → MethodId → MethodId → Place
-clash_place T k place m n = by (same_class (owner T m) k) (same_class (owner T n) k)
+-- the first of these methods, counted from i, that class k declares and that overrides or hides method n
+abbrev pub own_replacing : Table → ClassId → MethodId → ℕ → List MethodDecl → Option MethodId
+own_replacing T k n i [] = None
+own_replacing T k n i (d ∷ ds) =
+    if same_class (owner T (record { 0 = i })) k && replaces T (record { 0 = i }) n then Some (record { 0 = i }) else own_replacing T k n (i + 1) ds
+
+-- the place of a method, or this one where there is none
+abbrev pub place_of_some : Table → Place → Option MethodId → Place
+place_of_some T place None = place
+place_of_some T place (Some d) = place_or place (method_place_of T d)
+
+-- the place at which class k's clash of m and n is told: that of the method that k declares, of two the later one; and `other` where k declares neither. `place`
+-- is that of the class
+abbrev pub clash_place_or : Table → ClassId → Place → MethodId → MethodId → Place → Place
+clash_place_or T k place m n other = by (same_class (owner T m) k) (same_class (owner T n) k)
   where
     later : Bool → Place
     later true = place_or place (method_place_of T n)
@@ -92,7 +104,11 @@ clash_place T k place m n = by (same_class (owner T m) k) (same_class (owner T n
     by true true = later (nat_lt m.0 n.0)
     by true false = place_or place (method_place_of T m)
     by false true = place_or place (method_place_of T n)
-    by false false = place
+    by false false = other
+
+-- .. of a clash of member m with n: where k declares neither, at a method of k that overrides or hides n, and at the class only where k inherits both
+abbrev pub clash_place : Table → ClassId → Place → MethodId → MethodId → Place
+clash_place T k place m n = clash_place_or T k place m n (place_of_some T place (own_replacing T k n 0 T.methods))
 
 -- a broken rule for each of these methods that member v clashes with
 abbrev pub pairs_broken : Table → ClassId → Place → List MethodView → MethodView → List MethodView → List Refusal

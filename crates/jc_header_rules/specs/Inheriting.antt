@@ -17,7 +17,7 @@ use Rattle.jc_judge.specs.Kinds.{class_of}
 use Rattle.jc_judge.specs.Trees.{both, either}
 use Rattle.jc_judge.specs.Views.{is_class, supers}
 use Rattle.jc_overriding.specs.declared.view.MethodView.{MethodView}
-use Rattle.jc_overriding.specs.Overriding.{access_of, candidates, is_above, is_abstract, is_inheritable, is_instance, owner, remaining, same_class, select}
+use Rattle.jc_overriding.specs.Overriding.{access_of, candidates, is_above, is_abstract, is_inheritable, is_instance, overrides, owner, remaining, same_class, select}
 use Rattle.jc_overriding.specs.Signatures.{override_equivalent}
 use Rattle.jc_overriding.specs.Viewing.{is_static, own_type}
 use Rattle.jc_header_rules.specs.Places.{broken_if}
@@ -65,7 +65,7 @@ has_conflict ts = list_any (λ s. list_any (conflicts s) ts) ts
 abbrev pub all_members : Table → ClassId → List MethodView
 all_members T k = remaining T (candidates T (λ m. true) (own_type T k))
 
--- ---- 509: a class that isn't abstract has a body for each abstract method (JLS 8.1.1.1)
+-- ---- 509: a class that isn't abstract has a body for each abstract method that it declares or inherits (JLS 8.1.1.1, 8.4.8)
 
 -- nothing is there
 abbrev pub is_none : {X : Type 0} → Option X → Bool
@@ -76,9 +76,20 @@ is_none (Some x) = false
 abbrev pub is_member_above : Table → ClassId → MethodId → Bool
 is_member_above T k m = same_class (owner T m) k || (is_above T k (owner T m) && is_inheritable T k m)
 
--- an abstract instance method that class k has, and no body that k has stands for it
+-- One of these methods, counted from i, that class k declares or may inherit from a class above, overrides method m, as its own class has both. So k doesn't
+-- inherit m, not even where k has that class raw, so that their signatures no longer agree in k (JLS 8.4.8, 9.4.1)
+abbrev pub is_overridden_above : Table → ClassId → MethodId → ℕ → List MethodDecl → Bool
+is_overridden_above T k m i [] = false
+is_overridden_above T k m i (d ∷ ds) =
+    (is_member_above T k (record { 0 = i }) && overrides T (record { 0 = i }) m) || is_overridden_above T k m (i + 1) ds
+
+-- an abstract instance method that class k declares or may inherit, and no body that k has stands for it
+abbrev pub has_no_body : Table → ClassId → MethodId → Bool
+has_no_body T k m = is_instance T m && is_abstract T m && is_member_above T k m && is_none (select T k m)
+
+-- .. and no other method that k has overrides it
 abbrev pub is_left_open : Table → ClassId → MethodId → Bool
-is_left_open T k m = is_instance T m && is_abstract T m && is_member_above T k m && is_none (select T k m)
+is_left_open T k m = has_no_body T k m && not (is_overridden_above T k m 0 T.methods)
 
 -- one of these methods, counted from i, is left open
 abbrev pub leaves_open : Table → ClassId → ℕ → List MethodDecl → Bool

@@ -23,7 +23,7 @@ use Rattle.jc_name_rules.specs.Singles.{AreSingles, AreOfUnits, AllSingles, othe
 use Rattle.jc_name_rules.proofs.Singled.{other_single_told}
 
 -- those of a list that pass, with their names, counted from i
-marked : {X : Type 0} → (X → Bool) → (X → List ℕ) → ℕ → List X → Named
+unfoldable pub marked : {X : Type 0} → (X → Bool) → (X → List ℕ) → ℕ → List X → Named
 marked test name i [] = []
 marked test name i (x ∷ xs) = cond (test x) ((name x, i) ∷ []) [] ++ marked test name (suc i) xs
 
@@ -67,7 +67,7 @@ module _ {X : Type 0} (test : X → Bool) (name : X → List ℕ) (n : List ℕ)
       ∙ h
       ∙ sym (ap (λ b. not (b || some_in P (take k xs))) (same x ∙ e))
 
-  first_of : (i k : ℕ) (xs : List X) (x : X) → slice_get xs k ≡ Some x → test x ≡ true → bytes_eq n (name x) ≡ true → is_number (named n (marked test name i xs)) (i + k) ≡ not (some_before P k xs)
+  pub first_of : (i k : ℕ) (xs : List X) (x : X) → slice_get xs k ≡ Some x → test x ≡ true → bytes_eq n (name x) ≡ true → is_number (named n (marked test name i xs)) (i + k) ≡ not (some_before P k xs)
   unfolding marked
   first_of i k [] x e t b = absurd (cc)
   first_of i zero (y ∷ ys) x e t b =

@@ -3,6 +3,7 @@ pub mod SuperKinds
 pub mod Singled
 pub mod Firsts
 pub mod PartsOpen
+pub mod Twice
 pub mod LeastOfAll
 pub mod SuperTurns
 pub mod Units

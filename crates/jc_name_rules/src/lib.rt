@@ -6,6 +6,7 @@ mod imports;
 mod least;
 mod members;
 mod packages;
+mod repeated;
 mod singles;
 mod sites;
 mod supers;

@@ -1,4 +1,4 @@
-//! The modifiers of declarations (309), and the names of the types that they write (302, 303, 310, 311).
+//! What stands twice in declarations (305, 307), their modifiers (309), and the names of the types that they write (302, 303, 310, 311).
 ghost use Rattle.std.specs.Prelude.{◌≡◌, ℕ, Bool, IfOk};
 ghost use Rattle.jc_types.specs.Breaks.{least};
 ghost use Rattle.jc_declares.specs.Heads.{superclass_trees};
@@ -13,6 +13,7 @@ ghost use Rattle.jc_written.specs.At.{reading_at};
 ghost use Rattle.jc_name_rules.specs.HeadTypes.{class_types, head_types};
 
 use crate::members::class_file;
+use crate::repeated::{class_repeated, formals_repeated};
 use crate::supers::is_interface;
 use jc_declares::Heads;
 use jc_heads::{
@@ -162,6 +163,7 @@ pub fn class_site_broken(
     requires { IsScene scene.now.declared.heads.now scene.now.declared.index.now scene.now.imports.now }
     ensures { let H = scene.now.declared.heads.now in let K = known_in scene.now.known.now in IfOk result (λ it. it ≡ least found (class_site_breaks H K number site.now)) }
 {
+    let found = class_repeated(alloc, scene, number, site.file, site.head, found)?;
     let found = class_modifiers_broken(site, found);
     let found = class_head_broken(alloc, scene, number, site.file, site.head, found)?;
     Ok(found)
@@ -303,6 +305,8 @@ pub fn method_site_broken(
 {
     match site.form {
         MethodForm::Headed { head, .. } => {
+            let file = class_file(scene.declared.heads, site.class);
+            let found = formals_repeated(alloc, file, head.formals.slice(), found)?;
             let found = head_modifiers_broken(scene.declared.heads, site.class, head, found);
             let found = head_broken(alloc, scene, number, site.class, head, found)?;
             Ok(found)

@@ -1,16 +1,15 @@
 //! The wrong kind of supertype (JLS 8.1.4, 8.1.5, 9.1.3).
-ghost use Rattle.std.specs.Prelude.{◌≡◌, ◌++◌, ◌||◌, not, [], IfOk, OnOk};
+ghost use Rattle.std.specs.Prelude.{◌≡◌, ◌||◌, not, IfOk};
 ghost use Rattle.jc_types.specs.Breaks.{least};
 ghost use Rattle.jc_declares.specs.Heads.{is_interface, is_final};
-ghost use Rattle.jc_declares.specs.Looking.{has};
 ghost use Rattle.jc_declares.specs.HeadBreaks.{broken_at, unless, superclass_breaks, interface_breaks, super_breaks};
 ghost use Rattle.jc_looking.specs.Members.{known_in};
 ghost use Rattle.jc_looking.specs.Scenes.{IsScene};
-ghost use Rattle.jc_name_rules.specs.Sighted.{superclass_seen, interface_seen, class_seen};
+ghost use Rattle.jc_name_rules.specs.Sighted.{superclass_seen, interface_seen};
 
 use jc_declares::{ClassHead, Heads};
 use jc_looking::{Scene, Sight, Standing, may_be_named, meaning};
-use jc_rules::{Items, Place, Refusal, Rule, WantOfMemory};
+use jc_rules::{Place, Refusal, Rule, WantOfMemory};
 use jc_types::Kind;
 use jc_written::{is_own, or_break};
 use std::alloc::Global;
@@ -34,17 +33,6 @@ fn is_final(heads: &Heads, class: u64) -> bool
     }
 }
 
-fn has(class: u64, classes: &[u64]) -> bool
-    ensures { result ≡ has class classes.now }
-{
-    for other in classes {
-        if class == *other {
-            return true;
-        }
-    }
-    false
-}
-
 /// Whether what is seen of a superclass is a class that isn't final.
 fn superclass_fits(heads: &Heads, class: u64, sight: Sight) -> bool
     ensures { result ≡ superclass_seen heads.now class sight }
@@ -56,12 +44,12 @@ fn superclass_fits(heads: &Heads, class: u64, sight: Sight) -> bool
     }
 }
 
-/// Whether what is seen of a superinterface is an interface that doesn't stand before it in its list.
-fn interface_fits(heads: &Heads, class: u64, sight: Sight, before: &[u64]) -> bool
-    ensures { result ≡ interface_seen heads.now class sight before.now }
+/// Whether what is seen of a superinterface is an interface.
+fn interface_fits(heads: &Heads, class: u64, sight: Sight) -> bool
+    ensures { result ≡ interface_seen heads.now class sight }
 {
     match sight {
-        Sight::Class(other) => is_interface(heads, other) && !has(other, before),
+        Sight::Class(other) => is_interface(heads, other),
         Sight::Variable(variable) => !is_own(heads, variable, Some(class)),
         _ => true,
     }
@@ -105,17 +93,7 @@ fn superclass_broken(
     Ok(found)
 }
 
-/// Adds the class that is seen.
-fn push_seen(before: &mut Items<u64>, sight: Sight) -> Result<(), WantOfMemory>
-    ensures { OnOk result (before.new ≡ before.old ++ class_seen sight) }
-{
-    match sight {
-        Sight::Class(class) => before.push(class),
-        _ => Ok(()),
-    }
-}
-
-#[tactic(auto, using(crate::proofs::SuperKinds::interface_told, crate::proofs::SuperKinds::class_told, crate::proofs::Counting::counting))]
+#[tactic(auto, using(crate::proofs::SuperKinds::interface_told, crate::proofs::Counting::counting))]
 fn interface_broken(
     alloc: Global,
     scene: &Scene,
@@ -124,17 +102,15 @@ fn interface_broken(
     found: Option<Refusal>,
 ) -> Result<Option<Refusal>, WantOfMemory>
     requires { IsScene scene.now.declared.heads.now scene.now.declared.index.now scene.now.imports.now }
-    ensures { IfOk result (λ it. it ≡ least found (interface_breaks scene.now.declared.heads.now (known_in scene.now.known.now) number class.now [] class.now.interfaces)) }
+    ensures { IfOk result (λ it. it ≡ least found (interface_breaks scene.now.declared.heads.now (known_in scene.now.known.now) number class.now class.now.interfaces)) }
 {
     let mut found = found;
-    let mut before = Items::new(alloc);
     let standing = Standing::Head(number);
     for path in class.interfaces.slice() {
         let is_nameable = may_be_named(alloc, scene, standing, path)?;
         let sight = meaning(alloc, scene, standing, path)?;
-        let fits = interface_fits(scene.declared.heads, number, sight, before.slice());
+        let fits = interface_fits(scene.declared.heads, number, sight);
         found = unless_fits(is_nameable, fits, class.file, path.at, found);
-        push_seen(&mut before, sight)?;
     }
     Ok(found)
 }

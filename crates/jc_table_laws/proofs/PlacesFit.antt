@@ -31,7 +31,7 @@ use Rattle.jc_declares.specs.declared.heads.ScopeForm.{ScopeForm}
 use Rattle.jc_declares.specs.declared.heads.ScopeForm.TheVariants as scope_of
 use Rattle.jc_declares.specs.declared.heads.ScopeHead.{ScopeHead}
 use Rattle.jc_declares.specs.declared.unit.SourceUnit.{SourceUnit}
-use Rattle.jc_declares.specs.Breaks.{BreaksNames, in_file, class_modifier_breaks, field_modifier_breaks, method_modifier_breaks, local_modifier_breaks, class_trees_broken, bounds_broken, class_broken, formals_broken, result_broken, method_broken, is_static_field, field_broken, wrotes_broken, use_broken, class_site_breaks, method_site_breaks, field_site_breaks, use_site_breaks, site_breaks, listed_breaks}
+use Rattle.jc_declares.specs.Breaks.{BreaksNames, in_file, class_repeated_breaks, class_modifier_breaks, field_modifier_breaks, method_repeated_breaks, method_modifier_breaks, local_modifier_breaks, class_trees_broken, bounds_broken, class_broken, formals_broken, result_broken, method_broken, is_static_field, field_broken, wrotes_broken, use_broken, class_site_breaks, method_site_breaks, field_site_breaks, use_site_breaks, site_breaks, listed_breaks}
 use Rattle.jc_declares.specs.HeadBreaks.{IsCycle, of_each, head_breaks, class_file, class_in, owner_file}
 use Rattle.jc_declares.specs.Heads.{heads_of, class_head, method_place, is_interface, superclass_trees, interface_trees, method_variables, round_of, unit_of}
 use Rattle.jc_declares.specs.Knowing.{known, is_some, Needs}
@@ -308,7 +308,7 @@ module _ (units : List SourceUnit) (unbroken : (b : Refusal) → BreaksNames (si
       let a : List Broken = bounds_broken H K r (params_of_head s.head) in
       let b : List Broken = class_trees_broken H K r (superclass_trees s.head) in
       let d : List Broken = class_trees_broken H K r (interface_trees s.head) in
-      let all : a ++ b ++ d ≡ [] = none_in_file s.file (a ++ b ++ d) (right_empty (class_modifier_breaks s) (class_broken H K c s) e) in
+      let all : a ++ b ++ d ≡ [] = none_in_file s.file (a ++ b ++ d) (right_empty (class_repeated_breaks H K c s ++ class_modifier_breaks s) (class_broken H K c s) e) in
       let two : a ++ b ≡ [] = left_empty (a ++ b) d all in
       record { bounds = left_empty a b two; superclass = right_empty a b two; interfaces = right_empty (a ++ b) d all }
 
@@ -375,7 +375,7 @@ module _ (units : List SourceUnit) (unbroken : (b : Refusal) → BreaksNames (si
 
   method_zip : (m : ℕ) (s : MethodSite) → MethodUnbroken m s × MethodFits (sizes S) s → method_zips (method_decl H K m s) ≡ true
   method_zip m s a =
-      method_form_zips m s (below_heads s.class a.1.class) s.form (right_empty (method_modifier_breaks H s.class s.form) (method_broken H K m s.class s.form) a.0)
+      method_form_zips m s (below_heads s.class a.1.class) s.form (right_empty (method_repeated_breaks H s.class s.form ++ method_modifier_breaks H s.class s.form) (method_broken H K m s.class s.form) a.0)
 
   -- ---- fields
 
@@ -410,7 +410,7 @@ module _ (units : List SourceUnit) (unbroken : (b : Refusal) → BreaksNames (si
       let is : class_in (slice_get H.methods m) ≡ c = ap class_in (method_at S.methods m o.site o.at) in
       let l : c < length H.classes = below_heads c (each_at (MethodFits (sizes S)) S.methods m o.site o.at fit.methods).class in
       let e : method_broken H K m c o.site.form ≡ [] =
-      right_empty (method_modifier_breaks H c o.site.form) (method_broken H K m c o.site.form) (at_place MethodUnbroken S.methods m o.site o.at methods_unbroken) in
+      right_empty (method_repeated_breaks H c o.site.form ++ method_modifier_breaks H c o.site.form) (method_broken H K m c o.site.form) (at_place MethodUnbroken S.methods m o.site o.at methods_unbroken) in
       subst (λ (d : ℕ). Each WrittenZips (written_classes H K file (method_reading H K m d false) p.bounds)) (sym is) (form_bounds file m c p l o.site.form o.written e)
 
   owner_bounds : (file : ℕ) (o : Owner) (p : TypeParam) → IsOwned S.classes S.methods o p → Each WrittenZips (written_classes H K file (owner_reading H K o) p.bounds)

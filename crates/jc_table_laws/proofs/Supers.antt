@@ -24,7 +24,7 @@ use Rattle.jc_declares.specs.declared.heads.ClassHead.{ClassHead}
 use Rattle.jc_declares.specs.declared.heads.Heads.{Heads}
 use Rattle.jc_declares.specs.declared.unit.SourceUnit.{SourceUnit}
 use Rattle.jc_declares.specs.Breaks.{BreaksNames, class_trees_broken, site_breaks}
-use Rattle.jc_declares.specs.HeadBreaks.{broken_at, class_breaks, head_breaks, interface_breaks, interface_fits, is_nameable, of_each, super_breaks, superclass_breaks, superclass_fits, class_meant, twice_class, twice_field, twice_variable, unit_breaks, unless}
+use Rattle.jc_declares.specs.HeadBreaks.{broken_at, class_breaks, head_breaks, interface_breaks, interface_fits, is_nameable, of_each, super_breaks, superclass_breaks, superclass_fits, twice_class, twice_field, twice_variable, unit_breaks, unless}
 use Rattle.jc_declares.specs.Heads.{Named, heads_of, class_head, class_variables, owner_of, path_of_class, superclass_trees, interface_trees}
 use Rattle.jc_declares.specs.Knowing.{known, meant_in_head, passed_all}
 use Rattle.jc_declares.specs.Looking.{Knowledge, Look, AClass, AVariable, all_accessible, head_asker, in_head, is_own, look_up}
@@ -273,18 +273,16 @@ module _ (units : List SourceUnit) where
               (right_empty (unless fits (broken_at 305 head.file (path_of_class t).at)) (superclass_breaks H K c head (map path_of_class ts)) k),
         )
 
-    interface_supers : (file : ℕ) (before : List ℕ) (ts : List ClassTree) → class_trees_broken H K r ts ≡ [] → interface_breaks H K c head before (map path_of_class ts) ≡ []
-        → Each Super (written_classes H K file r ts)
-    interface_supers file before [] b k = tt
-    interface_supers file before (t ∷ ts) b k =
+    interface_supers : (file : ℕ) (ts : List ClassTree) → class_trees_broken H K r ts ≡ [] → interface_breaks H K c head (map path_of_class ts) ≡ [] → Each Super (written_classes H K file r ts)
+    interface_supers file [] b k = tt
+    interface_supers file (t ∷ ts) b k =
         let here : (wrote_class H K r t).broken ≡ [] = left_empty (wrote_class H K r t).broken (class_trees_broken H K r ts) b in
-        let look : Look = meant_in_head H K c (path_of_class t) in
-        let fits : Bool = not (is_nameable H K c (path_of_class t)) || interface_fits H c look before in
-        let rest : List Refusal = interface_breaks H K c head (before ++ class_meant look) (map path_of_class ts) in
-        let asked : unless fits (broken_at 305 head.file (path_of_class t).at) ≡ [] = left_empty (unless fits (broken_at 305 head.file (path_of_class t).at)) rest k in (
-          tree_super file t here (no_variable (λ (l : Look). interface_fits H c l before) (λ v. refl) t (tree_told t here) (kept_unless fits 305 head.file (path_of_class t).at asked)),
-          interface_supers file (before ++ class_meant look) ts (right_empty (wrote_class H K r t).broken (class_trees_broken H K r ts) b)
-              (right_empty (unless fits (broken_at 305 head.file (path_of_class t).at)) rest k),
+        let fits : Bool = not (is_nameable H K c (path_of_class t)) || interface_fits H c (meant_in_head H K c (path_of_class t)) in
+        let asked : unless fits (broken_at 305 head.file (path_of_class t).at) ≡ [] =
+        left_empty (unless fits (broken_at 305 head.file (path_of_class t).at)) (interface_breaks H K c head (map path_of_class ts)) k in (
+          tree_super file t here (no_variable (interface_fits H c) (λ v. refl) t (tree_told t here) (kept_unless fits 305 head.file (path_of_class t).at asked)),
+          interface_supers file ts (right_empty (wrote_class H K r t).broken (class_trees_broken H K r ts) b)
+              (right_empty (unless fits (broken_at 305 head.file (path_of_class t).at)) (interface_breaks H K c head (map path_of_class ts)) k),
         )
 
     or_object_supers : (file at : ℕ) (ws : List Written) → Each Super ws → Each Super (or_object file at ws)
@@ -313,12 +311,12 @@ module _ (units : List SourceUnit) where
         let read : ClassRead units unbroken c s = class_read units unbroken c s (at_place (ClassUnbroken units unbroken) S.classes c s at_c (classes_unbroken units unbroken)) in
         let first : List Written = or_object s.file (first_offset_of_head s.head) (written_classes H K s.file r (superclass_trees s.head)) in
         let a : List Refusal = superclass_breaks H K c head (map path_of_class (superclass_trees s.head)) in
-        let b : List Refusal = interface_breaks H K c head [] (map path_of_class (interface_trees s.head)) in
+        let b : List Refusal = interface_breaks H K c head (map path_of_class (interface_trees s.head)) in
         each_joined Super (cond (c == 0) [] first) (written_classes H K s.file r (interface_trees s.head))
         (unless_object (c == 0) first
         (or_object_supers s.file (first_offset_of_head s.head) (written_classes H K s.file r (superclass_trees s.head))
         (superclass_supers s.file (superclass_trees s.head) read.superclass (left_empty a b kinds_unbroken))))
-        (interface_supers s.file [] (interface_trees s.head) read.interfaces (right_empty a b kinds_unbroken))
+        (interface_supers s.file (interface_trees s.head) read.interfaces (right_empty a b kinds_unbroken))
 
   -- ---- of any class
 

@@ -1,0 +1,4 @@
+class Box<T extends Comparable<T>> { }
+class A {
+    Box<? super Integer> box;
+}

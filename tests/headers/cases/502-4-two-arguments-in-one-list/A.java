@@ -1,0 +1,2 @@
+interface One<T> { }
+class A implements One<String>, One<Integer> { }

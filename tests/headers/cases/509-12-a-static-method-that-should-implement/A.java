@@ -1,0 +1,6 @@
+interface Task {
+    void run();
+}
+class A implements Task {
+    public static void run() { }
+}

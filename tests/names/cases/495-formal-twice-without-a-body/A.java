@@ -1,0 +1,4 @@
+interface A {
+    void method(int one, String other,
+        int one);
+}

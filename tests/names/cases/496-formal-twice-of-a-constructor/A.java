@@ -1,0 +1,4 @@
+class A {
+    A(int one, A other,
+        A[] one) { }
+}

@@ -1,0 +1,2 @@
+abstract class A implements Comparable,
+    Comparable<A> { }

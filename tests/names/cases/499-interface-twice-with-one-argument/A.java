@@ -1,0 +1,2 @@
+abstract class A implements Comparable<A>, Iterable<A>,
+    java.lang.Comparable<A> { }

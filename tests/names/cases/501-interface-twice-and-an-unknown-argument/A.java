@@ -1,0 +1,3 @@
+interface I<T> { }
+class A implements I<Object>,
+    I<Missing> { }

@@ -1,0 +1,5 @@
+class B {
+    private interface I { }
+}
+class A implements B.I,
+    B.I { }

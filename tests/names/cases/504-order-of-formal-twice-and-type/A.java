@@ -1,0 +1,4 @@
+class A {
+    void method(int one, String one,
+        Missing two) { }
+}

@@ -1,0 +1,4 @@
+class A {
+    void method(Missing one,
+        String one) { }
+}
