@@ -32,7 +32,7 @@ use Rattle.jc_typed.specs.declared.program.TypedProgram.{TypedProgram}
 use Rattle.jc_typed.specs.Trees.{Step, Expr, NoExpr, expr, Operand, NoOperand, operand, Form, Fixed, Null, Local, This, StaticField, Field, Element, Length, Prefix, Chain, AllOf, AnyOf, InstanceOf, Conditional, Assign, Compound, Change, Call, New, NewArray, ArrayOf, Cast, Variable, LocalVariable, StaticVariable, FieldVariable, ElementVariable, Operands, Links, NoLinks, MoreLinks}
 use Rattle.jc_meaning.specs.declared.frame.Frame.{Frame}
 use Rattle.jc_meaning.specs.declared.frame.Read.{Read}
-use Rattle.jc_meaning.specs.Kept.{TypedState, TypedRun, typed_keeping, closed, kept_by}
+use Rattle.jc_meaning.specs.Kept.{TypedState, TypedRun, typed_keeping, born, closed, kept_by}
 use Rattle.jc_meaning.specs.Programs.{operand_list, method_class}
 use Rattle.jc_meaning.specs.Calls.{call_static, call_direct, call_virtual}
 use Rattle.jc_meaning.specs.Steps.{steps}
@@ -212,7 +212,7 @@ module _ (D : ℕ) where
         andso (h.makes Ty Frame (List Read) D _) (λ a.
         andso (values_s args) (λ vs.
         andso (closed_s ty) (λ t.
-        andso (h.sets_kept Ty Frame (List Read) D a _) (λ _.
+        andso (h.sets_kept Ty Frame (List Read) D a (λ kept. born (method_class P.table m) (kept_by P.table t) kept)) (λ _.
         andso (directs m (Address a) vs []) (λ _. gives (Address a)))))))
 
     new_array_s : (t : Ty) (n : ℕ) → Steady (new_array P r t n) (new_array P r' t n)
