@@ -103,13 +103,18 @@ class Parser:
 
     def type_args(self):
         self.take('<'); out = []
-        while not self.got('>'):
+        while not self.closed():
             if self.got('?'):
                 kind = self.take() if self.peek() in ('extends', 'super') else ''
                 out.append(f'?{kind[:1]}{self.type()}' if kind else '?')
             else: out.append(self.type())
             self.got(',')
         return f'<{",".join(out)}>'
+
+    def closed(self):
+        """whether type arguments end here; of `>>` the first sign is taken"""
+        if self.peek() in ('>>', '>>>'): self.t[self.i:self.i + 1] = ['>'] * len(self.peek())
+        return self.got('>')
 
     def vars(self):
         """Type parameters with their bounds, if some stand here."""
@@ -200,8 +205,8 @@ class Parser:
         if not re.match(r'[A-Za-z_]', t) or t in ('return', 'new', 'throw', 'this', 'super', 'instanceof', 'else', 'case'): return False
         k = 1
         if self.peek(k) == '<':
-            while re.match(r'[A-Za-z_<>,?\[\]&]', self.peek(k)) and not (self.peek(k - 1) == '>' and re.match(r'[A-Za-z_]', self.peek(k))): k += 1
-            if self.peek(k - 1) not in ('>', ']'): return False
+            while re.match(r'[A-Za-z_<>,?\[\]&]', self.peek(k)) and not (self.peek(k - 1)[-1:] in '>]' and re.match(r'[A-Za-z_]', self.peek(k))): k += 1
+            if self.peek(k - 1)[-1:] not in ('>', ']'): return False
         while self.peek(k) == '[' and self.peek(k + 1) == ']': k += 2
         return bool(re.match(r'[A-Za-z_]', self.peek(k))) and self.peek(k) != 'instanceof'
 
@@ -357,7 +362,7 @@ def is_captured(t): return re.fullmatch(r'CAP\d+', t) is not None
 
 
 class Program:
-    captured, has_captures, without = [], False, ()
+    captured, bound, has_captures, without = 0, {}, False, ()
 
     def __init__(self, classes):
         self.cs = classes; self.by = {c.name: c for c in classes}
@@ -392,7 +397,7 @@ class Program:
 
     def erase(self, t):
         if t.endswith('[]'): return self.erase(t[:-2]) + '[]'
-        if is_captured(t): return self.erase(self.captured[int(t[3:])])
+        if is_captured(t): return self.erase(self.bound[t])
         return self.erase(self.vars[t][1][0]) if t in self.vars else base(t)
 
     def subst(self, t, by):
@@ -405,7 +410,7 @@ class Program:
     def by_view(self, t, owner):
         """What stands for the type parameters of a class above a type, or None where the type is raw there."""
         if t in self.vars: return self.by_view(self.vars[t][1][0], owner)
-        if is_captured(t): return self.by_view(self.captured[int(t[3:])], owner)
+        if is_captured(t): return self.by_view(self.bound[t], owner)
         c = self.by.get(base(t))
         if c is None: return {}
         by = dict(zip([n for n, _ in c.vars], args_of(t)))
@@ -482,7 +487,7 @@ class Body:
     def __init__(self, P, m):
         self.P, self.m, self.c = P, m, m.cls
         self.lines, self.locals, self.scope, self.targets = [], [], [{}], []
-        P.captured = []
+        P.captured, P.bound = 0, {}
         self.next_target = 1
         self.none = {k: None for k in ('types', 'steps', 'captures', 'ops', 'cases', 'operands', 'links', 'declared', 'stmts', 'arms', 'catches', 'names', 'places')}
         self.own = m.cls.name + (f'<{",".join(n for n, _ in m.cls.vars)}>' if m.cls.vars else '')
@@ -590,12 +595,13 @@ class Body:
         if t.endswith('[]') or not any(a[:1] == '?' for a in args_of(t)): return at, t
         form = self.lines.pop().split(' ', 3)[3]
         k, args = self.P.by[base(t)], args_of(t)
-        by = {n: a if a[:1] != '?' else f'CAP{len(self.P.captured) + sum(b[:1] == "?" for b in args[:i])}' for i, ((n, _), a) in enumerate(zip(k.vars, args))}
+        by = {n: a if a[:1] != '?' else f'CAP{self.P.captured + sum(b[:1] == "?" for b in args[:i])}' for i, ((n, _), a) in enumerate(zip(k.vars, args))}
         list = self.empty('captures')
         for i, ((n, bounds), a) in enumerate(zip(k.vars, args)):
             if a[:1] == '?':
-                list = self.node(f'captures {list} {len(self.P.captured)} {k.id} {i}')
-                self.P.captured.append(a[2:] if a[:2] == '?e' else self.P.subst(bounds[0], by))
+                list = self.node(f'captures {list} {self.P.captured} {k.id} {i}')
+                self.P.bound[by[n]] = a[2:] if a[:2] == '?e' else self.P.subst(bounds[0], by)
+                self.P.captured += 1
         seen = type(t)(f'{base(t)}<{",".join(by.values())}>')
         return self.node(f'expr {self.type(seen)} {list} {form}'), seen
 
@@ -672,9 +678,9 @@ class Body:
         if o in ('&&', '||'):
             xs = [y for _, y in self.flat(('bin', o, l, r), [o])]
             first = self.to(xs[0], 'boolean')
-            since = len(self.P.captured)
+            since = self.P.captured
             others = [self.to(y, 'boolean') for y in xs[1:]]
-            return self.e(f'{"all" if o == "&&" else "any"} {self.operands([first] + others)} {since} {len(self.P.captured)}', 'boolean'), 'boolean'
+            return self.e(f'{"all" if o == "&&" else "any"} {self.operands([first] + others)} {since} {self.P.captured}', 'boolean'), 'boolean'
         level = next(v for v in Parser.LEVELS if o in v)
         xs = self.flat(('bin', o, l, r), level)
         at, t = self.expr(xs[0][1])
@@ -690,7 +696,7 @@ class Body:
 
     def x_cond(self, c, a, b):
         test = self.to(c, 'boolean')
-        since = len(self.P.captured)
+        since = self.P.captured
         aat, s = self.expr(a); bat, t = self.expr(b)
         if s in PRIMS and t in PRIMS or s in BOX and t in PRIMS or s in PRIMS and t in BOX:
             x, y = self.const(a), self.const(b)
@@ -699,7 +705,7 @@ class Body:
         elif t == 'null' or self.P.below(t, s): p = s
         elif self.P.below(s, t): p = t
         else: p = 'Object'
-        return self.e(f'conditional {test} {self.op(aat, self.conv(s, p))} {self.op(bat, self.conv(t, p))} {since} {len(self.P.captured)}', p), p
+        return self.e(f'conditional {test} {self.op(aat, self.conv(s, p))} {self.op(bat, self.conv(t, p))} {since} {self.P.captured}', p), p
 
     def var(self, x):
         if x[0] == 'name':
@@ -745,7 +751,7 @@ class Body:
     def arguments(self, m, xs): return self.operands([self.to(x, p[0]) for x, p in zip(xs, m.params)])
 
     def types(self, xs):
-        save = (list(self.lines), dict(self.none), list(self.P.captured))
+        save = (list(self.lines), dict(self.none), self.P.captured)
         ts = [self.expr(x)[1] for x in xs]
         self.lines, self.none, self.P.captured = save
         return ts
@@ -816,7 +822,7 @@ class Body:
         is_unchecked = t.endswith('<>') and any('<' in p[0] and '<' not in a and self.P.by.get(a) and self.P.by[a].vars for a, p in zip(ts, m.params))
         args = lambda see: self.operands([self.to(x, see(p[0])) for x, p in zip(xs, m.params)])
         if t.endswith('<>'):
-            save = (list(self.lines), dict(self.none), list(self.P.captured)); args(str)
+            save = (list(self.lines), dict(self.none), self.P.captured); args(str)
             t = f'{base(t)}<{",".join(self.inferred(n, m, ts) for n, _ in m.cls.vars)}>'
             self.lines, self.none, self.P.captured = save
         by = self.P.by_view(t, base(t))
@@ -955,7 +961,7 @@ class Body:
             if not this: inits = self.initialisers(c.inits)
         if m.kind == 'i': inits = self.initialisers(c.sinits)
         call = self.list('stmts', calls); rest = self.block(body)
-        return f'body {self.local_types()} {len(self.P.captured)} {call} {inits} {rest}\n' + '\n'.join(self.lines) + '\nend'
+        return f'body {self.local_types()} {self.P.captured} {call} {inits} {rest}\n' + '\n'.join(self.lines) + '\nend'
 
 
 def first(P, vars): return f'{P.vars[vars[0][0]][0]} {len(vars)}' if vars else '0 0'
