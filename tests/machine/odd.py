@@ -258,13 +258,29 @@ def resolution():
     yield valid("ResultTypeCounts", f"invokestatic Main.g:()I\n{SHOW}invokestatic Main.g:()J\nl2i\n{SHOW}return", [1, 2])
 
 
+def sorts():
+    """The sorts that a store asks, where the verifier doesn't: of the value also where the array is null, and of the value whose place it takes."""
+    kinds = {"Int": ("I", "iconst_1"), "Long": ("J", "lconst_1"), "Reference": ("Ljava/lang/Object;", "aconst_null")}
+    stores = {"iastore": "Int", "lastore": "Long", "aastore": "Reference", "bastore": "Int", "castore": "Int", "sastore": "Int"}
+    for store, wanted in stores.items():
+        for given, (_, value) in kinds.items():
+            name, code = f"Null{store.capitalize()}Of{given}", f"aconst_null\niconst_0\n{value}\n{store}\nreturn"
+            yield valid(name, code, [], ending="threw java.lang.NullPointerException") if given == wanted else stuck(name, code)
+    make = "new Other\ndup\ninvokespecial Other.<init>:()V\n"
+    for wanted, (descriptor, value) in kinds.items():
+        for there, (other, _) in kinds.items():
+            main = main_class(f"{make}{value}\nputfield Main.own:{descriptor}\nreturn").field("own", descriptor, 1)
+            # no compiler puts into an object of a class that hasn't the field: its slot is asked, and not its class
+            yield Case(f"Put{wanted}Over{there}", [main, Assembly("Other").constructor().field("x", other, 1)], "ended" if wanted == there else "stuck")
+
+
 def chances():
     for seed in range(25):
         yield Case(f"Chance{seed}", [drawn(seed)], "ended", None, True)
 
 
 def cases():
-    found = [case for part in (operands, members, worlds, memory, refused, stack, handlers, resolution, chances) for case in part()]
+    found = [case for part in (operands, members, worlds, memory, refused, stack, handlers, resolution, sorts, chances) for case in part()]
     for case in found:
         if case.name == "ResultTypeCounts":
             case.classes[0].method("g", "()I", "iconst_1\nireturn").method("g", "()J", "ldc2_w 2L\nlreturn")

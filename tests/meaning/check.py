@@ -1,6 +1,10 @@
 #!/usr/bin/env python3
 """check.py JC_EVAL: each program of cases/ is run with several numbers of units. With the most of them it shows what `java` showed of
-it; with fewer it shows that too, or it still goes on and what it wrote is a first part of it."""
+it; with fewer it shows that too, or it still goes on and what it wrote is a first part of it.
+
+The programs of kept/ are none of Java's: they show the types that objects keep, and what no program of Java shows. `new T[] {} instanceof S[]` tells what a
+type variable stands for, as the array is made of T itself; variables are read before they are set; bodies end without their result; elements get numbers
+that are too large for them. Beside each stands what the definitions say, counted by hand."""
 import os, subprocess, sys
 from concurrent.futures import ThreadPoolExecutor
 
@@ -11,9 +15,9 @@ import typed
 UNITS = [0, 1, 2, 100, 5000, 30000, 100000, 20000000]
 
 
-def differences(program, name):
-    source = os.path.join(HERE, "cases", name + ".java")
-    with open(os.path.join(HERE, "cases", name + ".expected"), "rb") as it:
+def differences(program, folder, name):
+    source = os.path.join(HERE, folder, name + ".java")
+    with open(os.path.join(HERE, folder, name + ".expected"), "rb") as it:
         expected = it.read()
     text = typed.write(source, "UNITS")
     given = "@".join(text.replace(" UNITS ", f" {units} ") for units in UNITS)
@@ -34,12 +38,12 @@ def differences(program, name):
 
 def main():
     program = os.path.abspath(sys.argv[1])
-    names = sorted(it.removesuffix(".java") for it in os.listdir(os.path.join(HERE, "cases")) if it.endswith(".java"))
+    names = [(folder, it.removesuffix(".java")) for folder in ("cases", "kept") for it in sorted(os.listdir(os.path.join(HERE, folder))) if it.endswith(".java")]
     with ThreadPoolExecutor(4) as pool:
-        wrong = [line for lines in pool.map(lambda name: differences(program, name), names) for line in lines]
+        wrong = [line for lines in pool.map(lambda name: differences(program, *name), names) for line in lines]
     for line in wrong:
         print(line)
-    print(f"meaning: {len(names)} programs with {len(UNITS)} numbers of units each, {len(wrong)} differences from java")
+    print(f"meaning: {len(names)} programs with {len(UNITS)} numbers of units each, {len(wrong)} differences from java or from what is wanted")
     return 1 if wrong else 0
 
 

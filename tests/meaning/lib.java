@@ -4,7 +4,8 @@ class Object {
   native String className();
   String toString() { return className().concat("@").concat(String.valueOf(hashCode())); }
 }
-class String {
+interface Comparable<Compared> { }
+class String implements Comparable<String> {
   char[] chars;
   String(char[] cs) { chars = cs; }
   static String valueOf(boolean b) { if (b) { return "true"; } return "false"; }
@@ -70,7 +71,7 @@ class Lib {
   static void print(String s) { int i = 0; while (i < s.chars.length) { put(s.chars[i]); i = i + 1; } }
   static void println(String s) { print(s); put(10); }
 }
-class Integer {
+class Integer implements Comparable<Integer> {
   int value;
   Integer(int v) { value = v; }
   static Integer valueOf(int v) { return new Integer(v); }

@@ -3,7 +3,10 @@
 
 The source has no overloads but by the number of arguments or by plain types. Its classes and methods may have type parameters, no two of
 one name; a wildcard stands for its bound, and a method's type arguments are those of the first parameters that tell them. Where a result or a
-field of a type parameter's type is used as another class, a guard stands. The library in lib.java goes before it. Usage: typed.py SOURCE [UNITS]"""
+field of a type parameter's type is used as another class, a guard stands. The library in lib.java goes before it.
+
+Lines at the head of a source: `// captures` makes a captured variable of each argument that is a wildcard, which `CAP0` and so on name in the order of
+evaluation; `// without: STEP, ..` leaves these steps out wherever they would stand. Usage: typed.py SOURCE [UNITS]"""
 import re, sys, os
 
 PRIMS = {'boolean': 'Z', 'byte': 'B', 'short': 'S', 'char': 'C', 'int': 'I', 'long': 'J'}
@@ -21,6 +24,10 @@ def unescape(s):
         else:
             out.append(ord(s[i])); i += 1
     return out
+
+
+class Unchecked(str):
+    """A raw type that a creation has by an unchecked conversion, though its object keeps the arguments that were inferred."""
 
 
 class Guarded(str):
@@ -41,6 +48,10 @@ def base(t): return t.split('<')[0]
 
 
 def args_of(t): return split(t[t.index('<') + 1:-1]) if '<' in t else []
+
+
+class Varying(str):
+    """The type of a parameter for any number of arguments."""
 
 
 class Cls:
@@ -92,13 +103,18 @@ class Parser:
 
     def type_args(self):
         self.take('<'); out = []
-        while not self.got('>'):
+        while not self.closed():
             if self.got('?'):
                 kind = self.take() if self.peek() in ('extends', 'super') else ''
                 out.append(f'?{kind[:1]}{self.type()}' if kind else '?')
             else: out.append(self.type())
             self.got(',')
         return f'<{",".join(out)}>'
+
+    def closed(self):
+        """whether type arguments end here; of `>>` the first sign is taken"""
+        if self.peek() in ('>>', '>>>'): self.t[self.i:self.i + 1] = ['>'] * len(self.peek())
+        return self.got('>')
 
     def vars(self):
         """Type parameters with their bounds, if some stand here."""
@@ -170,7 +186,11 @@ class Parser:
     def params(self):
         self.take('('); ps = []
         while not self.got(')'):
-            self.mods(); t = self.type(); n = self.take()
+            self.mods(); t = self.type()
+            if self.peek() == '.':
+                for _ in range(3): self.take('.')
+                t = Varying(t + '[]')
+            n = self.take()
             ps.append((t, n)); self.got(',')
         return ps
 
@@ -185,8 +205,8 @@ class Parser:
         if not re.match(r'[A-Za-z_]', t) or t in ('return', 'new', 'throw', 'this', 'super', 'instanceof', 'else', 'case'): return False
         k = 1
         if self.peek(k) == '<':
-            while re.match(r'[A-Za-z_<>,?\[\]&]', self.peek(k)) and not (self.peek(k - 1) == '>' and re.match(r'[A-Za-z_]', self.peek(k))): k += 1
-            if self.peek(k - 1) not in ('>', ']'): return False
+            while re.match(r'[A-Za-z_<>,?\[\]&]', self.peek(k)) and not (self.peek(k - 1)[-1:] in '>]' and re.match(r'[A-Za-z_]', self.peek(k))): k += 1
+            if self.peek(k - 1)[-1:] not in ('>', ']'): return False
         while self.peek(k) == '[' and self.peek(k + 1) == ']': k += 2
         return bool(re.match(r'[A-Za-z_]', self.peek(k))) and self.peek(k) != 'instanceof'
 
@@ -338,7 +358,12 @@ class Parser:
             else: return e
 
 
+def is_captured(t): return re.fullmatch(r'CAP\d+', t) is not None
+
+
 class Program:
+    captured, bound, has_captures, without = 0, {}, False, ()
+
     def __init__(self, classes):
         self.cs = classes; self.by = {c.name: c for c in classes}
         for c in classes:
@@ -360,6 +385,7 @@ class Program:
         if t.endswith('[]'): return self.ty(t[:-2]) + ',['
         if t[:1] == '?': return {'': '?', 'e': f'{self.ty(t[2:])},+', 's': f'{self.ty(t[2:])},-'}[t[1:2]] if len(t) > 1 else '?'
         if t in self.vars: return f'v{self.vars[t][0]}'
+        if is_captured(t): return f'x{t[3:]}'
         if '<' in t: return ','.join([self.ty(a) for a in args_of(t)] + [f'k{self.by[base(t)].id}/{len(args_of(t))}'])
         if t in self.by and self.by[t].vars: return f'r{self.by[t].id}'
         return PRIMS.get(t) or (f'k{self.by[t].id}/0' if t in self.by else 'N')
@@ -371,6 +397,7 @@ class Program:
 
     def erase(self, t):
         if t.endswith('[]'): return self.erase(t[:-2]) + '[]'
+        if is_captured(t): return self.erase(self.bound[t])
         return self.erase(self.vars[t][1][0]) if t in self.vars else base(t)
 
     def subst(self, t, by):
@@ -383,6 +410,7 @@ class Program:
     def by_view(self, t, owner):
         """What stands for the type parameters of a class above a type, or None where the type is raw there."""
         if t in self.vars: return self.by_view(self.vars[t][1][0], owner)
+        if is_captured(t): return self.by_view(self.bound[t], owner)
         c = self.by.get(base(t))
         if c is None: return {}
         by = dict(zip([n for n, _ in c.vars], args_of(t)))
@@ -434,7 +462,11 @@ class Program:
             ok = [m for m in ms if all(self.fits(a, p[0], phase) for a, p in zip(types, m.params))]
             best = [m for m in ok if all(all(self.fits(p[0], q[0], 0) for p, q in zip(m.params, o.params)) for o in ok)]
             if best: return best[0]
+        for m in self.varying(n, name):
+            if len(types) >= len(m.params) - 1: return m
         raise TypeError(f'no {name} in {n} for {types}')
+
+    def varying(self, n, name): return [m for k in self.supers(self.erase(n)) for m in self.by[k].methods if m.name == name and m.params and isinstance(m.params[-1][0], Varying)]
 
     def fits(self, a, b, phase):
         if a in PRIMS and b in PRIMS:
@@ -454,16 +486,17 @@ class Body:
 
     def __init__(self, P, m):
         self.P, self.m, self.c = P, m, m.cls
-        self.lines, self.locals, self.scope, self.targets = [], 0, [{}], []
+        self.lines, self.locals, self.scope, self.targets = [], [], [{}], []
+        P.captured, P.bound = 0, {}
         self.next_target = 1
-        self.none = {k: None for k in ('types', 'steps', 'captures', 'ops', 'cases', 'operands', 'links', 'declared', 'stmts', 'arms', 'catches')}
+        self.none = {k: None for k in ('types', 'steps', 'captures', 'ops', 'cases', 'operands', 'links', 'declared', 'stmts', 'arms', 'catches', 'names', 'places')}
         self.own = m.cls.name + (f'<{",".join(n for n, _ in m.cls.vars)}>' if m.cls.vars else '')
         if not m.static: self.local('this', self.own)
         for t, n in m.params: self.local(n, t)
 
     def local(self, n, t):
-        self.scope[-1][n] = (self.locals, t); self.locals += 1
-        return self.locals - 1
+        self.scope[-1][n] = (len(self.locals), t); self.locals.append(t)
+        return len(self.locals) - 1
 
     def find(self, n):
         for s in reversed(self.scope):
@@ -481,7 +514,7 @@ class Body:
         for x in xs: at = self.node(f'{k} {at} {x}')
         return at
 
-    def steps(self, ss): return self.list('steps', ss)
+    def steps(self, ss): return self.list('steps', [s for s in ss if s not in self.P.without])
 
     def type(self, t): return self.node('type ' + self.P.ty(t))
 
@@ -492,6 +525,7 @@ class Body:
 
     def guard(self, a, t):
         """the test of a guarded type that is used as type t"""
+        if isinstance(a, Unchecked): return [f'up {self.type(str(a))}']
         return [f'test read {self.P.ty(self.P.erase(a))}'] if isinstance(a, Guarded) and self.P.erase(t) != 'Object' else []
 
     def used(self, at, t): return self.op(at, self.guard(t, t))
@@ -547,13 +581,31 @@ class Body:
     def constant(self, c):
         t, v = c
         n = self.node('text ' + ' '.join(map(str, v)) if t == 'String' else f'number {PRIMS[t]} {v}')
-        return self.e(f'const {self.empty("operands")} {n}', t), t
+        return self.e(f'const {self.empty("operands")} {n} {self.empty("names")} {self.empty("places")}', t), t
 
     # ---- expressions
     def expr(self, x):
         c = self.const(x)
         if c: return self.constant(c)
-        return getattr(self, 'x_' + x[0])(*x[1:])
+        at, t = getattr(self, 'x_' + x[0])(*x[1:])
+        return self.captured(at, t) if self.P.has_captures and x[0] not in ('compound', 'inc', 'new', 'arrayof', 'newarray', 'node') else (at, t)
+
+    def captured(self, at, t):
+        """the expression that was made last, with a captured variable for each wildcard among its type's arguments"""
+        if t.endswith('[]') or not any(a[:1] == '?' for a in args_of(t)): return at, t
+        form = self.lines.pop().split(' ', 3)[3]
+        k, args = self.P.by[base(t)], args_of(t)
+        by = {n: a if a[:1] != '?' else f'CAP{self.P.captured + sum(b[:1] == "?" for b in args[:i])}' for i, ((n, _), a) in enumerate(zip(k.vars, args))}
+        list = self.empty('captures')
+        for i, ((n, bounds), a) in enumerate(zip(k.vars, args)):
+            if a[:1] == '?':
+                list = self.node(f'captures {list} {self.P.captured} {k.id} {i}')
+                self.P.bound[by[n]] = a[2:] if a[:2] == '?e' else self.P.subst(bounds[0], by)
+                self.P.captured += 1
+        seen = type(t)(f'{base(t)}<{",".join(by.values())}>')
+        return self.node(f'expr {self.type(seen)} {list} {form}'), seen
+
+    def x_node(self, at, t): return at, t
 
     def x_null(self): return self.e('null'), 'null'
 
@@ -564,7 +616,7 @@ class Body:
         if l: return self.e(f'local {l[0]}', l[1]), l[1]
         f = self.P.field(self.c.name, n)
         if not f: raise NameError(n)
-        if f.static: return self.e(f'static {self.empty("operands")} {f.id}', f.ty), f.ty
+        if f.static: return self.e(f'static {self.empty("operands")} {f.id} simple', f.ty), f.ty
         t = self.P.seen(self.own, f.ty, f.cls.name)
         return self.e(f'field {self.op(self.e("this", self.own))} {f.id}', t), t
 
@@ -625,7 +677,10 @@ class Body:
     def x_bin(self, o, l, r):
         if o in ('&&', '||'):
             xs = [y for _, y in self.flat(('bin', o, l, r), [o])]
-            return self.e(f'{"all" if o == "&&" else "any"} {self.operands([self.to(y, "boolean") for y in xs])}', 'boolean'), 'boolean'
+            first = self.to(xs[0], 'boolean')
+            since = self.P.captured
+            others = [self.to(y, 'boolean') for y in xs[1:]]
+            return self.e(f'{"all" if o == "&&" else "any"} {self.operands([first] + others)} {since} {self.P.captured}', 'boolean'), 'boolean'
         level = next(v for v in Parser.LEVELS if o in v)
         xs = self.flat(('bin', o, l, r), level)
         at, t = self.expr(xs[0][1])
@@ -641,6 +696,7 @@ class Body:
 
     def x_cond(self, c, a, b):
         test = self.to(c, 'boolean')
+        since = self.P.captured
         aat, s = self.expr(a); bat, t = self.expr(b)
         if s in PRIMS and t in PRIMS or s in BOX and t in PRIMS or s in PRIMS and t in BOX:
             x, y = self.const(a), self.const(b)
@@ -649,14 +705,14 @@ class Body:
         elif t == 'null' or self.P.below(t, s): p = s
         elif self.P.below(s, t): p = t
         else: p = 'Object'
-        return self.e(f'conditional {test} {self.op(aat, self.conv(s, p))} {self.op(bat, self.conv(t, p))} 0 0', p), p
+        return self.e(f'conditional {test} {self.op(aat, self.conv(s, p))} {self.op(bat, self.conv(t, p))} {since} {self.P.captured}', p), p
 
     def var(self, x):
         if x[0] == 'name':
             l = self.find(x[1])
             if l: return self.node(f'variable local {l[0]}'), l[1]
             f = self.P.field(self.c.name, x[1])
-            if f.static: return self.node(f'variable static {self.empty("operands")} {f.id}'), f.ty
+            if f.static: return self.node(f'variable static {self.empty("operands")} {f.id} simple'), f.ty
             return self.node(f'variable field {self.op(self.e("this"))} {f.id}'), f.ty
         if x[0] == 'get':
             if self.is_class(x[1]):
@@ -669,7 +725,15 @@ class Body:
 
     def x_assign(self, l, r):
         v, t = self.var(l)
-        return self.e(f'assign {v} {self.to(r, t)}', t), t
+        value = self.to(r, t)
+        return self.e(f'assign {v} {value} {self.steps(self.store_guard(l, r))}', t), t
+
+    def store_guard(self, l, r):
+        """the test at the store into a field whose declared type has another erasure than the value"""
+        if l[0] != 'get' or self.is_class(l[1]): return []
+        of, value = self.types([l[1], r])
+        f = self.P.field(of, l[2])
+        return [f'test use {self.P.ty(self.P.erase(f.ty))}'] if value in self.P.vars and not self.P.below(value, self.P.erase(f.ty)) else []
 
     def x_compound(self, o, l, r):
         v, t = self.var(l)
@@ -687,9 +751,9 @@ class Body:
     def arguments(self, m, xs): return self.operands([self.to(x, p[0]) for x, p in zip(xs, m.params)])
 
     def types(self, xs):
-        save = (list(self.lines), dict(self.none))
+        save = (list(self.lines), dict(self.none), self.P.captured)
         ts = [self.expr(x)[1] for x in xs]
-        self.lines, self.none = save
+        self.lines, self.none, self.P.captured = save
         return ts
 
     def x_call(self, of, n, xs):
@@ -700,7 +764,7 @@ class Body:
             if t == 'char[]': raise TypeError('char[]')
             if t != 'String': x = ('call', ('name', 'String'), 'valueOf', [x])
             elif x[0] != 'str': x = ('bin', '+', ('str', []), x)
-            return self.e(f'call static {self.empty("operands")} {m.id} {self.empty("types")} {self.operands([self.to(x, "String")])}', 'void'), 'void'
+            return self.e(f'call static {self.empty("operands")} {m.id} {self.empty("types")} {self.operands([self.to(x, "String")])} {self.empty("types")} .', 'void'), 'void'
         if of and of == ('name', 'System') and n == 'exit': of = ('name', 'Lib')
         ts = self.types(xs)
         if of is None:
@@ -726,6 +790,7 @@ class Body:
         return next((b for b in self.P.vars[t][1][1:] if self.P.methods(b, n, count)), None)
 
     def called(self, kind, r, m, xs, ts, t):
+        xs, ts = self.varied(m, xs, ts)
         by = {} if m.static or m.cls.name not in self.P.by or t.endswith('[]') else self.P.by_view(t, m.cls.name)
         raw = by is None
         by = dict(by or {})
@@ -735,7 +800,14 @@ class Body:
         result = see(m.result) if raw or m.result == 'void' else self.P.guarded(m.result, see(m.result))
         types = self.list('types', [] if raw else [self.type(g) for g in given])
         args = self.operands([self.to(x, see(p[0])) for x, p in zip(xs, m.params)])
-        return self.e(f'call {kind} {r} {m.id} {types} {args}', result), result
+        return self.e(f'call {kind} {r} {m.id} {types} {args} {self.empty("types")} {"raw" if raw else "."}', result), result
+
+    def varied(self, m, xs, ts):
+        """the arguments of a call, those for any number of them as one array of the erased type"""
+        if not m.params or not isinstance(m.params[-1][0], Varying) or len(ts) == len(m.params) and self.P.fits(ts[-1], m.params[-1][0], 0): return xs, ts
+        before, of = len(m.params) - 1, self.P.erase(m.params[-1][0])
+        at = self.e(f'arrayof {self.operands([self.to(x, of[:-2]) for x in xs[before:]])}', of)
+        return xs[:before] + [('node', at, of)], ts[:before] + [of]
 
     def inferred(self, n, m, ts):
         for t, (declared, _) in zip(ts, m.params):
@@ -745,10 +817,17 @@ class Body:
         return 'Object'
 
     def x_new(self, t, xs):
-        m = self.P.select(t, '<init>', self.types(xs))
+        ts = self.types(xs)
+        m = self.P.select(t, '<init>', ts)
+        is_unchecked = t.endswith('<>') and any('<' in p[0] and '<' not in a and self.P.by.get(a) and self.P.by[a].vars for a, p in zip(ts, m.params))
+        args = lambda see: self.operands([self.to(x, see(p[0])) for x, p in zip(xs, m.params)])
+        if t.endswith('<>'):
+            save = (list(self.lines), dict(self.none), self.P.captured); args(str)
+            t = f'{base(t)}<{",".join(self.inferred(n, m, ts) for n, _ in m.cls.vars)}>'
+            self.lines, self.none, self.P.captured = save
         by = self.P.by_view(t, base(t))
-        see = self.P.erase if by is None else lambda d: self.P.subst(d, by)
-        return self.e(f'new {m.id} {self.operands([self.to(x, see(p[0])) for x, p in zip(xs, m.params)])}', t), t
+        given = args(self.P.erase if by is None else lambda d: self.P.subst(d, by))
+        return self.e(f'new {m.id} {given} {self.empty("types")} {"raw" if by is None else "."}', t), Unchecked(base(t)) if is_unchecked else t
 
     def x_newarray(self, t, ds): return self.e(f'newarray {self.operands([self.to(d, "int") for d in ds])}', t), t
 
@@ -826,7 +905,7 @@ class Body:
             cs = []
             for k, skips in cases:
                 key = 'default' if k is None else self.const(k)[1]
-                cs.append(f'{key} {skips}')
+                cs.append(f'{key} {skips} {self.empty("names")}')
             return self.s(f'switch {n} {v} {self.list("cases", cs)} {body}')
         return self.loop('switch', make)
 
@@ -858,7 +937,7 @@ class Body:
 
     def s_construct(self, which, xs):
         m = self.P.select(self.c.name if which == 'this' else self.c.sup, '<init>', self.types(xs))
-        return self.s(f'construct {m.id} {self.arguments(m, xs)}')
+        return self.s(f'construct {m.id} {self.arguments(m, xs)} {self.empty("types")} .')
 
     def initialisers(self, xs):
         out = []
@@ -867,9 +946,11 @@ class Body:
             elif not (x.static and self.field_const(x)): out.append(self.s(f'initialise {x.id} {self.to(x.init, x.ty)}'))
         return self.list('stmts', out)
 
+    def local_types(self): return ';'.join(self.P.ty(t) for t in self.locals) or '.'
+
     def write(self):
         m, c = self.m, self.c
-        if m.body is None: return f'body {self.locals} 0\nend'
+        if m.body is None: return f'body {self.local_types()} 0\nend'
         body, calls, inits = list(m.body), [], self.empty('stmts')
         if m.kind == 'c':
             if body and body[0][0] == 'construct':
@@ -880,7 +961,7 @@ class Body:
             if not this: inits = self.initialisers(c.inits)
         if m.kind == 'i': inits = self.initialisers(c.sinits)
         call = self.list('stmts', calls); rest = self.block(body)
-        return f'body {self.locals} 0 {call} {inits} {rest}\n' + '\n'.join(self.lines) + '\nend'
+        return f'body {self.local_types()} {self.P.captured} {call} {inits} {rest}\n' + '\n'.join(self.lines) + '\nend'
 
 
 def first(P, vars): return f'{P.vars[vars[0][0]][0]} {len(vars)}' if vars else '0 0'
@@ -896,8 +977,11 @@ def stands_for(P, c, own, m):
 
 def write(source, units):
     here = os.path.dirname(os.path.abspath(__file__))
-    classes = Parser(open(os.path.join(here, 'lib.java')).read()).unit() + Parser(open(source).read()).unit()
+    with open(source, encoding='utf-8') as it: text = it.read()
+    classes = Parser(open(os.path.join(here, 'lib.java')).read()).unit() + Parser(text).unit()
     P = Program(classes); out = []
+    P.has_captures = bool(re.match(r'(//.*\n)*// captures\n', text))
+    P.without = [step for line in re.findall(r'^// without: (.*)$', text, re.M) for step in line.split(', ')]
     for c in classes:
         sups = ([c.sup] if c.sup else (['Object'] if c.kind == 'interface' else [])) + c.ifs
         lib = c.name in ('Lib',)

@@ -1,4 +1,4 @@
--- The cases of a `switch` (JLS 14.11), as the meaning has them over any program.
+-- The cases of a `switch` (JLS 14.11) in an arena, as the meaning has them over any program.
 use Rattle.std.specs.Prelude.{ℕ, ℤ, Bool, true, false, List, [], ◌∷◌, Option, Some, None, if◌then◌else◌}
 use Rattle.jc_heaps.specs.Numbers.{int_eq}
 use Rattle.jc_typed.specs.declared.lists.Case.{Case}

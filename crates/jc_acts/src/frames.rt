@@ -1,24 +1,24 @@
 //! The variables that a method begins with.
 ghost use Rattle.jc_types.specs.Erasing.{erasure};
-ghost use Rattle.std.specs.Prelude.{IfOk, replicate, ◌∷◌, ◌≡◌, []};
+ghost use Rattle.std.specs.Prelude.{IfOk, drop, map, ◌∷◌, ◌≡◌, []};
 ghost use Rattle.jc_values.specs.Doing.{Does};
 ghost use Rattle.jc_meaning.specs.Kept.{TypedState};
 ghost use Rattle.std.specs.Option.{option_copied};
 ghost use Rattle.jc_running.specs.Outcomes.{Out};
 ghost use Rattle.jc_running.specs.declared.value.Value.{Value};
-ghost use Rattle.jc_running.specs.declared.value.Value.TheVariants.{Null};
 ghost use Rattle.jc_types.specs.Accessors.{result_of};
+ghost use Rattle.jc_heaps.specs.Layout.{default_in, default_value};
 ghost use Rattle.jc_heaps.specs.States.{back_in};
 ghost use Rattle.jc_meaning.specs.Calls as c;
-ghost use Rattle.jc_meaning.specs.Programs.{captured_of, method_class, selected, selected_in};
+ghost use Rattle.jc_meaning.specs.Programs.{captured_of, local_types, method_class, selected, selected_in};
 
 use jc_heaps::Object;
 use jc_kept::{bindings, class_bindings, unsaid_all};
-use jc_layout::{is_of, same_erased};
+use jc_layout::{default_value, is_of, same_erased};
 use jc_meaning::{Binding, Frame};
 use jc_rules::{Items, WantOfMemory};
 use jc_running::{Check, Value};
-use jc_typed::{Selection, TypedProgram};
+use jc_typed::{Local, Selection, TypedProgram};
 use jc_types::{Bounds, ClassId, Erased, MethodId, Ty, method_owner, method_result, method_vars};
 use jc_values::{Halt, Running, checked, closed_erasure, given};
 use std::alloc::Global;
@@ -43,6 +43,7 @@ pub fn captured_of(program: &TypedProgram, m: MethodId) -> &[Bounds]
     }
 }
 
+#[tactic(auto, using(crate::proofs::Locals::defaults))]
 pub fn first_locals(
     alloc: Global,
     program: &TypedProgram,
@@ -51,22 +52,37 @@ pub fn first_locals(
 ) -> Result<Items<Value>, WantOfMemory>
     ensures { IfOk result (λ r. r ≡ c.first_locals program.now m given) }
 {
-    let all = match program.methods.get(m.0 as usize) {
-        Some(method) => method.locals.len(),
-        None => 0,
+    let more = match program.methods.get(m.0 as usize) {
+        Some(method) => defaults_behind(alloc, method.locals.slice(), given.len())?,
+        None => Items::new(alloc),
     };
-    let more = nulls(alloc, all.saturating_sub(given.len()))?;
     let mut locals = given;
     locals.append(more)?;
     Ok(locals)
 }
 
-fn nulls(alloc: Global, count: usize) -> Result<Items<Value>, WantOfMemory>
-    ensures { IfOk result (λ r. r ≡ replicate count Null) }
+// The default values of the variables behind as many as are given.
+#[tactic(auto, using(crate::proofs::Locals::defaults))]
+fn defaults_behind(
+    alloc: Global,
+    locals: &[Local],
+    given: usize,
+) -> Result<Items<Value>, WantOfMemory>
+    ensures { IfOk result (λ r. r ≡ map default_value (drop given (local_types locals.now))) }
+{
+    if given < locals.len() {
+        defaults(alloc, &locals[given..])
+    } else {
+        Ok(Items::new(alloc))
+    }
+}
+
+fn defaults(alloc: Global, locals: &[Local]) -> Result<Items<Value>, WantOfMemory>
+    ensures { IfOk result (λ r. r ≡ map default_value (local_types locals.now)) }
 {
     let mut out = Items::new(alloc);
-    for i in 0..count {
-        out.push(Value::Null)?;
+    for local in locals {
+        out.push(default_value(&local.ty))?;
     }
     Ok(out)
 }
@@ -265,6 +281,16 @@ fn copied(alloc: Global, values: &[Value]) -> Result<Items<Value>, WantOfMemory>
         out.push(values[i])?;
     }
     Ok(out)
+}
+
+/// What a call gives whose body completes normally: the default value of the method's result, or null where it has none.
+pub fn default_answer(program: &TypedProgram, m: MethodId) -> Value
+    ensures { result ≡ default_in (result_of program.now.table m) }
+{
+    match method_result(&program.table, m) {
+        Some(ty) => default_value(ty),
+        None => Value::Null,
+    }
 }
 
 pub fn answered(

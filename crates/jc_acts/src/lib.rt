@@ -20,8 +20,9 @@ pub use completing::{
     set_first, value_or_null,
 };
 pub use frames::{
-    answered, back, entered_all, first_locals, frame_of, led_by, method_class, selected,
+    answered, back, default_answer, entered_all, first_locals, frame_of, led_by, method_class,
+    selected,
 };
 pub use leaving::{left, left_class, left_value};
-pub use making::{arrays, lengths_of, new_array, new_object};
+pub use making::{arrays, give_type, lengths_of, new_array, new_object};
 pub use operands::{box_of, constant_at, instance_of, one_value, prefixes, printer_of};

@@ -4,12 +4,14 @@ ghost use Rattle.std.specs.Prelude.{IfOk, ◌≡◌, ◌∷◌};
 ghost use Rattle.jc_values.specs.Doing.{Does};
 ghost use Rattle.jc_typed.specs.declared.program.TypedProgram.{TypedProgram};
 ghost use Rattle.jc_typed.specs.Parts.{type_of};
+ghost use Rattle.jc_running.specs.Outcomes.{Val, bind};
+ghost use Rattle.jc_meaning.specs.Kept.{closed, kept_by};
 ghost use Rattle.jc_meaning.specs.Expressions as e;
 ghost use Rattle.jc_values.specs.Idle.{idle};
 
 use crate::capturing::closed_type;
 use jc_heaps::Object;
-use jc_kept::{kept_array, kept_by};
+use jc_kept::{is_unborn, kept_array, kept_by};
 use jc_layout::{default_erased, element_of, new_fields};
 use jc_numbers::whole_of;
 use jc_rules::{Items, WantOfMemory};
@@ -18,21 +20,56 @@ use jc_typed::{Nodes, TypedProgram};
 use jc_types::{ClassId, Ty, copy_type, element};
 use jc_values::{Halt, Running, closed_erasure, make, make_plain, repeated, set_part};
 use std::alloc::Global;
+use std::mem;
 
+/// A new object that nothing refers to yet, which keeps its class alone.
 pub fn new_object(
     alloc: Global,
     program: &TypedProgram,
-    nodes: &Nodes,
-    ty: u32,
     k: ClassId,
     run: &mut Running,
 ) -> Result<u64, Halt>
-    ensures { Does (e.new_object program.now idle (type_of nodes.now ty) k run.old.units run.old.state) result run.new }
+    ensures { Does (e.new_object program.now idle k run.old.units run.old.state) result run.new }
+{
+    let parts = new_fields(alloc, &program.table, k)?;
+    make(
+        run,
+        Object {
+            kept: Ty::Raw { id: k },
+            parts,
+        },
+    )
+}
+
+fn set_type(alloc: Global, a: u64, k: ClassId, ty: Ty, run: &mut Running)
+    ensures { (program : TypedProgram) (inner : e.Inner) → e.set_type program inner a k ty run.old.units run.old.state ≡ Val tt run.new.units run.new.state }
+{
+    if (a as usize) < run.state.heap.len() {
+        let mut heap = mem::replace(&mut run.state.heap, Items::new(alloc)).into_vec();
+        let object = &mut heap[a as usize];
+        if is_unborn(k, &object.kept) {
+            object.kept = ty;
+        }
+        run.state.heap = Items::of(heap);
+    }
+}
+
+/// A new object gets its type, with what the variables stand for behind its arguments.
+pub fn give_type(
+    alloc: Global,
+    program: &TypedProgram,
+    nodes: &Nodes,
+    a: u64,
+    k: ClassId,
+    ty: u32,
+    run: &mut Running,
+) -> Result<(), Halt>
+    ensures { Does (bind (closed (type_of nodes.now ty)) (λ t. e.set_type program.now idle a k (kept_by program.now.table t)) run.old.units run.old.state) result run.new }
 {
     let closed = closed_type(alloc, nodes, ty, run)?;
     let kept = kept_by(alloc, &program.table, &closed)?;
-    let parts = new_fields(alloc, &program.table, k)?;
-    make(run, Object { kept, parts })
+    set_type(alloc, a, k, kept, run);
+    Ok(())
 }
 
 pub fn new_array(

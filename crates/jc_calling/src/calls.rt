@@ -12,7 +12,9 @@ ghost use Rattle.jc_pending.specs.Values.{call_task, completion_to_value, value_
 ghost use Rattle.jc_pending.specs.declared.calls.CallTask.TheVariants as call;
 ghost use Rattle.jc_pending.specs.declared.expressions.ValueToValue.TheVariants as vv;
 
-use jc_acts::{answered, entered_all, first_locals, frame_of, led_by, method_class, selected};
+use jc_acts::{
+    answered, default_answer, entered_all, first_locals, frame_of, led_by, method_class, selected,
+};
 use jc_layout::methods_class;
 use jc_meaning::Frame;
 use jc_pending::{
@@ -132,7 +134,7 @@ fn call_own(
     frame: Frame,
     run: &mut Running,
 ) -> Result<Next, Halt>
-    ensures { (k : Rest) → Coherent k → Leads program.now nodes.now depth k result run.new (k.value (bind (in_frame (c.first_locals program.now own (Address address ∷ values)) frame (bind (body program.now depth own) c.answer_of)) (c.answered program.now (result_of program.now.table method) (result_of program.now.table own)) run.old.units run.old.state)) }
+    ensures { (k : Rest) → Coherent k → Leads program.now nodes.now depth k result run.new (k.value (bind (in_frame (c.first_locals program.now own (Address address ∷ values)) frame (bind (body program.now depth own) (c.answer_of program.now own))) (c.answered program.now (result_of program.now.table method) (result_of program.now.table own)) run.old.units run.old.state)) }
 {
     let given = led_by(alloc, Value::Address(address), values)?;
     let locals = first_locals(alloc, program, own, given)?;
@@ -160,7 +162,7 @@ fn call_entered(
     frame: Frame,
     run: &mut Running,
 ) -> Result<Next, Halt>
-    ensures { (k : Rest) → Coherent k → Leads program.now nodes.now depth k result run.new (k.value (bind (c.entered_all program.now (params_of program.now.table method) (params_of program.now.table own) args.now) (λ vs. bind (in_frame (c.first_locals program.now own (Address address ∷ vs)) frame (bind (body program.now depth own) c.answer_of)) (c.answered program.now (result_of program.now.table method) (result_of program.now.table own))) run.old.units run.old.state)) }
+    ensures { (k : Rest) → Coherent k → Leads program.now nodes.now depth k result run.new (k.value (bind (c.entered_all program.now (params_of program.now.table method) (params_of program.now.table own) args.now) (λ vs. bind (in_frame (c.first_locals program.now own (Address address ∷ vs)) frame (bind (body program.now depth own) (c.answer_of program.now own))) (c.answered program.now (result_of program.now.table method) (result_of program.now.table own))) run.old.units run.old.state)) }
 {
     let values = entered_all(
         alloc,
@@ -284,7 +286,7 @@ pub fn call_task(
             frame,
         } => run_method(program, nodes, depth, method, locals, frame, run),
         CallTask::Answer { method } => Ok(Next::Then(
-            wait!(CompletionToValue, CompletionToValue::Answer),
+            wait!(CompletionToValue, CompletionToValue::Answer { method }),
             Task::Completion(CompletionTask::Body { method }),
         )),
         CallTask::Ready {
@@ -318,9 +320,9 @@ pub fn completion_to_value(
 ) -> Result<Next, Halt>
     ensures { (k : Rest) → Coherent k → Leads program.now nodes.now depth k result run.new (k.value (completion_to_value program.now nodes.now depth todo completion run.old.units run.old.state)) }
 {
-    let CompletionToValue::Answer = todo;
+    let CompletionToValue::Answer { method } = todo;
     match completion {
-        Completion::Normal => Ok(Next::Give(Given::Value(Value::Null))),
+        Completion::Normal => Ok(Next::Give(Given::Value(default_answer(program, method)))),
         Completion::Broke(_) => Err(Halt::Wrong),
         Completion::Continued(_) => Err(Halt::Wrong),
         Completion::Returned(v) => Ok(Next::Give(Given::Value(v))),

@@ -7,7 +7,7 @@ ghost use Rattle.jc_pending.specs.declared.calls.ValuesToValue.TheVariants as lv
 
 use crate::acting::{array_lengths, printer};
 use jc_acts::{
-    arrays, closed_type, closed_types, constant_at, method_class, new_object, one_value,
+    arrays, closed_type, closed_types, constant_at, give_type, method_class, new_object, one_value,
 };
 use jc_pending::{
     CallTask, ExpressionTask, Given, JoinTodo, Next, NothingToValue, UseTodo, ValuesToValue, call,
@@ -73,17 +73,43 @@ fn create(
 ) -> Result<Next, Halt>
     ensures { (k : Rest) → Coherent k → Leads program.now nodes.now depth k result run.new (k.value (nothing_to_value program.now nodes.now depth (nv.Create ty method args) run.old.units run.old.state)) }
 {
-    let object = new_object(
-        alloc,
-        program,
-        nodes,
-        ty,
-        method_class(program, method),
-        run,
-    )?;
+    let object = new_object(alloc, program, method_class(program, method), run)?;
     Ok(Next::Then(
-        wait!(ValuesToValue, ValuesToValue::Construct { method, object }),
+        wait!(
+            ValuesToValue,
+            ValuesToValue::Construct { ty, method, object }
+        ),
         operands!(args),
+    ))
+}
+
+// The object gets its type behind the arguments, which may make the variables that the type names, and the constructor runs.
+#[tactic(auto, using(jc_pending::proofs::Halting::of_value, jc_pending::proofs::Idles::idles))]
+fn construct(
+    alloc: Global,
+    program: &TypedProgram,
+    nodes: &Nodes,
+    depth: u64,
+    ty: u32,
+    method: MethodId,
+    object: u64,
+    values: Items<Value>,
+    run: &mut Running,
+) -> Result<Next, Halt>
+    ensures { (k : Rest) → Coherent k → Leads program.now nodes.now depth k result run.new (k.value (values_to_value program.now nodes.now depth (lv.Construct ty method object) values run.old.units run.old.state)) }
+{
+    let class = method_class(program, method);
+    give_type(alloc, program, nodes, object, class, ty, run)?;
+    Ok(Next::Then(
+        used!(UseTodo::Instead {
+            value: Value::Address(object)
+        }),
+        call!(CallTask::Direct {
+            method,
+            receiver: Value::Address(object),
+            args: values,
+            types: Items::new(alloc),
+        }),
     ))
 }
 
@@ -237,17 +263,9 @@ pub fn values_to_value(
         } => call_with(
             alloc, program, nodes, depth, kind, method, type_args, receiver, values, run,
         ),
-        ValuesToValue::Construct { method, object } => Ok(Next::Then(
-            used!(UseTodo::Instead {
-                value: Value::Address(object)
-            }),
-            call!(CallTask::Direct {
-                method,
-                receiver: Value::Address(object),
-                args: values,
-                types: Items::new(alloc),
-            }),
-        )),
+        ValuesToValue::Construct { ty, method, object } => construct(
+            alloc, program, nodes, depth, ty, method, object, values, run,
+        ),
         ValuesToValue::NewArray { ty } => {
             new_array(alloc, program, nodes, depth, ty, values.slice(), run)
         }

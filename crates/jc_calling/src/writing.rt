@@ -120,6 +120,17 @@ pub fn nothing_task(
         NothingTask::Write { target, value } => {
             write_target(alloc, program, nodes, depth, target, value, run)
         }
+        NothingTask::Store {
+            target,
+            store,
+            value,
+        } => Ok(Next::Then(
+            wait!(ValueToNothing, ValueToNothing::Write { target }),
+            expression!(ExpressionTask::Steps {
+                steps: store,
+                value
+            }),
+        )),
         NothingTask::SetStatic { field, value } => Ok(Next::Then(
             wait!(
                 NothingToNothing,
@@ -186,6 +197,9 @@ pub fn value_to_nothing(
         ValueToNothing::SetLocal { local } => {
             set_local(alloc, run, local as u64, v);
             Ok(Next::Give(Given::Nothing))
+        }
+        ValueToNothing::Write { target } => {
+            Ok(Next::Begin(Task::Nothing(NothingTask::Write { target, value: v })))
         }
     }
 }

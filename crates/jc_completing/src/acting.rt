@@ -1,10 +1,10 @@
 //! What statements do with values and completions that are there.
-ghost use Rattle.std.specs.Prelude.{◌≡◌, IfOk, ℕ};
+ghost use Rattle.std.specs.Prelude.{◌≡◌, IfOk, List, map, ℕ};
 ghost use Rattle.jc_meaning.specs.Kept.{TypedState};
 ghost use Rattle.jc_meaning.specs.Statements as s;
 ghost use Rattle.jc_running.specs.Outcomes.{Val, give, stop};
 ghost use Rattle.jc_running.specs.declared.value.Turn.TheVariants.{Again};
-ghost use Rattle.jc_typed.specs.Parts.{types_of};
+ghost use Rattle.jc_typed.specs.Parts.{Part, case_over, types_of};
 ghost use Rattle.jc_values.specs.Idle.{idle};
 
 use jc_acts::{default_in, is_any_of, labelled, numbered, or_else, value_or_null};
@@ -22,7 +22,7 @@ fn first_of(program: &TypedProgram, first: Option<u32>, second: Option<u32>) -> 
 
 /// How many statements of a `switch` stand before the label of a number, or else before `default`, if there is one (JLS 14.11).
 pub fn label_of(program: &TypedProgram, cases: &[Case], n: i32) -> Option<u32>
-    ensures { result ≡ s.or_else program.now idle (λ x. stop) 0 (s.labelled program.now idle (λ x. stop) 0 n cases.now) (s.default_in program.now idle (λ x. stop) 0 cases.now) }
+    ensures { (ps : List Part) → result ≡ s.or_else program.now idle (λ x. stop) 0 (s.labelled program.now idle (λ x. stop) 0 n (map (case_over ps) cases.now)) (s.default_in program.now idle (λ x. stop) 0 (map (case_over ps) cases.now)) }
 {
     first_of(program, labelled(cases, n), default_in(cases))
 }

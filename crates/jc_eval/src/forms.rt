@@ -19,6 +19,8 @@ pub fn form(alloc: Global, table: &Table, words: &[&str], count: usize) -> Read<
         "const" => Ok(ExprForm::Constant {
             before: place(words, 1, count)?,
             value: place(words, 2, count)?,
+            named: place(words, 3, count)?,
+            casts: place(words, 4, count)?,
         }),
         "null" => Ok(ExprForm::Null),
         "local" => Ok(ExprForm::Local {
@@ -28,6 +30,7 @@ pub fn form(alloc: Global, table: &Table, words: &[&str], count: usize) -> Read<
         "static" => Ok(ExprForm::StaticField {
             before: place(words, 1, count)?,
             field: FieldId(number(words, 2)),
+            is_simple: word(words, 3) == "simple",
         }),
         "field" => Ok(ExprForm::Field {
             of: place(words, 1, count)?,
@@ -58,9 +61,13 @@ fn operator_form(alloc: Global, table: &Table, words: &[&str], count: usize) -> 
         }),
         "all" => Ok(ExprForm::AllOf {
             operands: place(words, 1, count)?,
+            from: number(words, 2),
+            up_to: number(words, 3),
         }),
         "any" => Ok(ExprForm::AnyOf {
             operands: place(words, 1, count)?,
+            from: number(words, 2),
+            up_to: number(words, 3),
         }),
         "instanceof" => Ok(ExprForm::InstanceOf {
             of: place(words, 1, count)?,
@@ -84,6 +91,7 @@ fn assigning_form(words: &[&str], count: usize) -> Read<ExprForm>
         "assign" => Ok(ExprForm::Assign {
             variable: place(words, 1, count)?,
             value: place(words, 2, count)?,
+            store: place(words, 3, count)?,
         }),
         "compound" => Ok(ExprForm::Compound {
             variable: place(words, 1, count)?,
@@ -114,11 +122,15 @@ fn calling_form(words: &[&str], count: usize) -> Read<ExprForm>
             type_args: place(words, 4, count)?,
             args: place(words, 5, count)?,
             phase: Phase::Subtyping,
+            thrown: place(words, 6, count)?,
+            is_raw: word(words, 7) == "raw",
         }),
         "new" => Ok(ExprForm::New {
             constructor: MethodId(number(words, 1)),
             args: place(words, 2, count)?,
             phase: Phase::Subtyping,
+            thrown: place(words, 3, count)?,
+            is_raw: word(words, 4) == "raw",
         }),
         "newarray" => Ok(ExprForm::NewArray {
             lengths: place(words, 1, count)?,

@@ -5,7 +5,7 @@
 //!     class BINARY c|i SUPERS FIRST-VARIABLE COUNT          variable-of c|m OWNER BOUNDS
 //!     field-of CLASS NAME s|i TYPE                          method-of CLASS NAME m|c|i s|i PARAMS RESULT FIRST-VARIABLE COUNT
 //!     select CLASS METHOD BODY                              known NUMBER ..
-//!     body LOCALS CAPTURED [CALL INITIALISERS REST]         end
+//!     body TYPES-OF-LOCALS CAPTURED [CALL INITIALISERS REST]    end
 //!     run METHOD UNITS main|static [INPUT]
 #![tactic(auto)]
 

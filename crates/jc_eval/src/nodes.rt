@@ -10,7 +10,8 @@ use crate::{Read, Unreadable, forms, statements};
 use jc_rules::{Items, Place, Stop, WantOfMemory};
 use jc_typed::{
     ArmsNode, Capture, CapturesNode, Case, CasesNode, CatchesNode, DeclaredNode, ExprNode,
-    LinksNode, ListNode, Nodes, OperandNode, OpsNode, StepsNode, StmtNode, VariableNode,
+    LinksNode, ListNode, NamesNode, Nodes, OperandNode, OpsNode, PlacesNode, StepsNode, StmtNode,
+    VariableNode,
 };
 use jc_types::{CaptureId, ClassId, Constant, FieldId, Table};
 use std::alloc::Global;
@@ -86,9 +87,34 @@ fn push_cases(nodes: &mut Nodes, words: &[&str]) -> Read<u32> {
         },
     };
     let skips = small(words, 3)?;
+    let named = place(words, 4, nodes.len())?;
     Ok(nodes.push_cases(CasesNode::More {
         before,
-        last: Case { key, skips },
+        last: Case { key, skips, named },
+    })?)
+}
+
+fn push_names(nodes: &mut Nodes, words: &[&str]) -> Read<u32> {
+    if is_empty(words) {
+        return Ok(nodes.push_names(NamesNode::Empty)?);
+    }
+    let before = place(words, 1, nodes.len())?;
+    let local = small(words, 2)?;
+    Ok(nodes.push_names(NamesNode::More {
+        before,
+        place: NOWHERE,
+        local,
+    })?)
+}
+
+fn push_places(nodes: &mut Nodes, words: &[&str]) -> Read<u32> {
+    if is_empty(words) {
+        return Ok(nodes.push_places(PlacesNode::Empty)?);
+    }
+    let before = place(words, 1, nodes.len())?;
+    Ok(nodes.push_places(PlacesNode::More {
+        before,
+        last: NOWHERE,
     })?)
 }
 
@@ -111,7 +137,11 @@ fn push_expr(alloc: Global, table: &Table, nodes: &mut Nodes, words: &[&str]) ->
 fn push_operand(nodes: &mut Nodes, words: &[&str]) -> Read<u32> {
     let of = place(words, 1, nodes.len())?;
     let steps = place(words, 2, nodes.len())?;
-    Ok(nodes.push_operand(OperandNode::Operand { of, steps })?)
+    Ok(nodes.push_operand(OperandNode::Operand {
+        place: NOWHERE,
+        of,
+        steps,
+    })?)
 }
 
 fn push_links(nodes: &mut Nodes, words: &[&str]) -> Read<u32> {
@@ -133,17 +163,23 @@ fn push_links(nodes: &mut Nodes, words: &[&str]) -> Read<u32> {
 fn push_variable(nodes: &mut Nodes, words: &[&str]) -> Read<u32> {
     let node = match word(words, 1) {
         "local" => VariableNode::Local {
+            place: NOWHERE,
             local: small(words, 2)?,
         },
         "static" => VariableNode::StaticField {
+            place: NOWHERE,
             before: place(words, 2, nodes.len())?,
             field: FieldId(number(words, 3)),
+            is_simple: word(words, 4) == "simple",
         },
         "field" => VariableNode::Field {
+            place: NOWHERE,
             of: place(words, 2, nodes.len())?,
             field: FieldId(number(words, 3)),
+            is_raw: word(words, 4) == "raw",
         },
         "element" => VariableNode::Element {
+            place: NOWHERE,
             array: place(words, 2, nodes.len())?,
             index: place(words, 3, nodes.len())?,
         },
@@ -223,6 +259,8 @@ pub fn push(alloc: Global, table: &Table, nodes: &mut Nodes, words: &[&str]) -> 
         "captures" => push_captures(nodes, words),
         "ops" => push_ops(nodes, words),
         "cases" => push_cases(nodes, words),
+        "names" => push_names(nodes, words),
+        "places" => push_places(nodes, words),
         "expr" => push_expr(alloc, table, nodes, words),
         "operand" => push_operand(nodes, words),
         "operands" => {

@@ -126,13 +126,14 @@ fn method_kind(word: &str) -> MethodKind {
     }
 }
 
-fn locals(alloc: Global, count: u64) -> Result<Items<Local>, WantOfMemory> {
+// Variables of these types.
+fn locals(alloc: Global, types: Items<Ty>) -> Result<Items<Local>, WantOfMemory> {
     let mut out = Items::new(alloc);
-    for _ in 0..count {
+    for ty in types.into_vec() {
         out.push(Local {
             place: NOWHERE,
             name: text(alloc, "v")?,
-            ty: Ty::NullTy,
+            ty,
             is_final: false,
         })?;
     }
@@ -165,11 +166,12 @@ fn body_of(words: &[&str], count: usize) -> Read<Option<Body>>
 }
 
 // A method whose nodes were read, of which its head line tells the places.
-fn typed_method(alloc: Global, head: &[&str], nodes: Nodes) -> Read<TypedMethod> {
-    let locals = locals(alloc, number(head, 1))?;
+fn typed_method(alloc: Global, id: MethodId, head: &[&str], nodes: Nodes) -> Read<TypedMethod> {
+    let locals = locals(alloc, types_of(alloc, word(head, 1))?)?;
     let captured = captured(alloc, number(head, 2))?;
     let body = body_of(head, nodes.len())?;
     Ok(TypedMethod {
+        id,
         locals,
         captured,
         nodes,
@@ -352,7 +354,8 @@ impl Reader {
         let none = Nodes::new(self.alloc);
         let nodes = mem::replace(&mut self.nodes, none);
         let head = words(self.alloc, self.head.as_str(), ' ')?;
-        let method = typed_method(self.alloc, head.as_slice(), nodes)?;
+        let id = MethodId(self.bodies.len() as u64);
+        let method = typed_method(self.alloc, id, head.as_slice(), nodes)?;
         self.bodies.push(method)?;
         Ok(())
     }

@@ -119,6 +119,8 @@ fn leaving_form(words: &[&str], count: usize) -> Read<StmtForm>
             constructor: MethodId(number(words, 1)),
             args: place(words, 2, count)?,
             phase: Phase::Subtyping,
+            thrown: place(words, 3, count)?,
+            is_raw: word(words, 4) == "raw",
         }),
         "initialise" => Ok(StmtForm::Initialise {
             field: FieldId(number(words, 1)),

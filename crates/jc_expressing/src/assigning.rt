@@ -34,16 +34,16 @@ pub fn target_task(
 {
     let TargetTask::Variable { at } = task;
     match variable_node(nodes, at) {
-        VariableNode::Local { local } => Ok(Next::Give(Given::Target(Target::ToLocal(local)))),
-        VariableNode::StaticField { before, field } => Ok(Next::Then(
+        VariableNode::Local { local, .. } => Ok(Next::Give(Given::Target(Target::ToLocal(local)))),
+        VariableNode::StaticField { before, field, .. } => Ok(Next::Then(
             wait!(ValuesToTarget, ValuesToTarget::Static { field }),
             operands!(before),
         )),
-        VariableNode::Field { of, field } => Ok(Next::Then(
+        VariableNode::Field { of, field, .. } => Ok(Next::Then(
             wait!(ValueToTarget, ValueToTarget::Field { field }),
             operand!(of),
         )),
-        VariableNode::Element { array, index } => Ok(Next::Then(
+        VariableNode::Element { array, index, .. } => Ok(Next::Then(
             wait!(ValueToTarget, ValueToTarget::Index { index }),
             operand!(array),
         )),
@@ -101,9 +101,10 @@ pub fn target_to_value(
     ensures { (k : Rest) → Coherent k → Leads program.now nodes.now depth k result run.new (k.value (target_to_value program.now nodes.now depth todo target run.old.units run.old.state)) }
 {
     match todo {
-        TargetToValue::Assign { value } => {
-            Ok(Next::Then(used!(UseTodo::Assign { target }), operand!(value)))
-        }
+        TargetToValue::Assign { value, store } => Ok(Next::Then(
+            used!(UseTodo::Store { target, store }),
+            operand!(value),
+        )),
         TargetToValue::Compound {
             place,
             ty,

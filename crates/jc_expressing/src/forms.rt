@@ -6,7 +6,7 @@ ghost use Rattle.jc_pending.specs.declared.expressions.ExpressionTask.TheVariant
 ghost use Rattle.jc_typed.specs.declared.expressions.ExprForm.TheVariants as f;
 
 use crate::listing::operands_back;
-use jc_acts::{closed_type, method_class, new_array};
+use jc_acts::{closed_type, forget, method_class, new_array};
 use jc_layout::field_class;
 use jc_meaning::Target;
 use jc_pending::{
@@ -61,6 +61,8 @@ fn variable(
     Ok(Next::Give(Given::Value(local(run, n as u64)?)))
 }
 
+// No value says anything of the captured variables of operands that aren't evaluated.
+#[tactic(auto, using(jc_pending::proofs::Halting::of_value, jc_pending::proofs::Idles::idles))]
 fn conjunction(
     alloc: Global,
     program: &TypedProgram,
@@ -69,14 +71,18 @@ fn conjunction(
     place: Place,
     ty: u32,
     at: u32,
+    from: u64,
+    up_to: u64,
     run: &mut Running,
 ) -> Result<Next, Halt>
-    ensures { (k : Rest) → Coherent k → Leads program.now nodes.now depth k result run.new (k.value (expression_task program.now nodes.now depth (x.Form place ty (f.AllOf at)) run.old.units run.old.state)) }
+    ensures { (k : Rest) → Coherent k → Leads program.now nodes.now depth k result run.new (k.value (expression_task program.now nodes.now depth (x.Form place ty (f.AllOf at from up_to)) run.old.units run.old.state)) }
 {
     let operands = operands_back(alloc, nodes, at)?;
+    forget(alloc, program, from, up_to.saturating_sub(from), run)?;
     Ok(Next::Begin(Task::Value(ValueTask::AllTrue { operands })))
 }
 
+#[tactic(auto, using(jc_pending::proofs::Halting::of_value, jc_pending::proofs::Idles::idles))]
 fn disjunction(
     alloc: Global,
     program: &TypedProgram,
@@ -85,11 +91,14 @@ fn disjunction(
     place: Place,
     ty: u32,
     at: u32,
+    from: u64,
+    up_to: u64,
     run: &mut Running,
 ) -> Result<Next, Halt>
-    ensures { (k : Rest) → Coherent k → Leads program.now nodes.now depth k result run.new (k.value (expression_task program.now nodes.now depth (x.Form place ty (f.AnyOf at)) run.old.units run.old.state)) }
+    ensures { (k : Rest) → Coherent k → Leads program.now nodes.now depth k result run.new (k.value (expression_task program.now nodes.now depth (x.Form place ty (f.AnyOf at from up_to)) run.old.units run.old.state)) }
 {
     let operands = operands_back(alloc, nodes, at)?;
+    forget(alloc, program, from, up_to.saturating_sub(from), run)?;
     Ok(Next::Begin(Task::Value(ValueTask::AnyTrue { operands })))
 }
 
@@ -108,14 +117,14 @@ fn form(
     ensures { (k : Rest) → Coherent k → Leads program.now nodes.now depth k result run.new (k.value (expression_task program.now nodes.now depth (x.Form place ty form) run.old.units run.old.state)) }
 {
     match form {
-        ExprForm::Constant { before, value } => Ok(Next::Then(
+        ExprForm::Constant { before, value, .. } => Ok(Next::Then(
             wait!(ValuesToValue, ValuesToValue::Constant { value }),
             operands!(before),
         )),
         ExprForm::Null => Ok(Next::Give(Given::Value(Value::Null))),
         ExprForm::Local { local: n } => variable(program, nodes, depth, place, ty, n, run),
         ExprForm::This => variable(program, nodes, depth, place, ty, 0, run),
-        ExprForm::StaticField { before, field } => Ok(Next::Then(
+        ExprForm::StaticField { before, field, .. } => Ok(Next::Then(
             wait!(ValuesToValue, ValuesToValue::Static { field }),
             operands!(before),
         )),
@@ -132,12 +141,20 @@ fn form(
         ExprForm::Chain { first, links } => {
             Ok(Next::Begin(expression!(ExpressionTask::Chain { first, links })))
         }
-        ExprForm::AllOf { operands } => {
-            conjunction(alloc, program, nodes, depth, place, ty, operands, run)
-        }
-        ExprForm::AnyOf { operands } => {
-            disjunction(alloc, program, nodes, depth, place, ty, operands, run)
-        }
+        ExprForm::AllOf {
+            operands,
+            from,
+            up_to,
+        } => conjunction(
+            alloc, program, nodes, depth, place, ty, operands, from, up_to, run,
+        ),
+        ExprForm::AnyOf {
+            operands,
+            from,
+            up_to,
+        } => disjunction(
+            alloc, program, nodes, depth, place, ty, operands, from, up_to, run,
+        ),
         ExprForm::InstanceOf { of, to } => {
             Ok(Next::Then(used!(UseTodo::InstanceOf { to }), operand!(of)))
         }
@@ -156,8 +173,12 @@ fn form(
             }),
             operand!(test),
         )),
-        ExprForm::Assign { variable, value } => Ok(Next::Then(
-            wait!(TargetToValue, TargetToValue::Assign { value }),
+        ExprForm::Assign {
+            variable,
+            value,
+            store,
+        } => Ok(Next::Then(
+            wait!(TargetToValue, TargetToValue::Assign { value, store }),
             Task::Target(TargetTask::Variable { at: variable }),
         )),
         ExprForm::Compound {
@@ -310,7 +331,7 @@ fn value_of(
 {
     match operand_node(nodes, at) {
         OperandNode::Missing => Err(Halt::Wrong),
-        OperandNode::Operand { of, steps } => Ok(Next::Then(
+        OperandNode::Operand { of, steps, .. } => Ok(Next::Then(
             used!(UseTodo::Steps { steps }),
             expression!(ExpressionTask::Expr { at: of }),
         )),

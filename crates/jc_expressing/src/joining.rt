@@ -6,7 +6,8 @@ ghost use Rattle.jc_pending.specs.Values.{join_value};
 use jc_acts::one_value;
 use jc_numbers::operated;
 use jc_pending::{
-    CallTask, ExpressionTask, Given, JoinTodo, Next, call, expression, join, operand,
+    CallTask, ClassTask, ExpressionTask, Given, JoinTodo, Next, NothingToValue, call, class,
+    expression, join, operand, wait,
 };
 use jc_rules::Items;
 use jc_running::Value;
@@ -48,11 +49,19 @@ pub fn join_value(
             run,
             operated(op, left, v),
         )?))),
-        JoinTodo::TextAgain => Ok(Next::Begin(call!(CallTask::Static {
-            method: program.known.printing.of_object,
-            args: one_value(alloc, v)?,
-            types: Items::new(alloc),
-        }))),
+        JoinTodo::TextAgain => Ok(Next::Then(
+            wait!(
+                NothingToValue,
+                NothingToValue::Call {
+                    method: program.known.printing.of_object,
+                    args: one_value(alloc, v)?,
+                    types: Items::new(alloc),
+                }
+            ),
+            class!(ClassTask::Ready {
+                class: program.known.string
+            }),
+        )),
         JoinTodo::ConcatRight { of, right } => Ok(Next::Then(
             join!(JoinTodo::ConcatText { of, left: v }),
             operand!(right),

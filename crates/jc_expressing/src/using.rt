@@ -9,8 +9,8 @@ use crate::noting::{is_instance, note_form};
 use jc_acts::{box_of, capture, forget, one_value, prefixes};
 use jc_numbers::{boolean_of, converted};
 use jc_pending::{
-    CallTask, ClassTask, ExpressionTask, Given, Next, NothingToValue, UseTodo, call, class,
-    expression, operand, used, wait,
+    CallTask, ClassTask, ExpressionTask, Given, Next, NothingTask, NothingToValue, Task, UseTodo,
+    call, class, expression, operand, used, wait,
 };
 use jc_rules::{Items, Place};
 use jc_running::Value;
@@ -71,7 +71,15 @@ pub fn use_value(
         ),
         UseTodo::Assign { target } => Ok(Next::Then(
             wait!(NothingToValue, NothingToValue::Give { value: v }),
-            jc_pending::Task::Nothing(jc_pending::NothingTask::Write { target, value: v }),
+            Task::Nothing(NothingTask::Write { target, value: v }),
+        )),
+        UseTodo::Store { target, store } => Ok(Next::Then(
+            wait!(NothingToValue, NothingToValue::Give { value: v }),
+            Task::Nothing(NothingTask::Store {
+                target,
+                store,
+                value: v,
+            }),
         )),
         UseTodo::Instead { value } => Ok(Next::Give(Given::Value(value))),
     }

@@ -1,12 +1,12 @@
 //! Elements of arrays: null is tested first, then the range, and for references that are stored the type.
 ghost use Rattle.std.specs.Prelude.{◌≡◌, option_and_then, slice_get};
-ghost use Rattle.jc_jvm.specs.Objects.{is_element_base as element_base, is_array_of as array_of, place_in as place_of, element_pushed, element_of, element_loaded, narrowed_to, kept as kept_in, may_stand as stands, element_put, element_kept, element_stored};
+ghost use Rattle.jc_jvm.specs.Objects.{is_element_base as element_base, is_array_of as array_of, place_in as place_of, element_pushed, element_of, element_loaded, narrowed_to, kept as kept_in, may_stand as stands, element_put, element_kept, sort_of_element, element_stored};
 ghost use Rattle.jc_plain.specs.Acted.{acted};
 
 use crate::Classes;
 use crate::kinds::fits;
 use crate::names::shape_sort;
-use jc_jvm::{Base, Cell, Element, Fault, Frame, Shape, Slots, Value, World};
+use jc_jvm::{Base, Cell, Element, Fault, Frame, Shape, Slots, Sort, Value, World};
 use jc_plain::{Act, go_to, is_of_sort, low_byte, low_char, low_short, push, throw_in};
 
 fn is_element_base(element: Element, base: Base) -> bool
@@ -171,6 +171,16 @@ fn store_at(
     }
 }
 
+fn element_sort(element: Element) -> Sort
+    ensures { result ≡ sort_of_element element }
+{
+    match element {
+        Element::OfLong => Sort::LongSort,
+        Element::OfReference => Sort::ReferenceSort,
+        Element::OfInt | Element::OfByte | Element::OfChar | Element::OfShort => Sort::WholeSort,
+    }
+}
+
 /// iastore and its kin.
 pub fn store_element(
     classes: &Classes,
@@ -185,8 +195,12 @@ pub fn store_element(
         (Some(value), Some(Value::Whole(index)), Some(Value::Address(at))) => {
             store_at(classes, element, world, at, index, value, next, now)
         }
-        (Some(_), Some(Value::Whole(_)), Some(Value::NullValue)) => {
-            throw_in(Fault::NullPointer, now)
+        (Some(value), Some(Value::Whole(_)), Some(Value::NullValue)) => {
+            if is_of_sort(element_sort(element), value) {
+                throw_in(Fault::NullPointer, now)
+            } else {
+                Act::Fails
+            }
         }
         _ => Act::Fails,
     }

@@ -1,6 +1,6 @@
 //! Fields of objects.
 ghost use Rattle.std.specs.Prelude.{◌≡◌, slice_get};
-ghost use Rattle.jc_jvm.specs.Objects.{field_pushed, slot_in as value_in, field_loaded, field_put, field_stored};
+ghost use Rattle.jc_jvm.specs.Objects.{field_pushed, slot_in as value_in, field_loaded, holds, field_stored};
 ghost use Rattle.jc_plain.specs.Acted.{acted};
 
 use jc_jvm::{Cell, Fault, Frame, Sort, Value, World};
@@ -42,22 +42,12 @@ pub fn load_field(sort: Sort, slot: usize, world: &World, next: u32, now: &mut F
     }
 }
 
-fn put_field(
-    world: &mut World,
-    at: u64,
-    slot: usize,
-    value: Value,
-    next: u32,
-    now: &mut Frame,
-) -> Act
-    ensures { field_put world.old at slot value next now.old now.old.stack.values (value_in (slice_get world.old.heap at) slot) ≡ (world.new, acted result now.new) }
+fn is_held(sort: Sort, world: &World, at: u64, slot: usize) -> bool
+    ensures { result ≡ holds sort (value_in (slice_get world.now.heap at) slot) }
 {
     match slot_in(world, at, slot) {
-        Some(_) => {
-            world.heap.set(at, slot, value);
-            go_to(next, now)
-        }
-        None => Act::Fails,
+        Some(old) => is_of_sort(sort, old),
+        None => false,
     }
 }
 
@@ -67,8 +57,9 @@ pub fn store_field(sort: Sort, slot: usize, world: &mut World, next: u32, now: &
 {
     match (now.stack.pop(), now.stack.pop()) {
         (Some(value), Some(Value::Address(at))) => {
-            if is_of_sort(sort, value) {
-                put_field(world, at, slot, value, next, now)
+            if is_of_sort(sort, value) && is_held(sort, world, at, slot) {
+                world.heap.set(at, slot, value);
+                go_to(next, now)
             } else {
                 Act::Fails
             }

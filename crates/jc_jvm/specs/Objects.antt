@@ -15,6 +15,7 @@ use Rattle.jc_jvm.specs.declared.frame.Frame.{Frame}
 use Rattle.jc_jvm.specs.declared.groups.Element.{Element}
 use Rattle.jc_jvm.specs.declared.groups.Element.TheVariants.{OfInt, OfLong, OfReference, OfByte, OfChar, OfShort}
 use Rattle.jc_jvm.specs.declared.operands.Sort.{Sort}
+use Rattle.jc_jvm.specs.declared.operands.Sort.TheVariants.{WholeSort, LongSort, ReferenceSort}
 use Rattle.jc_jvm.specs.declared.value.Base.{Base}
 use Rattle.jc_jvm.specs.declared.value.Base.TheVariants as base
 use Rattle.jc_jvm.specs.declared.value.Shape.{Shape}
@@ -101,10 +102,17 @@ element_kept classes element world (Some (Array of items)) at index v next now r
     if is_array_of element of && is_of_sort (sort_of_shape of) v then element_put classes world at of v next now rest (place_in items index) else (world, Fails)
 element_kept classes element world _ at index v next now rest = (world, Fails)
 
--- iastore and its kin: the value is on top, then the index, then the array
+-- the sort of the values that each instruction stores
+abbrev pub sort_of_element : Element → Sort
+sort_of_element OfLong = LongSort
+sort_of_element OfReference = ReferenceSort
+sort_of_element _ = WholeSort
+
+-- iastore and its kin: the value is on top, then the index, then the array; the value's sort is asked for null too
 abbrev pub element_stored : List ClassModel → Element → World → ℕ → Frame → List Value → Act_in
 element_stored classes element world next now (v ∷ Whole index ∷ Address at ∷ rest) = element_kept classes element world (slice_get world.heap at) at index v next now rest
-element_stored classes element world next now (v ∷ Whole index ∷ NullValue ∷ rest) = (world, throws NullPointer now)
+element_stored classes element world next now (v ∷ Whole index ∷ NullValue ∷ rest) =
+    if is_of_sort (sort_of_element element) v then (world, throws NullPointer now) else (world, Fails)
 element_stored classes element world next now _ = (world, Fails)
 
 -- arraylength; of null a NullPointerException (JVMS 6.5, arraylength)
@@ -202,15 +210,16 @@ field_loaded sort slot world next now (Address at ∷ rest) = field_pushed sort 
 field_loaded sort slot world next now (NullValue ∷ rest) = throws NullPointer now
 field_loaded sort slot world next now _ = Fails
 
--- there has to be such a slot
-abbrev pub field_put : World → ℕ → ℕ → Value → ℕ → Frame → List Value → Option Value → Act_in
-field_put world at slot v next now rest (Some old) = (with_heap (heap_with world.heap at slot v) world, leaves next now rest)
-field_put world at slot v next now rest None = (world, Fails)
+-- there is such a slot, and a value of the sort stands in it
+abbrev pub holds : Sort → Option Value → Bool
+holds sort (Some old) = is_of_sort sort old
+holds sort None = false
 
--- putfield
+-- putfield: the sorts of the value and of the one that it takes the place of are asked
 abbrev pub field_stored : Sort → ℕ → World → ℕ → Frame → List Value → Act_in
 field_stored sort slot world next now (v ∷ Address at ∷ rest) =
-    if is_of_sort sort v then field_put world at slot v next now rest (slot_in (slice_get world.heap at) slot) else (world, Fails)
+    if is_of_sort sort v && holds sort (slot_in (slice_get world.heap at) slot)
+    then (with_heap (heap_with world.heap at slot v) world, leaves next now rest) else (world, Fails)
 field_stored sort slot world next now (v ∷ NullValue ∷ rest) = if is_of_sort sort v then (world, throws NullPointer now) else (world, Fails)
 field_stored sort slot world next now _ = (world, Fails)
 

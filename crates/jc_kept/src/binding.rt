@@ -1,12 +1,12 @@
 //! What the type variables of an object or a call stand for.
-ghost use Rattle.std.specs.Prelude.{◌≡◌, ◌++◌, [], IfOk, replicate};
+ghost use Rattle.std.specs.Prelude.{◌≡◌, ◌++◌, [], IfOk, if◌then◌else◌, replicate};
 ghost use Rattle.std.specs.Option.{option_copied};
-ghost use Rattle.jc_types.specs.declared.form.Ty.{out-Ty};
+ghost use Rattle.jc_types.specs.declared.form.Ty.{Ty as Typ, out-Ty};
 ghost use Rattle.jc_types.specs.declared.form.Ty.TheVariants.{NullTy};
 ghost use Rattle.jc_types.specs.declared.form.Arg.{out-Arg};
 ghost use Rattle.jc_types.specs.declared.form.Arg.TheVariants.{Exact};
 ghost use Rattle.jc_kept.specs.Arguments.{after_first};
-ghost use Rattle.jc_meaning.specs.Kept.{arguments_as, arguments_at, bindings, class_bindings, exact_or_null, exact_types, kept_by, lower_or_null, unsaid, unsaid_all};
+ghost use Rattle.jc_meaning.specs.Kept.{arguments_as, arguments_at, bindings, class_bindings, exact_or_null, exact_types, born, kept_by, lower_or_null, unsaid, unsaid_all};
 
 use crate::closing::close;
 use jc_meaning::Binding;
@@ -142,6 +142,23 @@ pub fn kept_by(alloc: Global, table: &Table, ty: &Ty) -> Result<Ty, WantOfMemory
         Ty::Captured(_) => copy_type(alloc, ty),
         Ty::Meet { .. } => copy_type(alloc, ty),
         Ty::NullTy => copy_type(alloc, ty),
+    }
+}
+
+/// Whether an object keeps its class alone, since nothing refers to it yet.
+#[tactic(auto, using(jc_types::proofs::Opened::opened), unfolding(jc_meaning::specs::Kept::born))]
+pub fn is_unborn(k: ClassId, kept: &Ty) -> bool
+    ensures { (t : Typ) → born k t kept.now ≡ (if result then t else kept.now) }
+{
+    match kept {
+        Ty::Raw { id } => id.0 == k.0,
+        Ty::Prim(_) => false,
+        Ty::Class { .. } => false,
+        Ty::Array { .. } => false,
+        Ty::Variable(_) => false,
+        Ty::Captured(_) => false,
+        Ty::Meet { .. } => false,
+        Ty::NullTy => false,
     }
 }
 

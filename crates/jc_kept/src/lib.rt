@@ -6,6 +6,6 @@ mod binding;
 mod closing;
 mod unbounded;
 
-pub use binding::{arguments_as, bindings, class_bindings, kept_by, unsaid, unsaid_all};
+pub use binding::{arguments_as, bindings, class_bindings, is_unborn, kept_by, unsaid, unsaid_all};
 pub use closing::{close, close_all};
 pub use unbounded::kept_array;

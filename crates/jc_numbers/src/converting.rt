@@ -1,7 +1,7 @@
 //! Conversions between primitive types (JLS 5.1.2, 5.1.3).
 ghost use Rattle.std.specs.Prelude.{◌≡◌, ◌≤◌, ◌<◌, ◌^◌, pos};
 ghost use Rattle.std.specs.Int.{w8, w16, w32, int_wrap, cast_unsigned};
-ghost use Rattle.jc_heaps.specs.Numbers.{number_as, converted, boolean_of, whole_of};
+ghost use Rattle.jc_heaps.specs.Numbers.{number_as, element_as, converted, boolean_of, whole_of};
 
 use jc_running::Value;
 use jc_types::Primitive;
@@ -57,6 +57,19 @@ pub fn converted(to: Primitive, value: Value) -> Option<Value>
         Value::Long(n) => Some(number_as(to, n)),
         Value::Address(_) => None,
         Value::Null => None,
+    }
+}
+
+/// A value as an element of an array of a primitive type keeps it: the low bits of an int, and of a boolean one of them (JVMS 6.5, bastore).
+pub fn element_as(of: Primitive, value: Value) -> Value
+    ensures { result ≡ element_as of value }
+{
+    match (of, value) {
+        (Primitive::Boolean, Value::Whole(n)) => Value::Whole((n.cast_unsigned() % 2) as i32),
+        (Primitive::Byte, Value::Whole(n)) => number_as(of, n as i64),
+        (Primitive::Short, Value::Whole(n)) => number_as(of, n as i64),
+        (Primitive::Char, Value::Whole(n)) => number_as(of, n as i64),
+        _ => value,
     }
 }
 

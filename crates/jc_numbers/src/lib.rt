@@ -6,6 +6,6 @@ mod operating;
 mod prefixing;
 mod shifting;
 
-pub use converting::{boolean_of, converted, number_as, whole_of};
+pub use converting::{boolean_of, converted, element_as, number_as, whole_of};
 pub use operating::{operated, truth};
 pub use prefixing::{prefixed, stepped};

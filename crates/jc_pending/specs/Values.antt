@@ -1,6 +1,7 @@
 -- What each point stands for that has to do with values (JLS 12.4, 15), over the nodes of a method and the meaning at a depth.
 use Rattle.std.specs.Prelude.{ℕ, suc, ◌-◌, pos, Bool, true, false, List, [], ◌∷◌, ◌++◌, slice_get, slice_set, if◌then◌else◌}
 use Rattle.jc_rules.specs.declared.rule.Place.{Place}
+use Rattle.jc_types.specs.declared.ids.MethodId.{MethodId}
 use Rattle.jc_types.specs.declared.form.Ty.{Ty}
 use Rattle.jc_types.specs.declared.constant.Op.{Op}
 use Rattle.jc_types.specs.Accessors.{result_of}
@@ -19,7 +20,7 @@ use Rattle.jc_typed.specs.Trees.{Form}
 use Rattle.jc_typed.specs.Parts.{parts, type_of, types_of, constant_of, steps_of, step_over, captures_of, ops_of, expr_of, form_over, operand_of, operands_of, links_of, variable_of, declared_of}
 use Rattle.jc_meaning.specs.declared.target.Target.{Target}
 use Rattle.jc_meaning.specs.declared.target.Target.TheVariants.{ToStatic, ToField, ToElement}
-use Rattle.jc_meaning.specs.Kept.{TypedRun, typed_keeping, closed, closed_all}
+use Rattle.jc_meaning.specs.Kept.{TypedRun, kept_by, typed_keeping, closed, closed_all}
 use Rattle.jc_meaning.specs.Programs.{method_class, initialiser_of}
 use Rattle.jc_meaning.specs.Expressions as e
 use Rattle.jc_meaning.specs.Statements as s
@@ -118,8 +119,8 @@ module _ (P : TypedProgram) (ns : List Node) (d : ℕ) where
   call_task (call.Static m args types) = c.call_static P (l.body P d) m args types
   call_task (call.Direct m receiver args types) = c.call_direct P (l.body P d) m receiver args types
   call_task (call.Virtual m receiver args types) = c.call_virtual P (l.body P d) m receiver args types
-  call_task (call.Run m locals frame) = in_frame locals frame (bind (l.body P d m) c.answer_of)
-  call_task (call.Answer m) = bind (l.body P d m) c.answer_of
+  call_task (call.Run m locals frame) = in_frame locals frame (bind (l.body P d m) (c.answer_of P m))
+  call_task (call.Answer m) = bind (l.body P d m) (c.answer_of P m)
   call_task (call.Ready m args types) = behind (l.ready P d (method_class P.table m)) (c.call_static P (l.body P d) m args types)
 
   -- each task that gives a value; lists of operands stand in reverse order
@@ -145,6 +146,7 @@ module _ (P : TypedProgram) (ns : List Node) (d : ℕ) where
   use_value (u.Branches first second from up_to) v =
       behind (e.forget P (l.inner P d) from (up_to - from)) (e.if_true P (l.inner P d) v (value_of first) (value_of second))
   use_value (u.Assign target) v = assigned target v
+  use_value (u.Store target ss) v = e.stored P (l.inner P d) target (steps_of ns ss) v
   use_value (u.Instead given) v = give given
 
   -- what follows an operand of an operator, or the string of one of string `+`
@@ -152,7 +154,7 @@ module _ (P : TypedProgram) (ns : List Node) (d : ℕ) where
   join_value (j.Link joint left right) v = bind (steps left v) (λ w. joined joint w right)
   join_value (j.Joining joint right) v = joined joint v right
   join_value (j.Operate op left) v = given (typed_keeping P.table) P.table P.known (operated op left v)
-  join_value j.TextAgain v = l.call_static P d P.known.printing.of_object (v ∷ [])
+  join_value j.TextAgain v = behind (l.ready P d P.known.string) (l.call_static P d P.known.printing.of_object (v ∷ []))
   join_value (j.ConcatRight as_it right) v =
       bind (value_of right) (λ w. bind (text_of as_it w) (λ t. l.call_direct P d P.known.printing.concat v (t ∷ [])))
   join_value (j.ConcatText as_it left) v = bind (text_of as_it v) (λ t. l.call_direct P d P.known.printing.concat left (t ∷ []))
@@ -231,7 +233,7 @@ module _ (P : TypedProgram) (ns : List Node) (d : ℕ) where
 
   -- what follows the parts of a variable that is assigned or changed
   abbrev pub target_to_value : TargetToValue → Target → TypedRun Value
-  target_to_value (tv.Assign value) t = bind (value_of value) (assigned t)
+  target_to_value (tv.Assign value store) t = bind (value_of value) (e.stored P (l.inner P d) t (steps_of ns store))
   target_to_value (tv.Compound place ty joint left right into) t =
       bind (e.read_target P (l.inner P d) t) (compound_note place (type_of ns ty) joint left right into t)
   target_to_value (tv.Step place ty op from into is_prefix) t =
@@ -248,6 +250,7 @@ module _ (P : TypedProgram) (ns : List Node) (d : ℕ) where
   -- a task that gives nothing: a store, a declaration, an update, or the use of a class
   abbrev pub nothing_task : NothingTask → TypedRun (Unit {0})
   nothing_task (n.Write target v) = e.write_target P (l.inner P d) target v
+  nothing_task (n.Store target ss v) = bind (steps ss v) (e.write_target P (l.inner P d) target)
   nothing_task (n.SetStatic f v) = e.set_static P (l.inner P d) f v
   nothing_task (n.Declare declared) = s.declare P (l.inner P d) (l.run P d) d (declared_of ns declared)
   nothing_task (n.Take place ty captures ss at v) =
@@ -255,17 +258,22 @@ module _ (P : TypedProgram) (ns : List Node) (d : ℕ) where
   nothing_task (n.Update update) = behind (values update) (give tt)
   nothing_task (n.Class t) = class_task t
 
+  -- behind the arguments of a creation the object gets its type, and the constructor runs (JLS 15.9.4)
+  abbrev construct : ℕ → MethodId → ℕ → List Value → TypedRun Value
+  construct ty m a vs =
+      bind (closed (type_of ns ty)) (λ t.
+      behind (e.set_type P (l.inner P d) a (method_class P.table m) (kept_by P.table t))
+      (behind (l.call_direct P d m (Address a) vs) (give (Address a))))
+
   -- what follows a class that is ready, or a store
   abbrev pub nothing_to_value : NothingToValue → TypedRun Value
   nothing_to_value (nv.Static f) = look (λ state. slice_get state.statics f.0)
   nothing_to_value (nv.Text as_it v) =
       bind (l.call_static P d (e.printer_of P (l.inner P d) P.known.printing as_it) (v ∷ []))
-      (λ t. l.call_static P d P.known.printing.of_object (t ∷ []))
+      (λ t. behind (l.ready P d P.known.string) (l.call_static P d P.known.printing.of_object (t ∷ [])))
   nothing_to_value (nv.Give v) = give v
   nothing_to_value (nv.Create ty m args) =
-      bind (e.new_object P (l.inner P d) (type_of ns ty) (method_class P.table m)) (λ a.
-      bind (values args) (λ vs.
-      behind (l.call_direct P d m (Address a) vs) (give (Address a))))
+      bind (e.new_object P (l.inner P d) (method_class P.table m)) (λ a. bind (values args) (construct ty m a))
   nothing_to_value (nv.Call m args types) = c.call_static P (l.body P d) m args types
 
   -- what follows the values of operands and gives a value
@@ -276,14 +284,14 @@ module _ (P : TypedProgram) (ns : List Node) (d : ℕ) where
       bind (values args) (λ ws. bind (closed_all (types_of ns type_args)) (e.call_with P (l.inner P d) kind m vs ws))
   values_to_value (lv.Call kind m type_args receiver) vs =
       bind (closed_all (types_of ns type_args)) (e.call_with P (l.inner P d) kind m receiver vs)
-  values_to_value (lv.Construct m a) vs = behind (l.call_direct P d m (Address a) vs) (give (Address a))
+  values_to_value (lv.Construct ty m a) vs = construct ty m a vs
   values_to_value (lv.NewArray ty) vs =
       bind (e.lengths_of P (l.inner P d) vs) (λ ns'. bind (closed (type_of ns ty)) (λ t. e.arrays P (l.inner P d) t ns'))
   values_to_value lv.Test vs = give (s.true_or P (l.inner P d) (l.run P d) d vs)
 
   -- what follows a body: its result
   abbrev pub completion_to_value : CompletionToValue → Completion → TypedRun Value
-  completion_to_value cv.Answer done = c.answer_of done
+  completion_to_value (cv.Answer m) done = c.answer_of P m done
 
   -- what follows a class that is ready, or the declarations before the last one
   abbrev pub nothing_to_nothing : NothingToNothing → TypedRun (Unit {0})
@@ -294,6 +302,7 @@ module _ (P : TypedProgram) (ns : List Node) (d : ℕ) where
   abbrev pub value_to_nothing : ValueToNothing → Value → TypedRun (Unit {0})
   value_to_nothing vn.Drop v = give tt
   value_to_nothing (vn.SetLocal n) v = set_local n v
+  value_to_nothing (vn.Write target) v = e.write_target P (l.inner P d) target v
 
   abbrev pub values_to_nothing : ValuesToNothing → List Value → TypedRun (Unit {0})
   values_to_nothing ln.Drop vs = give tt

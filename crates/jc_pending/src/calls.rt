@@ -106,6 +106,7 @@ pub enum ValuesToValue {
         receiver: Items<Value>,
     },
     Construct {
+        ty: u32,
         method: MethodId,
         object: u64,
     },

@@ -125,6 +125,12 @@ pub enum UseTodo {
         target: Target,
     },
 
+    /// The value of `v = e`, behind which stand guards of what is stored.
+    Store {
+        target: Target,
+        store: u32,
+    },
+
     /// Whatever is given, this is given on.
     Instead {
         value: Value,
@@ -245,6 +251,7 @@ pub enum ValuesToTarget {
 pub enum TargetToValue {
     Assign {
         value: u32,
+        store: u32,
     },
     Compound {
         place: Place,
@@ -264,12 +271,17 @@ pub enum TargetToValue {
     },
 }
 
-/// What gives nothing: an assignment, a declaration of variables, an element that goes into the variable of an enhanced `for`, and
+/// What gives nothing: an assignment, one behind the guards of what is stored, a declaration of variables, an element that goes into the variable of an enhanced `for`, and
 /// the update of a `for`.
 #[derive(Clone, Copy)]
 pub enum NothingTask {
     Write {
         target: Target,
+        value: Value,
+    },
+    Store {
+        target: Target,
+        store: u32,
         value: Value,
     },
     SetStatic {

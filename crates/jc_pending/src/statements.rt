@@ -1,5 +1,6 @@
 //! What a statement still has to do.
 use crate::loops::{Each, TurnTask};
+use jc_meaning::Target;
 use jc_places::ArmPlaces;
 use jc_rules::Items;
 use jc_running::{Completion, Value};
@@ -111,13 +112,14 @@ pub enum CompletionToCompletion {
 /// What the body of a method gives.
 #[derive(Clone, Copy)]
 pub enum CompletionToValue {
-    Answer,
+    Answer { method: MethodId },
 }
 
 #[derive(Clone, Copy)]
 pub enum ValueToNothing {
     Drop,
     SetLocal { local: u32 },
+    Write { target: Target },
 }
 
 #[derive(Clone, Copy)]

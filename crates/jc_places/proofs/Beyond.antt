@@ -41,7 +41,7 @@ no_expr ns i h = ap as_expr (beyond ns i h)
 pub no_operand : (ns : List Node) (i : ℕ) → length ns ≤ i → operand_of ns i ≡ operand_at ns (o.Missing)
 no_operand ns i h = ap as_operand (beyond ns i h)
 
-pub no_variable : (ns : List Node) (i : ℕ) → length ns ≤ i → variable_of ns i ≡ variable_at ns (v.Local 0)
+pub no_variable : (ns : List Node) (i : ℕ) → length ns ≤ i → variable_of ns i ≡ variable_at ns (v.Local nowhere 0)
 no_variable ns i h = ap as_variable (beyond ns i h)
 
 pub no_operands : (ns : List Node) (i : ℕ) → length ns ≤ i → operands_of ns i ≡ operands_at ns (l.Empty)

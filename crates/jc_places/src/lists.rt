@@ -1,6 +1,6 @@
 //! The places of the members of lists, in order.
 ghost use Rattle.std.specs.Prelude.{◌≡◌, [], IfOk, map, reverse};
-ghost use Rattle.jc_typed.specs.Parts.{types_of, type_of, captures_of, cases_of, catches_of};
+ghost use Rattle.jc_typed.specs.Parts.{types_of, type_of, captures_of, case_over, cases_of, catches_of, parts};
 ghost use Rattle.jc_places.specs.Sorts.{catch_of, catches_before};
 
 use crate::nodes::{captures_node, cases_node, catches_node, types_node};
@@ -46,7 +46,7 @@ pub fn capture_list(alloc: Global, nodes: &Nodes, at: u32) -> Result<Items<Captu
 
 #[tactic(auto, using(crate::proofs::Turned::turned))]
 pub fn case_list(alloc: Global, nodes: &Nodes, at: u32) -> Result<Items<Case>, WantOfMemory>
-    ensures { IfOk result (λ r. cases_of nodes.now at ≡ r) }
+    ensures { IfOk result (λ r. cases_of nodes.now at ≡ map (case_over (parts nodes.now)) r) }
 {
     let mut out = Items::new(alloc);
     let mut list = at;

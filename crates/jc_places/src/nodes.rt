@@ -34,7 +34,10 @@ pub fn variable_node(nodes: &Nodes, at: u32) -> VariableNode
     if (at as usize) < nodes.len() {
         nodes.variable(at)
     } else {
-        VariableNode::Local { local: 0 }
+        VariableNode::Local {
+            place: Place { file: 0, at: 0 },
+            local: 0,
+        }
     }
 }
 

@@ -1,5 +1,6 @@
 //! Reads and stores of elements (JLS 15.13, 15.26.1).
 ghost use Rattle.std.specs.Prelude.{◌≡◌, replicate, IfOk};
+ghost use Rattle.jc_heaps.specs.Making.{kept_as};
 ghost use Rattle.jc_values.specs.Doing.{Does};
 ghost use Rattle.jc_values.specs.Idle.{get_element, set_element, storable_as, length_of};
 
@@ -8,10 +9,11 @@ use crate::making::{address_of, make_plain};
 use crate::parts::set_part;
 use crate::testing::{closed_erasure, passes};
 use jc_layout::element_of;
+use jc_numbers::element_as;
 use jc_rules::{Items, WantOfMemory};
 use jc_running::Value;
 use jc_typed::TypedProgram;
-use jc_types::Erased;
+use jc_types::{Base, Erased};
 use std::alloc::Global;
 
 /// An element; null throws, and so does a place outside of the array (JLS 15.13.1).
@@ -63,6 +65,20 @@ fn storable(
     }
 }
 
+// What an array of elements of an erased type keeps of a value: an int is narrowed to them.
+fn kept_as(to: Erased, v: Value) -> Value
+    ensures { result ≡ kept_as to v }
+{
+    if to.dims != 0 {
+        return v;
+    }
+    match to.base {
+        Base::Prim(p) => element_as(p, v),
+        Base::Class(_) => v,
+        Base::NullTy => v,
+    }
+}
+
 /// A store of an element; null and a place outside of the array throw, and so does an element that isn't of the array's element type
 /// (JLS 15.26.1).
 pub fn set_element(
@@ -94,7 +110,7 @@ pub fn set_element(
         return Err(Halt::Thrown(thrown));
     }
     if storable(alloc, program, run, to, v)? {
-        set_part(alloc, run, a, at as u64, v);
+        set_part(alloc, run, a, at as u64, kept_as(to, v));
         return Ok(());
     }
     let thrown = make_plain(alloc, &program.table, run, program.known.thrown.array_store)?;

@@ -1,8 +1,12 @@
 //! The names of classes as `Class.getName` gives them.
 ghost use Rattle.std.specs.Prelude.{◌≡◌, ◌++◌, IfOk, OnOk, replicate, string_bytes};
+ghost use Rattle.std.specs.Char.Escape.{encode_utf16};
+ghost use Rattle.std.specs.List.{flat_map};
+ghost use Rattle.std.specs.Str.{chars};
+ghost use Rattle.jc_heaps.specs.Making.{units_of_text};
 ghost use Rattle.jc_meaning.specs.Natives.{element_name, letter_of, name_of, plain_name};
 
-use jc_rules::WantOfMemory;
+use jc_rules::{Items, WantOfMemory};
 use jc_types::{Base, Erased, Primitive, Table, class_binary};
 use std::alloc::Global;
 
@@ -71,4 +75,31 @@ pub fn name_of(alloc: Global, table: &Table, e: Erased) -> Result<String, WantOf
         add_element_name(table, &mut out, e.base)?;
     }
     Ok(out)
+}
+
+fn encoded(alloc: Global, text: &[char]) -> Result<Items<u16>, WantOfMemory>
+    ensures { IfOk result (λ r. r ≡ flat_map encode_utf16 text.now) }
+{
+    let mut found = Vec::new(alloc);
+    for c in text {
+        let mut pair = [0u16; 2];
+        found.extend_from_slice(c.encode_utf16(&mut pair))?;
+    }
+    Ok(Items::of(found))
+}
+
+#[tactic(auto, using(crate::proofs::Texts::map_same))]
+fn chars_of(alloc: Global, text: &str) -> Result<Vec<char>, WantOfMemory>
+    ensures { IfOk result (λ r. r.items ≡ chars text.now) }
+{
+    let found = text.chars().map(|c| c).collect(alloc)?;
+    Ok(found)
+}
+
+/// The UTF-16 units of a text (JLS 3.1).
+pub fn units_of(alloc: Global, text: &str) -> Result<Items<u16>, WantOfMemory>
+    ensures { IfOk result (λ r. r ≡ units_of_text text.now) }
+{
+    let chars = chars_of(alloc, text)?;
+    encoded(alloc, &chars)
 }

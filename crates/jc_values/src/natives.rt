@@ -12,13 +12,13 @@ ghost use Rattle.jc_meaning.specs.declared.target.Native.TheVariants as n;
 ghost use Rattle.jc_values.specs.Doing.{Does};
 
 use crate::halt::{Halt, Running};
-use crate::names::name_of;
+use crate::names::{name_of, units_of};
 use crate::parts::local;
 use crate::strings::make_string;
 use crate::testing::closed_erasure;
 use jc_meaning::Native;
 use jc_numbers::whole_of;
-use jc_rules::{Items, Text, WantOfMemory};
+use jc_rules::{Text, WantOfMemory};
 use jc_running::Value;
 use jc_typed::{Natives, TypedProgram};
 use jc_types::MethodId;
@@ -43,18 +43,6 @@ pub fn native_of(natives: &Natives, m: MethodId) -> Option<Native>
     } else {
         None
     }
-}
-
-// The bytes of a text as units.
-fn widened(alloc: Global, text: &str) -> Result<Items<u16>, WantOfMemory>
-    ensures { IfOk result (λ r. r ≡ text.now) }
-{
-    let bytes = text.as_bytes();
-    let mut out = Items::new(alloc);
-    for i in 0..bytes.len() {
-        out.push(bytes[i] as u16)?;
-    }
-    Ok(out)
 }
 
 fn put_byte(run: &mut Running, b: u8) -> Result<(), Halt>
@@ -141,7 +129,7 @@ fn named(alloc: Global, program: &TypedProgram, run: &mut Running) -> Result<Val
         &program.table,
         closed_erasure(alloc, &program.table, &object.kept),
     )?;
-    let units = widened(alloc, name.as_str())?;
+    let units = units_of(alloc, name.as_str())?;
     make_string(alloc, program, run, units.slice())
 }
 

@@ -31,9 +31,9 @@ returns c = λ k coherent.
     (m.call_selected c.args.program.now (body c.args.program.now c.args.depth) c.args.method o c.in_ok-a.a c.in-Some.object.now c.args.args c.args.types c.address_of.new.run.units c.address_of.new.run.state)))
     (c.in-Some-selected.ensures ∙ ap (λ (x : ClassId). selected c.args.program.now x c.args.method) (c.methods_class-of.ensures ∙ ap methods_class c.closed_erasure.ensures))
     (subst (λ (f : Frame). Leads c.args.program.now c.args.nodes.now c.args.depth k c.call_entered.result c.call_entered.new.run (k.value
-    (bind (m.entered_all c.args.program.now (params_of c.args.program.now.table c.args.method) (params_of c.args.program.now.table c.in-Some-selected.own) c.args.args) (λ vs. bind (in_frame (m.first_locals c.args.program.now c.in-Some-selected.own (Address c.in_ok-a.a ∷ vs)) f (bind (body c.args.program.now c.args.depth c.in-Some-selected.own) m.answer_of)) (m.answered c.args.program.now (result_of c.args.program.now.table c.args.method) (result_of c.args.program.now.table c.in-Some-selected.own))) c.address_of.new.run.units c.address_of.new.run.state)))
+    (bind (m.entered_all c.args.program.now (params_of c.args.program.now.table c.args.method) (params_of c.args.program.now.table c.in-Some-selected.own) c.args.args) (λ vs. bind (in_frame (m.first_locals c.args.program.now c.in-Some-selected.own (Address c.in_ok-a.a ∷ vs)) f (bind (body c.args.program.now c.args.depth c.in-Some-selected.own) (m.answer_of c.args.program.now c.in-Some-selected.own))) (m.answered c.args.program.now (result_of c.args.program.now.table c.args.method) (result_of c.args.program.now.table c.in-Some-selected.own))) c.address_of.new.run.units c.address_of.new.run.state)))
     (c.in_ok-frame.ensures ∙ ap (λ (ts : List Ty). m.frame_of c.args.program.now c.in-Some-selected.own (Some c.in-Some.object.now) ts) c.slice.ensures)
     (subst (λ (vals : List Value). Leads c.args.program.now c.args.nodes.now c.args.depth k c.call_entered.result c.call_entered.new.run (k.value
-    (bind (m.entered_all c.args.program.now (params_of c.args.program.now.table c.args.method) (params_of c.args.program.now.table c.in-Some-selected.own) vals) (λ vs. bind (in_frame (m.first_locals c.args.program.now c.in-Some-selected.own (Address c.in_ok-a.a ∷ vs)) c.in_ok-frame.frame (bind (body c.args.program.now c.args.depth c.in-Some-selected.own) m.answer_of)) (m.answered c.args.program.now (result_of c.args.program.now.table c.args.method) (result_of c.args.program.now.table c.in-Some-selected.own))) c.address_of.new.run.units c.address_of.new.run.state)))
+    (bind (m.entered_all c.args.program.now (params_of c.args.program.now.table c.args.method) (params_of c.args.program.now.table c.in-Some-selected.own) vals) (λ vs. bind (in_frame (m.first_locals c.args.program.now c.in-Some-selected.own (Address c.in_ok-a.a ∷ vs)) c.in_ok-frame.frame (bind (body c.args.program.now c.args.depth c.in-Some-selected.own) (m.answer_of c.args.program.now c.in-Some-selected.own))) (m.answered c.args.program.now (result_of c.args.program.now.table c.args.method) (result_of c.args.program.now.table c.in-Some-selected.own))) c.address_of.new.run.units c.address_of.new.run.state)))
     c.slice-2.ensures
     (c.call_entered.ensures k coherent)))))

@@ -1,0 +1,7 @@
+class Main {
+    int f() {
+        int y;
+        (y) += 1;
+        return y;
+    }
+}

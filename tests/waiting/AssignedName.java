@@ -1,0 +1,7 @@
+class Main {
+    int f() {
+        int y;
+        ++y;
+        return y;
+    }
+}

@@ -1,0 +1,3 @@
+class Main {
+    boolean f(Integer i, String s) { return i == s; }
+}

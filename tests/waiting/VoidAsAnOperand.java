@@ -1,0 +1,6 @@
+class Main {
+    static void v() { }
+    void f() {
+        String s = "a" + v();
+    }
+}
