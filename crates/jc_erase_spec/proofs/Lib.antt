@@ -1,0 +1,4 @@
+pub mod Heaps
+pub mod Keeps
+pub mod Calls
+pub mod Alike
