@@ -1,7 +1,6 @@
 -- What is found in lists of methods and of bridges, and what the bridges of a class are.
 use Rattle.std.proofs.Common.{◌≡◌, ◌≢◌, ◌⊎◌, ◌<◌, inl, inr, ℕ, zero, suc, ◌+◌, Bool, true, false, not, List, [], ◌∷◌, ◌++◌, Option, Some, None, length, refl, sym, ◌∙◌, ap, subst, arith, cond, slice_get}
 use Rattle.std.specs.Prelude.{◌&&◌, ◌||◌, ◌==◌, if◌then◌else◌}
-use Rattle.std.specs.List.{list_any}
 use Rattle.std.specs.Str.{bytes_eq}
 use Rattle.std.proofs.lemmas.Option.{slice_get_within}
 use Rattle.jc_rules.proofs.Truths.{and_first, and_second, equal_numbers, not_both, not_false, other_numbers, same_bytes}
@@ -9,13 +8,12 @@ use Rattle.jc_types.specs.declared.declarations.MethodDecl.{MethodDecl}
 use Rattle.jc_types.specs.declared.ids.ClassId.{ClassId}
 use Rattle.jc_types.specs.declared.ids.MethodId.{MethodId}
 use Rattle.jc_types.specs.declared.table.Table.{Table}
-use Rattle.jc_types.specs.Accessors.{class_count, is_interface, method_kind_in, method_kind_of, method_name_of, methods_of}
+use Rattle.jc_types.specs.Accessors.{class_count, is_interface, method_kind_in, method_name_of, methods_of}
 use Rattle.jc_overriding.specs.Overriding.{access_of, body_for, declared_for, if_body, in_superclass, is_abstract, is_above, is_method, kind_in, or_further, owner, select, standing_in, standing_within, stands_for, superclass}
 use Rattle.jc_overriding.specs.Viewing.{is_static}
-use Rattle.jc_members.specs.Named.{all_named}
 use Rattle.jc_members.proofs.Standing.{not_standing}
 use Rattle.jc_bridges_spec.specs.declared.bridge.Bridge.{Bridge}
-use Rattle.jc_bridges_spec.specs.Bridging.{bridges, bridges_for, bridges_if, goes_across, goes_on, is_at, is_bridged, is_led_astray, leads_among, leads_by, leads_in, wants_bridge, with_bridge, with_bridge_to}
+use Rattle.jc_bridges_spec.specs.Bridging.{bridges, bridges_for, bridges_if, goes_across, goes_on, is_at, is_bridged, is_led_astray, leads_among, leads_by, wants_bridge, with_bridge, with_bridge_to}
 use Rattle.jc_bridges_spec.specs.Descriptors.{is_called_as, is_private, is_selectable, same_descriptor}
 use Rattle.jc_bridges_laws.specs.Bodies.{IsListed}
 use Rattle.jc_bridges_laws.specs.Selecting.{Selected, Written, Across, among_bridges, among_methods}

@@ -9,10 +9,10 @@ use Rattle.jc_types.specs.Accessors.{class_count, is_interface, method_name_of, 
 use Rattle.jc_overriding.specs.Overriding.{is_above, owner, same_class, select, superclass}
 use Rattle.jc_members.specs.Named.{all_named}
 use Rattle.jc_bridges_spec.specs.declared.bridge.Bridge.{Bridge}
-use Rattle.jc_bridges_spec.specs.Bridging.{bridges, goes_on, is_at, is_led_astray, leads_in}
+use Rattle.jc_bridges_spec.specs.Bridging.{bridges, goes_on, is_led_astray, leads_in}
 use Rattle.jc_bridges_spec.specs.Descriptors.{is_called_as, is_selectable, same_descriptor}
 use Rattle.jc_bridges_laws.specs.Bodies.{HasBodies, IsBody, IsLine, IsListed, IsVirtual, LeadsTo}
-use Rattle.jc_bridges_laws.specs.Selecting.{Selected, Written, Across, among_bridges, among_methods, in_class, or_above, selected, selected_within}
+use Rattle.jc_bridges_laws.specs.Selecting.{Selected, Written, Across, among_bridges, among_methods, in_class, or_above, selected_within}
 use Rattle.jc_bridges_laws.proofs.Found.{HasNoBridge, HasNone, IsCrossed, IsFound, IsRight, Led, across, among, body_name, bridged, bridges_right, led_among, wanted, wanting}
 use Rattle.jc_bridges_laws.proofs.Keys.{called_back, called_descriptor, called_key, called_on, called_self, key, key_called, method, named_called, never}
 

@@ -1,6 +1,6 @@
 -- What the bodies of methods that have one name and descriptor have to do with each other (JLS 8.4.2, 8.4.8.1, 8.4.8.3, 8.4.8.4), and that selection by name
 -- and descriptor leads to them.
-use Rattle.std.specs.Prelude.{◌≡◌, ◌⊎◌, ◌<◌, ℕ, ◌+◌, true, false, List, [], ◌∷◌, length, Some, None}
+use Rattle.std.specs.Prelude.{◌≡◌, ◌⊎◌, ◌<◌, ◌+◌, true, false, List, [], ◌∷◌, length, Some, None}
 use Rattle.jc_types.specs.declared.ids.ClassId.{ClassId}
 use Rattle.jc_types.specs.declared.ids.MethodId.{MethodId}
 use Rattle.jc_types.specs.declared.table.Table.{Table}
@@ -9,7 +9,7 @@ use Rattle.jc_overriding.specs.Overriding.{owner, same_class, select, superclass
 use Rattle.jc_bridges_spec.specs.declared.bridge.Bridge.{Bridge}
 use Rattle.jc_bridges_spec.specs.Bridging.{is_at}
 use Rattle.jc_bridges_spec.specs.Descriptors.{is_called_as, is_selectable}
-use Rattle.jc_bridges_laws.specs.Selecting.{Selected, Written, Across, selected}
+use Rattle.jc_bridges_laws.specs.Selecting.{Written, Across, selected}
 
 -- x is one of these
 abbrev pub IsListed : {X : Type 0} → X → List X → Type 0
