@@ -18,7 +18,7 @@ use Rattle.jc_bridges_laws.proofs.Keys.{called_back, called_descriptor, called_k
 
 -- ---- one step upwards
 
-selected_step : (T : Table) (m : MethodId) (n : ℕ) (k : ClassId) (o : Option Selected) (s : Option ClassId) → in_class T m k ≡ o → superclass T k ≡ s
+pub selected_step : (T : Table) (m : MethodId) (n : ℕ) (k : ClassId) (o : Option Selected) (s : Option ClassId) → in_class T m k ≡ o → superclass T k ≡ s
     → selected_within T m (suc n) k ≡ or_above (selected_within T m n) o s
 unfolding selected_within
 selected_step T m n k o s e f = ap (λ x. or_above (selected_within T m n) x (superclass T k)) e ∙ ap (λ x. or_above (selected_within T m n) o x) f
@@ -58,13 +58,13 @@ selected_alike T l m e (suc n) k =
 declared_virtual : (T : Table) → HasBodies T → (k : ClassId) (n : MethodId) → IsListed n (methods_of T k) → is_selectable T n ≡ true → IsVirtual T k n
 declared_virtual T H k n l s = record { selectable = s; here = ap (λ b. b || is_above T k (owner T n)) (H.owned k n l) }
 
-bridge_virtual : (T : Table) (k : ClassId) (b : Bridge) → IsRight T k b → IsVirtual T k b.called
+pub bridge_virtual : (T : Table) (k : ClassId) (b : Bridge) → IsRight T k b → IsVirtual T k b.called
 bridge_virtual T k b r = record {
   selectable = (wanted T k b.called r.0).selectable;
   here = ap (λ c. same_class (owner T b.called) k || c) ((wanted T k b.called r.0).above) ∙ or_true (same_class (owner T b.called) k);
 }
 
-same_body : (T : Table) (k : ClassId) (a b : MethodId) (o : Option MethodId) → o ≡ Some a → o ≡ Some b → a ≡ b
+pub same_body : (T : Table) (k : ClassId) (a b : MethodId) (o : Option MethodId) → o ≡ Some a → o ≡ Some b → a ≡ b
 same_body T k a b o e f = let g : Some a ≡ Some b = sym e ∙ f in cc
 
 -- a method of the class itself with m's name and descriptor is the body
