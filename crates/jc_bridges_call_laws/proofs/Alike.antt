@@ -1,9 +1,8 @@
 -- An erased program selects by name and descriptor what its table says.
-use Rattle.std.proofs.Common.{◌≡◌, ℕ, zero, suc, ◌+◌, Bool, true, false, not, List, [], ◌∷◌, Option, Some, None, map, inl, inr, refl, sym, ◌∙◌, ap, cond}
-use Rattle.std.specs.Prelude.{◌&&◌, ◌||◌, ◌==◌, if◌then◌else◌}
+use Rattle.std.proofs.Common.{◌≡◌, ℕ, zero, suc, Bool, true, false, not, List, [], ◌∷◌, Option, Some, None, map, inl, inr, refl, sym, ◌∙◌, ap, cond}
+use Rattle.std.specs.Prelude.{◌&&◌, ◌==◌, if◌then◌else◌}
 use Rattle.std.specs.Option.{option_map}
 use Rattle.std.specs.Str.{bytes_eq}
-use Rattle.jc_rules.proofs.Truths.{and_first, and_assoc, and_none}
 use Rattle.jc_types.specs.declared.declarations.Access.{Access}
 use Rattle.jc_types.specs.declared.declarations.Access.TheVariants as access
 use Rattle.jc_types.specs.declared.declarations.MethodKind.{MethodKind}
@@ -19,18 +18,17 @@ use Rattle.jc_types.specs.declared.form.Ty.{Ty, Ty-F, out-Ty}
 use Rattle.jc_types.specs.declared.ids.ClassId.{ClassId}
 use Rattle.jc_types.specs.declared.ids.MethodId.{MethodId}
 use Rattle.jc_types.specs.declared.table.Table.{Table}
-use Rattle.jc_types.specs.Accessors.{class_count, method_kind_of, method_modifiers_of, method_name_of, methods_of, params_of, result_of, supers_of}
+use Rattle.jc_types.specs.Accessors.{method_kind_of, method_modifiers_of, method_name_of, methods_of, params_of, result_of, supers_of}
 use Rattle.jc_types.specs.Erasing.{erasure}
 use Rattle.jc_judge.specs.Kinds as kinds
 use Rattle.jc_heaps.specs.Classes as heaps
-use Rattle.jc_overriding.specs.Overriding.{access_in, access_of, is_method_kind, kind_in, superclass}
+use Rattle.jc_overriding.specs.Overriding.{access_in, kind_in, superclass}
 use Rattle.jc_overriding.specs.Viewing.{static_in}
 use Rattle.jc_bridges_spec.specs.declared.bridge.Bridge.{Bridge as TableBridge}
 use Rattle.jc_bridges_spec.specs.Bridging.{bridges}
 use Rattle.jc_bridges_spec.specs.Descriptors as table
-use Rattle.jc_erased.specs.declared.program.Bridge.{Bridge}
 use Rattle.jc_erased.specs.declared.program.ErasedProgram.{ErasedProgram}
-use Rattle.jc_erased.specs.Programs.{bridges_of, erased_type, name_of_method}
+use Rattle.jc_erased.specs.Programs.{erased_type}
 use Rattle.jc_erased.specs.Selecting as erased
 use Rattle.jc_bridges_laws.specs.Bodies.{IsListed}
 use Rattle.jc_bridges_laws.specs.Selecting as selecting

@@ -1,5 +1,5 @@
 -- Calls of erased programs run bodies: by what selection leads to, and as checks depend on erasures alone.
-use Rattle.std.proofs.Common.{◌≡◌, ◌⊎◌, inl, inr, ℕ, zero, suc, ◌+◌, Bool, true, false, List, [], ◌∷◌, Option, Some, None, map, refl, sym, ◌∙◌, ap, subst, arith}
+use Rattle.std.proofs.Common.{◌≡◌, ◌⊎◌, inl, inr, ℕ, zero, suc, ◌+◌, true, false, List, [], ◌∷◌, Option, Some, None, map, refl, sym, ◌∙◌, ap, subst, arith}
 use Rattle.std.specs.Prelude.{if◌then◌else◌}
 use Rattle.std.specs.Option.{option_map}
 use Rattle.jc_types.specs.declared.erased.Erased.{Erased}
@@ -14,7 +14,7 @@ use Rattle.jc_running.specs.declared.value.Value.{Value}
 use Rattle.jc_running.specs.declared.value.Value.TheVariants.{Address}
 use Rattle.jc_running.specs.Outcomes.{Out, Val, Thrown, Exited, Going, Wrong, bind, give, on_both, throw}
 use Rattle.jc_heaps.specs.declared.state.Object.{Object}
-use Rattle.jc_heaps.specs.Classes.{is_of, methods_class, same_erased}
+use Rattle.jc_heaps.specs.Classes.{is_of, methods_class}
 use Rattle.jc_heaps.specs.Erases.{ErasedState}
 use Rattle.jc_heaps.specs.Making.{checked}
 use Rattle.jc_overriding.specs.Overriding.{superclass}
@@ -22,15 +22,14 @@ use Rattle.jc_bridges_spec.specs.declared.bridge.Bridge.{Bridge as TableBridge}
 use Rattle.jc_bridges_spec.specs.Bridging.{bridges}
 use Rattle.jc_bridges_spec.specs.Descriptors.{is_called_as, is_selectable}
 use Rattle.jc_erased.specs.declared.program.ErasedProgram.{ErasedProgram}
-use Rattle.jc_erased.specs.Programs.{ErasedRun, erased_keeping, erased_type}
+use Rattle.jc_erased.specs.Programs.{ErasedRun, erased_keeping}
 use Rattle.jc_erased.specs.Calls.{Bodies, answered, call_found, call_named, entered, entered_all, run_method}
-use Rattle.jc_erased.specs.Selecting as erased
 use Rattle.jc_bridges_laws.specs.Bodies.{HasBodies, IsBody, IsListed, LeadsTo}
 use Rattle.jc_bridges_laws.specs.Selecting as selecting
 use Rattle.jc_bridges_laws.proofs.Found.{HasNoBridge, HasNone, IsCrossed, IsFound, across, among, bridges_right}
-use Rattle.jc_bridges_laws.proofs.Keys.{called_key, erased_self, key}
+use Rattle.jc_bridges_laws.proofs.Keys.{called_key, erased_self}
 use Rattle.jc_bridges_laws.proofs.Leading.{bridge_virtual, bridges_lead, selected_step}
-use Rattle.jc_bridges_call_laws.specs.Calls.{HasBridges, RunsBody, as_bridge}
+use Rattle.jc_bridges_call_laws.specs.Calls.{HasBridges, RunsBody}
 use Rattle.jc_bridges_call_laws.proofs.Alike.{as_selected, one_erased, selected_alike}
 
 -- ---- a bridge leads to a method that may be selected
