@@ -1,6 +1,6 @@
 -- Calls and steps are smooth in their units where the bodies that they run are.
 use Rattle.std.proofs.Common.{ℕ, zero, suc, ◌+◌, List, [], ◌∷◌}
-use Rattle.std.specs.Prelude.{Option, Some, None}
+use Rattle.std.specs.Prelude.{Bool, true, false, Option, Some, None}
 use Rattle.jc_types.specs.declared.form.Ty.{Ty}
 use Rattle.jc_types.specs.declared.ids.ClassId.{ClassId}
 use Rattle.jc_types.specs.declared.ids.MethodId.{MethodId}
@@ -24,9 +24,9 @@ use Rattle.jc_erased.specs.declared.program.ErasedProgram.{ErasedProgram}
 use Rattle.jc_typed.specs.Trees.{Step, Widen, Narrow, BoxUp, Unbox, Up, Test}
 use Rattle.jc_heaps.specs.Erases.{ErasedState}
 use Rattle.jc_meaning.specs.Steps.{box_of}
-use Rattle.jc_erased.specs.Programs.{ErasedRun, erased_keeping, erased_type}
+use Rattle.jc_erased.specs.Programs.{ErasedRun, erased_keeping, erased_type, is_selected}
 use Rattle.jc_erased.specs.Selecting.{Selected, Written, Across, selected}
-use Rattle.jc_erased.specs.Calls.{Bodies, answer_of, run_method, call_static, call_direct, entered, entered_all, answered, call_found, call_named, call_virtual}
+use Rattle.jc_erased.specs.Calls.{Bodies, answer_of, run_method, call_static, call_direct, entered, entered_all, answered, call_found, call_named, call_selected, call_virtual}
 use Rattle.jc_erased.specs.Steps.{Ready, boxed, step, steps}
 
 module _ (D : ℕ) where
@@ -42,11 +42,11 @@ module _ (D : ℕ) where
   pub wrongs : {A : Type 0} → Steady {A = A} wrong wrong
   wrongs = h.wrongs Erased (Unit {0}) (Unit {0}) D
 
-  answers : (c : Completion) → Steady (answer_of c) (answer_of c)
-  answers Normal = gives _
-  answers (Broke t) = wrongs
-  answers (Continued t) = wrongs
-  answers (Returned v) = gives v
+  answers : (P : ErasedProgram) (m : MethodId) (c : Completion) → Steady (answer_of P m c) (answer_of P m c)
+  answers P m Normal = gives _
+  answers P m (Broke t) = wrongs
+  answers P m (Continued t) = wrongs
+  answers P m (Returned v) = gives v
 
   module _ (P : ErasedProgram) where
     pub enters : (called own : Erased) (v : Value) → Steady (entered P called own v) (entered P called own v)
@@ -67,7 +67,7 @@ module _ (D : ℕ) where
 
     module _ (body body' : Bodies) (SB : (m : MethodId) → Smooth ErasedState shown_of D 1 (body m) (body' m)) where
       pub runs : (m : MethodId) (vs : List Value) → Steady (run_method P body m vs) (run_method P body' m vs)
-      runs m vs = h.frames Erased (Unit {0}) (Unit {0}) D _ _ _ _ (andso (soft ErasedState shown_of D (SB m)) answers)
+      runs m vs = h.frames Erased (Unit {0}) (Unit {0}) D _ _ _ _ (andso (soft ErasedState shown_of D (SB m)) (answers P m))
 
       pub calls_static : (m : MethodId) (vs : List Value) → Steady (call_static P body m vs) (call_static P body' m vs)
       calls_static m vs = runs m vs
@@ -84,8 +84,12 @@ module _ (D : ℕ) where
       calls_named zero a o m vs = wrongs
       calls_named (suc n) a o m vs = calls_found (calls_named n a o) a vs (selected P (methods_class o.kept) m)
 
+      calls_selected : (b : Bool) (a : ℕ) (o : Object Erased) (m : MethodId) (vs : List Value) → Steady (call_selected P body b a o m vs) (call_selected P body' b a o m vs)
+      calls_selected false a o m vs = wrongs
+      calls_selected true a o m vs = calls_named (class_count P.table + 2) a o m vs
+
       pub calls_virtual : (m : MethodId) (v : Value) (vs : List Value) → Steady (call_virtual P body m v vs) (call_virtual P body' m v vs)
-      calls_virtual m v vs = andso (h.addresses Erased (Unit {0}) (Unit {0}) D erased_keeping P.table P.known v) (λ a. andso (h.objects Erased (Unit {0}) (Unit {0}) D a) (λ o. calls_named (class_count P.table + 2) a o m vs))
+      calls_virtual m v vs = andso (h.addresses Erased (Unit {0}) (Unit {0}) D erased_keeping P.table P.known v) (λ a. andso (h.objects Erased (Unit {0}) (Unit {0}) D a) (λ o. calls_selected (is_selected P (methods_class o.kept) m) a o m vs))
 
       module _ (ready ready' : Ready) (SR : (k : ClassId) → Steady (ready k) (ready' k)) where
         boxes : (box : BoxedIn) (v : Value) → Steady (boxed P body ready box v) (boxed P body' ready' box v)

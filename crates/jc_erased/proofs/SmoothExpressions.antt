@@ -36,7 +36,7 @@ use Rattle.jc_erased.specs.Calls.{call_static, call_direct, call_virtual}
 use Rattle.jc_erased.specs.Steps.{steps}
 use Rattle.jc_meaning.specs.declared.target.Target.{Target}
 use Rattle.jc_meaning.specs.declared.target.Target.TheVariants.{ToLocal, ToStatic, ToField, ToElement}
-use Rattle.jc_erased.specs.Expressions.{Inner, value_of, values_of, values, choose, if_true, constant_value, get_static, set_static, get_field, set_field, get_element, set_element, length_of, prefixes, printer_of, text_of, joined, chain, all_true, any_true, instance_of, target_of, read_target, write_target, assigned, changed, first_value, call_with, create, new_array, fill, arrays, lengths_of, fill_with, form_of, expr_act}
+use Rattle.jc_erased.specs.Expressions.{Inner, value_of, values_of, values, choose, if_true, constant_value, get_static, set_static, get_field, set_field, get_element, set_element, length_of, prefixes, printer_of, text_of, joined, chain, all_true, any_true, instance_of, target_of, read_target, write_target, assigned, stored, changed, first_value, call_with, create, new_array, fill, arrays, lengths_of, fill_with, form_of, expr_act}
 use Rattle.jc_erased.proofs.SmoothCalls as c
 
 -- two levels, one with more room than the other
@@ -73,7 +73,7 @@ module _ (D : ℕ) where
 
     pub value_s : (o : Operand) → Steady (value_of P r o) (value_of P r' o)
     value_s NoOperand = wrongs
-    value_s (operand e ss) = andso (soft ErasedState shown_of D (L.exprs e)) (stepping ss)
+    value_s (operand place e ss) = andso (soft ErasedState shown_of D (L.exprs e)) (stepping ss)
 
     list_s : (os : List Operand) → Steady (values_of P r os) (values_of P r' os)
     list_s [] = gives []
@@ -131,7 +131,7 @@ module _ (D : ℕ) where
     prefix_s (op ∷ ops) v = andso (prefix_s ops v) (λ w. given_s (prefixed op w))
 
     text_s : (p : Printed) (v : Value) → Steady (text_of P r p v) (text_of P r' p v)
-    text_s p v = andso (L.readies P.known.string) (λ _. andso (statics (printer_of P r P.known.printing p) (v ∷ [])) (λ t. statics P.known.printing.of_object (t ∷ [])))
+    text_s p v = andso (L.readies P.known.string) (λ _. andso (statics (printer_of P r P.known.printing p) (v ∷ [])) (λ t. andso (L.readies P.known.string) (λ _. statics P.known.printing.of_object (t ∷ []))))
 
     joined_s : (j : Joint) (v : Value) {m m' : ErasedRun Value} → Steady m m' → Steady (joined P r j v m) (joined P r' j v m')
     joined_s (Operator op) v sm = andso sm (λ w. given_s (operated op v w))
@@ -159,10 +159,10 @@ module _ (D : ℕ) where
     instance_s to (Address a) = andso (test_s to (Address a)) (λ b. gives (truth b))
 
     target_s : (v : Variable) → Steady (target_of P r v) (target_of P r' v)
-    target_s (LocalVariable n) = gives _
-    target_s (StaticVariable before f) = andso (values_s before) (λ _. gives _)
-    target_s (FieldVariable o f) = andso (value_s o) (λ v. gives _)
-    target_s (ElementVariable array index) = andso (value_s array) (λ a. andso (value_s index) (λ i. gives _))
+    target_s (LocalVariable place n) = gives _
+    target_s (StaticVariable place before f is_simple) = andso (values_s before) (λ _. gives _)
+    target_s (FieldVariable place o f is_raw) = andso (value_s o) (λ v. gives _)
+    target_s (ElementVariable place array index) = andso (value_s array) (λ a. andso (value_s index) (λ i. gives _))
 
     read_s : (t : Target) → Steady (read_target P r t) (read_target P r' t)
     read_s (ToLocal n) = h.looks Erased (Unit {0}) (Unit {0}) D _
@@ -179,6 +179,9 @@ module _ (D : ℕ) where
     assigned_s : (t : Target) (v : Value) → Steady (assigned P r t v) (assigned P r' t v)
     assigned_s t v = andso (write_s t v) (λ _. gives v)
 
+    stored_s : (t : Target) (guards : List Step) (v : Value) → Steady (stored P r t guards v) (stored P r' t guards v)
+    stored_s t guards v = andso (andso (stepping guards v) (write_s t)) (λ _. gives v)
+
     changed_s : (t : Target) (into : List Step) (b : Bool) (before w : Value) → Steady (changed P r t into b before w) (changed P r' t into b before w)
     changed_s t into b before w = andso (stepping into w) (λ v. andso (write_s t v) (λ _. gives _))
 
@@ -191,10 +194,10 @@ module _ (D : ℕ) where
     call_s Virtual m to vs = andso (first_s to) (λ v. virtuals m v vs)
     call_s Direct m to vs = andso (first_s to) (λ v. directs m v vs)
 
-    create_s : (ty : Ty) (m : MethodId) (args : Operands) → Steady (create P r ty m args) (create P r' ty m args)
-    create_s ty m args =
+    create_s : (m : MethodId) (args : Operands) → Steady (create P r m args) (create P r' m args)
+    create_s m args =
         andso (L.readies (method_class P.table m)) (λ _.
-        andso (h.makes Erased (Unit {0}) (Unit {0}) D (record { kept = erased_type P ty; parts = new_fields P.table (method_class P.table m) })) (λ a.
+        andso (h.makes Erased (Unit {0}) (Unit {0}) D _) (λ a.
         andso (values_s args) (λ vs. andso (directs m (Address a) vs) (λ _. gives (Address a)))))
 
     new_array_s : (x : Erased) (n : ℕ) → Steady (new_array P r x n) (new_array P r' x n)
@@ -221,29 +224,29 @@ module _ (D : ℕ) where
     fill_with_s a at (o ∷ os) = andso (value_s o) (λ v. andso (set_element_s (Address a) (Whole (pos at)) v) (λ _. fill_with_s a (suc at) os))
 
     form_s : (ty : Ty) (f : Form) → Steady (form_of P r ty f) (form_of P r' ty f)
-    form_s ty (Fixed before value) = andso (values_s before) (λ _. constant_s value)
+    form_s ty (Fixed before value named casts) = andso (values_s before) (λ _. constant_s value)
     form_s ty Null = gives _
     form_s ty (Local n) = h.looks Erased (Unit {0}) (Unit {0}) D _
     form_s ty This = h.looks Erased (Unit {0}) (Unit {0}) D _
-    form_s ty (StaticField before f) = andso (values_s before) (λ _. get_static_s f)
+    form_s ty (StaticField before f is_simple) = andso (values_s before) (λ _. get_static_s f)
     form_s ty (Field o f) = andso (value_s o) (get_field_s f)
     form_s ty (Element array index) = andso (value_s array) (λ a. andso (value_s index) (get_element_s a))
     form_s ty (Length array) = andso (value_s array) length_s
     form_s ty (Prefix ops o) = andso (value_s o) (prefix_s ops)
     form_s ty (Chain first links) = chain_s (value_s first) links
-    form_s ty (AllOf os) = all_s (operand_list os)
-    form_s ty (AnyOf os) = any_s (operand_list os)
+    form_s ty (AllOf os from up_to) = all_s (operand_list os)
+    form_s ty (AnyOf os from up_to) = any_s (operand_list os)
     form_s ty (InstanceOf o to) = andso (value_s o) (instance_s to)
     form_s ty (Conditional test x other from up_to) = andso (value_s test) (λ v. if_s v (value_s x) (value_s other))
-    form_s ty (Assign variable value) = andso (target_s variable) (λ t. andso (value_s value) (assigned_s t))
+    form_s ty (Assign variable value store) = andso (target_s variable) (λ t. andso (value_s value) (stored_s t store))
     form_s ty (Compound variable joint left right into) =
         andso (target_s variable) (λ t. andso (read_s t) (λ v. andso (stepping left v) (λ w.
         andso (joined_s joint w (value_s right)) (λ z. andso (stepping into z) (assigned_s t)))))
     form_s ty (Change variable op from into b) =
         andso (target_s variable) (λ t. andso (read_s t) (λ v. andso (stepping from v) (λ w.
         andso (given_s (stepped op w)) (changed_s t into b v))))
-    form_s ty (Call kind to m ts args phase) = andso (values_s to) (λ o. andso (values_s args) (call_s kind m o))
-    form_s ty (New m args phase) = create_s ty m args
+    form_s ty (Call kind to m ts args phase thrown is_raw) = andso (values_s to) (λ o. andso (values_s args) (call_s kind m o))
+    form_s ty (New m args phase thrown is_raw) = create_s m args
     form_s ty (NewArray lengths) = andso (values_s lengths) (λ vs. andso (lengths_s vs) (arrays_s (erased_type P ty)))
     form_s ty (ArrayOf elements) = andso (new_array_s (erased_type P ty) (length (operand_list elements))) (λ a. fill_with_s a 0 (operand_list elements))
     form_s ty (Cast o to ss b) = andso (value_s o) (stepping ss)

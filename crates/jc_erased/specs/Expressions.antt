@@ -8,6 +8,8 @@ use Rattle.jc_types.specs.declared.constant.Constant.{Constant}
 use Rattle.jc_types.specs.declared.constant.Constant.TheVariants as constant
 use Rattle.jc_types.specs.declared.constant.Op.{Op}
 use Rattle.jc_types.specs.declared.erased.Erased.{Erased}
+use Rattle.jc_types.specs.declared.erased.Base.TheVariants as base
+use Rattle.jc_types.specs.Erasing.{plain}
 use Rattle.jc_types.specs.declared.table.Table.{Table}
 use Rattle.jc_running.specs.declared.value.Value.{Value}
 use Rattle.jc_running.specs.declared.value.Value.TheVariants.{Whole, Address, Null as NullValue}
@@ -49,7 +51,7 @@ module _ (P : ErasedProgram) (r : Inner) where
   -- an expression, and then what is done with its value where it stands
   abbrev pub value_of : Operand → ErasedRun Value
   value_of NoOperand = wrong
-  value_of (operand of_it ss) = bind (r.expr of_it) (steps P r.body r.ready ss)
+  value_of (operand place of_it ss) = bind (r.expr of_it) (steps P r.body r.ready ss)
 
   -- from left to right (JLS 15.7.1, 15.12.4.2)
   abbrev pub values_of : List Operand → ErasedRun (List Value)
@@ -128,12 +130,12 @@ module _ (P : ErasedProgram) (r : Inner) where
   printer_of p printed.Long = p.of_long
   printer_of p printed.Reference = p.of_object
 
-  -- by the two calls, for which String is initialised first
+  -- by the two calls, for each of which String is initialised first
   abbrev pub text_of : Printed → Value → ErasedRun Value
   text_of as_it v =
       behind (r.ready P.known.string)
       (bind (call_static P r.body (printer_of P.known.printing as_it) (v ∷ []))
-      (λ t. call_static P r.body P.known.printing.of_object (t ∷ [])))
+      (λ t. behind (r.ready P.known.string) (call_static P r.body P.known.printing.of_object (t ∷ []))))
 
   -- One operator: the left value is there, the right one comes next. The string of the left operand of string `+` is made before
   -- the right operand is evaluated
@@ -166,10 +168,10 @@ module _ (P : ErasedProgram) (r : Inner) where
 
   -- the parts of a variable, from left to right (JLS 15.26.1)
   abbrev pub target_of : Variable → ErasedRun Target
-  target_of (LocalVariable n) = give (ToLocal n)
-  target_of (StaticVariable before f) = behind (values before) (give (ToStatic f))
-  target_of (FieldVariable of_it f) = bind (value_of of_it) (λ v. give (ToField v f))
-  target_of (ElementVariable array index) = bind (value_of array) (λ a. bind (value_of index) (λ i. give (ToElement a i)))
+  target_of (LocalVariable place n) = give (ToLocal n)
+  target_of (StaticVariable place before f is_simple) = behind (values before) (give (ToStatic f))
+  target_of (FieldVariable place of_it f is_raw) = bind (value_of of_it) (λ v. give (ToField v f))
+  target_of (ElementVariable place array index) = bind (value_of array) (λ a. bind (value_of index) (λ i. give (ToElement a i)))
 
   -- the value that a variable has, and another value for it
   abbrev pub read_target : Target → ErasedRun Value
@@ -184,9 +186,12 @@ module _ (P : ErasedProgram) (r : Inner) where
   write_target (ToField of_it f) v = set_field f of_it v
   write_target (ToElement array index) v = set_element array index v
 
-  -- an assignment's value is what was stored
+  -- an assignment's value is what was stored; where guards stand at the store, the value is what goes into them
   abbrev pub assigned : Target → Value → ErasedRun Value
   assigned t v = behind (write_target t v) (give v)
+
+  abbrev pub stored : Target → List Step → Value → ErasedRun Value
+  stored t guards v = behind (bind (steps P r.body r.ready guards v) (write_target t)) (give v)
 
   -- `++` and `--`: the value before the change, or behind it
   abbrev pub changed : Target → List Step → Bool → Value → Value → ErasedRun Value
@@ -205,13 +210,13 @@ module _ (P : ErasedProgram) (r : Inner) where
   call_with Direct m receiver args = bind (first_value receiver) (λ v. call_direct P r.body m v args)
 
   -- A creation: the class is initialised, the object made, the arguments evaluated, and the constructor run (JLS 12.5, 15.9.4)
-  abbrev pub new_object : Ty → ClassId → ErasedRun ℕ
-  new_object ty k = make (record { kept = erased_type P ty; parts = new_fields T k })
+  abbrev pub new_object : ClassId → ErasedRun ℕ
+  new_object k = make (record { kept = plain (base.Class k); parts = new_fields T k })
 
-  abbrev pub create : Ty → MethodId → Operands → ErasedRun Value
-  create ty m args =
+  abbrev pub create : MethodId → Operands → ErasedRun Value
+  create m args =
       behind (r.ready (method_class T m))
-      (bind (new_object ty (method_class T m)) (λ a.
+      (bind (new_object (method_class T m)) (λ a.
       bind (values args) (λ vs.
       behind (call_direct P r.body m (Address a) vs) (give (Address a)))))
 
@@ -247,22 +252,22 @@ module _ (P : ErasedProgram) (r : Inner) where
 
   -- what a form does, by its kind; `ty` is the static type of the expression
   abbrev pub form_of : Ty → Form → ErasedRun Value
-  form_of ty (Fixed before value) = behind (values before) (constant_value value)
+  form_of ty (Fixed before value named casts) = behind (values before) (constant_value value)
   form_of ty Null = give NullValue
   form_of ty (Local n) = local n
   form_of ty This = local 0
-  form_of ty (StaticField before f) = behind (values before) (get_static f)
+  form_of ty (StaticField before f is_simple) = behind (values before) (get_static f)
   form_of ty (Field of_it f) = bind (value_of of_it) (get_field f)
   form_of ty (Element array index) = bind (value_of array) (λ a. bind (value_of index) (get_element a))
   form_of ty (Length array) = bind (value_of array) length_of
   form_of ty (Prefix ops of_it) = bind (value_of of_it) (prefixes ops)
   form_of ty (Chain first links) = chain (value_of first) links
-  form_of ty (AllOf os) = all_true (operand_list os)
-  form_of ty (AnyOf os) = any_true (operand_list os)
+  form_of ty (AllOf os from up_to) = all_true (operand_list os)
+  form_of ty (AnyOf os from up_to) = any_true (operand_list os)
   form_of ty (InstanceOf of_it to) = bind (value_of of_it) (instance_of to)
   form_of ty (Conditional test first second from up_to) = bind (value_of test) (λ v. if_true v (value_of first) (value_of second))
-  form_of ty (Assign variable value) =
-      bind (target_of variable) (λ t. bind (value_of value) (assigned t))
+  form_of ty (Assign variable value store) =
+      bind (target_of variable) (λ t. bind (value_of value) (stored t store))
   form_of ty (Compound variable joint left right into) =
       bind (target_of variable) (λ t.
       bind (read_target t) (λ v.
@@ -274,9 +279,9 @@ module _ (P : ErasedProgram) (r : Inner) where
       bind (read_target t) (λ v.
       bind (steps P r.body r.ready from v) (λ w.
       bind (given keeping T P.known (stepped op w)) (changed t into is_prefix v))))
-  form_of ty (Call kind receiver m type_args args phase) =
+  form_of ty (Call kind receiver m type_args args phase thrown is_raw) =
       bind (values receiver) (λ to. bind (values args) (call_with kind m to))
-  form_of ty (New m args phase) = create ty m args
+  form_of ty (New m args phase thrown is_raw) = create m args
   form_of ty (NewArray lengths) =
       bind (values lengths) (λ vs. bind (lengths_of vs) (arrays (erased_type P ty)))
   form_of ty (ArrayOf elements) =

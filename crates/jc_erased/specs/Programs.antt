@@ -1,5 +1,5 @@
 -- What an erased program says of its methods, and the states of its runs.
-use Rattle.std.specs.Prelude.{ℕ, List, [], Option, Some, None, slice_get}
+use Rattle.std.specs.Prelude.{ℕ, Bool, List, [], Option, Some, None, is_some, slice_get}
 use Rattle.jc_types.specs.declared.ids.ClassId.{ClassId}
 use Rattle.jc_types.specs.declared.ids.MethodId.{MethodId}
 use Rattle.jc_types.specs.declared.erased.Erased.{Erased}
@@ -11,7 +11,7 @@ use Rattle.jc_running.specs.Outcomes.{Run}
 use Rattle.jc_heaps.specs.Erases.{ErasedState}
 use Rattle.jc_heaps.specs.Making.{Keeping}
 use Rattle.jc_typed.specs.Trees.{Stmt}
-use Rattle.jc_meaning.specs.Programs.{body_of_method, locals_in}
+use Rattle.jc_meaning.specs.Programs.{body_of_method, locals_in, selected_of}
 use Rattle.jc_typed.specs.declared.program.TypedMethod.{TypedMethod}
 use Rattle.jc_erased.specs.declared.program.Bridge.{Bridge}
 use Rattle.jc_erased.specs.declared.program.ErasedMethod.{ErasedMethod}
@@ -45,9 +45,13 @@ tree_of P m = tree_in (slice_get P.methods m.0)
 abbrev pub body_of : ErasedProgram → MethodId → Option (List Stmt)
 body_of P m = body_of_method (tree_of P m)
 
--- how many variables a method has, the receiver and the parameters among them
-abbrev pub locals_of : ErasedProgram → MethodId → ℕ
+-- the types of a method's variables, the receiver and the parameters among them
+abbrev pub locals_of : ErasedProgram → MethodId → List Ty
 locals_of P m = locals_in (tree_of P m)
+
+-- whether a class has a body for a method that is called
+abbrev pub is_selected : ErasedProgram → ClassId → MethodId → Bool
+is_selected P k m = is_some (selected_of m (slice_get P.selections k.0))
 
 -- empty where there is no such method
 abbrev pub name_in : Option ErasedMethod → List ℕ

@@ -15,9 +15,8 @@ use Rattle.jc_heaps.specs.Numbers.{int_eq, whole_of}
 use Rattle.jc_heaps.specs.Classes.{is_of}
 use Rattle.jc_heaps.specs.Layout.{is_static}
 use Rattle.jc_heaps.specs.Making.{Keeping, address_of}
-use Rattle.jc_typed.specs.declared.lists.Case.{Case}
 use Rattle.jc_erased.specs.declared.program.ErasedProgram.{ErasedProgram}
-use Rattle.jc_typed.specs.Trees.{Step, Declared, NoDeclared, MoreDeclared, Stmt, stmt, StmtForm, Empty, Block, Locals, Effect, If, Labelled, While, Do, For, ForArray, ForIterable, Switch, Return, Break, Continue, Throw, Try, Construct, Initialise, Arms, NoArms, MoreArms, Catches, NoCatches, MoreCatches}
+use Rattle.jc_typed.specs.Trees.{Case, Step, Declared, NoDeclared, MoreDeclared, Stmt, stmt, StmtForm, Empty, Block, Locals, Effect, If, Labelled, While, Do, For, ForArray, ForIterable, Switch, Return, Break, Continue, Throw, Try, Construct, Initialise, Arms, NoArms, MoreArms, Catches, NoCatches, MoreCatches}
 use Rattle.jc_erased.specs.Programs.{ErasedRun, erased_keeping, erased_type}
 use Rattle.jc_meaning.specs.Programs.{stmt_list}
 use Rattle.jc_erased.specs.Calls.{call_virtual, call_direct}
@@ -33,7 +32,7 @@ module _ (P : ErasedProgram) (r : Inner) (run : Stmt → ErasedRun Completion) (
   run_all [] = give Normal
   run_all (s ∷ ss) = bind (run s) (λ c. next c (run_all ss))
 
-  -- a declared variable gets the value of its initialiser, if it has one (JLS 14.4.4)
+  -- a declared variable gets the value of its initialiser, if it has one (JLS 14.4.4), and else stays as it is
   abbrev pub set_first : ℕ → List Value → ErasedRun (Unit {0})
   set_first n [] = give tt
   set_first n (v ∷ vs) = set_local n v
@@ -202,7 +201,7 @@ module _ (P : ErasedProgram) (r : Inner) (run : Stmt → ErasedRun Completion) (
   form_act (Continue target) = give (Continued target)
   form_act (Throw of_it) = bind (value_of P r of_it) (λ v. bind (address_of keeping P.table P.known v) throw)
   form_act (Try body catches last copies) = finally (try body catches) (stmt_list last)
-  form_act (Construct m args phase) =
+  form_act (Construct m args phase thrown is_raw) =
       bind (values P r args) (λ vs. bind (local 0) (λ o. normally (call_direct P r.body m o vs)))
   form_act (Initialise f value) = bind (value_of P r value) (λ v. normally (initialise f v))
 

@@ -2,8 +2,8 @@
 ghost use Rattle.std.specs.Prelude.{◌≡◌};
 ghost use Rattle.jc_typed.specs.Bulk.{capped, method_bulk};
 
-use jc_rules::{Items, Text};
-use jc_typed::{Known, TypedMethod};
+use jc_rules::Items;
+use jc_typed::{Known, Selection, TypedMethod};
 use jc_types::{MethodId, Table};
 
 /// A method that stands in a class under the name and the erased signature of `called`, and leads to `own`: it checks its
@@ -15,20 +15,23 @@ pub struct Bridge {
     pub own: MethodId,
 }
 
-/// A method under the name that it has in its class file. Each type in `tree` is its own erasure, no expression captures, and
-/// no call has type arguments.
+/// A method under the name that it has in its class file, by its UTF-16 units. Each type in `tree` is its own erasure; what its
+/// expressions capture and the type arguments of its calls say nothing.
 #[derive(Drop)]
 pub struct ErasedMethod {
-    pub name: Text,
+    pub id: MethodId,
+    pub name: Items<u16>,
     pub tree: TypedMethod,
 }
 
-/// An erased program: `methods` has a method for each one of the table, `bridges` a list for each class.
+/// An erased program: `methods` has a method for each one of the table, `selections` are those of the typed program, and `bridges`
+/// has a list for each class.
 #[derive(Drop)]
 pub struct ErasedProgram {
     pub table: Table,
     pub known: Known,
     pub methods: Items<ErasedMethod>,
+    pub selections: Items<Items<Selection>>,
     pub bridges: Items<Items<Bridge>>,
 }
 

@@ -14,12 +14,12 @@ use Rattle.jc_running.specs.Outcomes.{Out, Val, Thrown, Exited, Going, Wrong, Ru
 use Rattle.jc_running.proofs.Smooth.{Smooth, Quiet, Grow, smooth_give, smooth_throw, smooth_wrong, smooth_change, smooth_show, smooth_exit}
 use Rattle.jc_heaps.specs.declared.state.Object.{Object}
 use Rattle.jc_heaps.specs.declared.state.State.{State}
-use Rattle.jc_heaps.specs.States.{shown_of, some_or_wrong, look, change, set_local, object_at, set_part, back_in, in_frame}
+use Rattle.jc_heaps.specs.States.{shown_of, some_or_wrong, look, change, set_local, object_at, set_part, set_kept, back_in, in_frame}
 use Rattle.jc_heaps.specs.declared.given.Given.{Given}
 use Rattle.jc_heaps.specs.declared.given.Given.TheVariants.{Gives, ByZero, Unfit}
 use Rattle.jc_heaps.specs.Classes.{element_of}
 use Rattle.jc_heaps.specs.Layout.{slot_of, new_fields}
-use Rattle.jc_heaps.specs.Making.{Keeping, make, raise, set_chars, make_string, interned_in, keep_string, if_interned, constant_string, address_of, place_of, passes, fail, if_passes, checked, stored_if, storable, store, given, put_byte, taken_from, take_byte, exit_with}
+use Rattle.jc_heaps.specs.Making.{Keeping, make, raise, set_chars, make_string, interned_in, keep_string, if_interned, constant_string, address_of, place_of, passes, fail, if_passes, checked, stored_if, kept_as, storable, store, given, put_byte, taken_from, take_byte, exit_with}
 use Rattle.jc_heaps.proofs.Plain.{seq, soft}
 
 module _ (K F R : Type 0) (D : ℕ) where
@@ -69,6 +69,9 @@ module _ (K F R : Type 0) (D : ℕ) where
 
   pub sets_part : (a n : ℕ) (v : Value) → Steady (set_part a n v) (set_part a n v)
   sets_part a n v = changes _ (λ s. refl)
+
+  pub sets_kept : (a : ℕ) (f : K → K) → Steady (set_kept a f) (set_kept a f)
+  sets_kept a f = changes _ (λ s. refl)
 
   pub objects : (a : ℕ) → Steady (object_at a) (object_at a)
   objects a = looks (λ s. slice_get s.heap a)
@@ -165,7 +168,7 @@ module _ (K F R : Type 0) (D : ℕ) where
     storables o Null = gives true
 
     pub stores : (at : ℕ) (o : Object K) (place : ℕ) (v : Value) → Steady (store keeping T known at o place v) (store keeping T known at o place v)
-    stores at o place v = seq S shown_of D (storables o v) (if_stores at place v)
+    stores at o place v = seq S shown_of D (storables o v) (if_stores at place (kept_as (element_of (keeping.erased o.kept)) v))
 
     pub givens : (g : Given) → Steady (given keeping T known g) (given keeping T known g)
     givens (Gives v) = gives v

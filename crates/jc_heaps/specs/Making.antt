@@ -1,8 +1,12 @@
 -- Objects, arrays, strings and exceptions as they are made, and the tests of references.
-use Rattle.std.specs.Prelude.{ℕ, ◌%◌, ◌^◌, nat_lt, ℤ, pos, negsuc, Bool, true, false, List, [], ◌∷◌, ◌++◌, map, length, Option, Some, None, if◌then◌else◌, int_lt, unsigned_abs}
-use Rattle.std.specs.Str.{bytes_eq}
+use Rattle.std.specs.Prelude.{ℕ, ◌%◌, ◌^◌, ◌==◌, nat_lt, ℤ, pos, negsuc, Bool, true, false, List, [], ◌∷◌, ◌++◌, map, length, Option, Some, None, if◌then◌else◌, int_lt, unsigned_abs}
+use Rattle.std.specs.Char.Escape.{encode_utf16}
+use Rattle.std.specs.List.{flat_map}
+use Rattle.std.specs.Str.{bytes_eq, chars}
 use Rattle.jc_types.specs.declared.ids.ClassId.{ClassId}
 use Rattle.jc_types.specs.declared.erased.Erased.{Erased}
+use Rattle.jc_types.specs.declared.erased.Base.{Base}
+use Rattle.jc_types.specs.declared.erased.Base.TheVariants as base
 use Rattle.jc_types.specs.declared.table.Table.{Table}
 use Rattle.jc_typed.specs.declared.program.Known.{Known}
 use Rattle.jc_running.specs.declared.value.Value.{Value}
@@ -15,6 +19,7 @@ use Rattle.jc_heaps.specs.declared.state.Interned.{Interned}
 use Rattle.jc_heaps.specs.declared.state.State.{State}
 use Rattle.jc_heaps.specs.States.{change, object_at, set_part}
 use Rattle.jc_heaps.specs.Classes.{is_of, element_of}
+use Rattle.jc_heaps.specs.Numbers.{element_as}
 use Rattle.jc_heaps.specs.Layout.{new_fields, slot_of}
 use Rattle.jc_heaps.specs.declared.given.Given.{Given}
 use Rattle.jc_heaps.specs.declared.given.Given.TheVariants.{Gives, ByZero, Unfit}
@@ -24,6 +29,10 @@ pub record Keeping (K : Type 0) : Type 0 where
   pub erased : K → Erased
   pub of_class : ClassId → K
   pub of_chars : K
+
+-- the UTF-16 units of a text (JLS 3.1)
+abbrev pub units_of_text : List ℕ → List ℕ
+units_of_text text = flat_map encode_utf16 (chars text)
 
 -- a new object or array, and its address, which is the number of those made before it
 abbrev pub make : {K F R : Type 0} → Object K → Run (State K F R) ℕ
@@ -111,13 +120,22 @@ abbrev pub stored_if : {K F R : Type 0} → Keeping K → Table → Known → �
 stored_if keeping T known at place v true = set_part at place v
 stored_if keeping T known at place v false = raise keeping T known.thrown.array_store
 
+-- an int that is stored in an array of a smaller type is narrowed to it
+abbrev pub kept_in_base : Base → Value → Value
+kept_in_base (base.Prim p) v = element_as p v
+kept_in_base _ v = v
+
+abbrev pub kept_as : Erased → Value → Value
+kept_as e v = if e.dims == 0 then kept_in_base e.base v else v
+
 -- null and what is no reference can be stored in any array
 abbrev pub storable : {K F R : Type 0} → Keeping K → Table → Object K → Value → Run (State K F R) Bool
 storable keeping T o (Address a) = passes keeping T (element_of (keeping.erased o.kept)) (Address a)
 storable keeping T o _ = give true
 
 abbrev pub store : {K F R : Type 0} → Keeping K → Table → Known → ℕ → Object K → ℕ → Value → Run (State K F R) (Unit {0})
-store keeping T known at o place v = bind (storable keeping T o v) (stored_if keeping T known at place v)
+store keeping T known at o place v =
+    bind (storable keeping T o v) (stored_if keeping T known at place (kept_as (element_of (keeping.erased o.kept)) v))
 
 -- what an operator gave
 abbrev pub given : {K F R : Type 0} → Keeping K → Table → Known → Given → Run (State K F R) Value

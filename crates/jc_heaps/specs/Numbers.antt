@@ -120,6 +120,15 @@ number_as Char n = Whole (pos (cast_unsigned w16 (int_wrap w16 n)))
 number_as Int n = Whole (int_wrap w32 n)
 number_as LongType n = Long n
 
+-- An int as an element of an array keeps it: its low bits, of a boolean one of them (JVMS 6.5, bastore, castore and sastore). An int and
+-- what is no int stay as they are
+abbrev pub element_as : Primitive → Value → Value
+element_as Boolean (Whole n) = Whole (pos (cast_unsigned w32 n % 2))
+element_as Byte (Whole n) = number_as Byte n
+element_as Short (Whole n) = number_as Short n
+element_as Char (Whole n) = number_as Char n
+element_as _ v = v
+
 -- a value that is a number, converted; None for a reference
 abbrev pub converted : Primitive → Value → Option Value
 converted p (Whole n) = Some (number_as p n)

@@ -47,6 +47,14 @@ set_part_in heap a n v None = heap
 abbrev pub set_part : {K F R : Type 0} → ℕ → ℕ → Value → Run (State K F R) (Unit {0})
 set_part a n v = change (λ s. record s { heap = set_part_in s.heap a n v (slice_get s.heap a) })
 
+-- what an object keeps changes as a function of it says; an address that stands for nothing changes nothing
+abbrev pub set_kept_in : {K : Type 0} → List (Object K) → ℕ → (K → K) → Option (Object K) → List (Object K)
+set_kept_in heap a f (Some o) = slice_set heap a (record o { kept = f o.kept })
+set_kept_in heap a f None = heap
+
+abbrev pub set_kept : {K F R : Type 0} → ℕ → (K → K) → Run (State K F R) (Unit {0})
+set_kept a f = change (λ s. record s { heap = set_kept_in s.heap a f (slice_get s.heap a) })
+
 -- with other variables and another frame, and then with the former ones again, however it ended
 abbrev pub back_in : {K F R A : Type 0} → List Value → F → Out (State K F R) A → Out (State K F R) A
 back_in locals frame (Val a u s) = Val a u (record s { locals = locals; frame = frame })

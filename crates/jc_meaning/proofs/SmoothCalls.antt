@@ -43,11 +43,11 @@ module _ (D : ℕ) where
   pub wrongs : {A : Type 0} → Steady {A = A} wrong wrong
   wrongs = h.wrongs Ty Frame (List Read) D
 
-  answers : (c : Completion) → Steady (answer_of c) (answer_of c)
-  answers Normal = gives _
-  answers (Broke t) = wrongs
-  answers (Continued t) = wrongs
-  answers (Returned v) = gives v
+  answers : (P : TypedProgram) (m : MethodId) (c : Completion) → Steady (answer_of P m c) (answer_of P m c)
+  answers P m Normal = gives _
+  answers P m (Broke t) = wrongs
+  answers P m (Continued t) = wrongs
+  answers P m (Returned v) = gives v
 
   module _ (P : TypedProgram) where
     pub enters : (called own : Erased) (v : Value) → Steady (entered P called own v) (entered P called own v)
@@ -68,7 +68,7 @@ module _ (D : ℕ) where
 
     module _ (body body' : Bodies) (SB : (m : MethodId) → Smooth TypedState shown_of D 1 (body m) (body' m)) where
       pub runs : (m : MethodId) (o : Option (Object Ty)) (vs : List Value) (ts : List Ty) → Steady (run_method P body m o vs ts) (run_method P body' m o vs ts)
-      runs m o vs ts = h.frames Ty Frame (List Read) D _ _ _ _ (andso (soft TypedState shown_of D (SB m)) answers)
+      runs m o vs ts = h.frames Ty Frame (List Read) D _ _ _ _ (andso (soft TypedState shown_of D (SB m)) (answers P m))
 
       pub calls_static : (m : MethodId) (vs : List Value) (ts : List Ty) → Steady (call_static P body m vs ts) (call_static P body' m vs ts)
       calls_static m vs ts = runs m None vs ts

@@ -32,13 +32,13 @@ use Rattle.jc_typed.specs.declared.program.TypedProgram.{TypedProgram}
 use Rattle.jc_typed.specs.Trees.{Step, Expr, NoExpr, expr, Operand, NoOperand, operand, Form, Fixed, Null, Local, This, StaticField, Field, Element, Length, Prefix, Chain, AllOf, AnyOf, InstanceOf, Conditional, Assign, Compound, Change, Call, New, NewArray, ArrayOf, Cast, Variable, LocalVariable, StaticVariable, FieldVariable, ElementVariable, Operands, Links, NoLinks, MoreLinks}
 use Rattle.jc_meaning.specs.declared.frame.Frame.{Frame}
 use Rattle.jc_meaning.specs.declared.frame.Read.{Read}
-use Rattle.jc_meaning.specs.Kept.{TypedState, TypedRun, typed_keeping, closed, kept_by}
+use Rattle.jc_meaning.specs.Kept.{TypedState, TypedRun, typed_keeping, born, closed, kept_by}
 use Rattle.jc_meaning.specs.Programs.{operand_list, method_class}
 use Rattle.jc_meaning.specs.Calls.{call_static, call_direct, call_virtual}
 use Rattle.jc_meaning.specs.Steps.{steps}
 use Rattle.jc_meaning.specs.declared.target.Target.{Target}
 use Rattle.jc_meaning.specs.declared.target.Target.TheVariants.{ToLocal, ToStatic, ToField, ToElement}
-use Rattle.jc_meaning.specs.Expressions.{Inner, value_of, values_of, values, choose, if_true, constant_value, get_static, set_static, get_field, set_field, get_element, set_element, length_of, prefixes, printer_of, text_of, joined, chain, all_true, any_true, instance_of, forget, target_of, read_target, write_target, note, assigned, changed, first_value, call_with, create, new_array, fill, element_type, arrays, lengths_of, fill_with, form_of, is_noted, capture, noted, expr_act}
+use Rattle.jc_meaning.specs.Expressions.{Inner, value_of, values_of, values, choose, if_true, constant_value, get_static, set_static, get_field, set_field, get_element, set_element, length_of, prefixes, printer_of, text_of, joined, chain, all_true, any_true, instance_of, forget, target_of, read_target, write_target, note, assigned, stored, changed, first_value, call_with, create, new_array, fill, element_type, arrays, lengths_of, fill_with, form_of, is_noted, capture, noted, expr_act}
 use Rattle.jc_meaning.proofs.SmoothCalls as c
 
 -- two levels, one with more room than the other
@@ -75,7 +75,7 @@ module _ (D : ℕ) where
 
     pub value_s : (o : Operand) → Steady (value_of P r o) (value_of P r' o)
     value_s NoOperand = wrongs
-    value_s (operand e ss) = andso (soft TypedState shown_of D (L.exprs e)) (stepping ss)
+    value_s (operand place e ss) = andso (soft TypedState shown_of D (L.exprs e)) (stepping ss)
 
     list_s : (os : List Operand) → Steady (values_of P r os) (values_of P r' os)
     list_s [] = gives []
@@ -133,7 +133,7 @@ module _ (D : ℕ) where
     prefix_s (op ∷ ops) v = andso (prefix_s ops v) (λ w. given_s (prefixed op w))
 
     text_s : (p : Printed) (v : Value) → Steady (text_of P r p v) (text_of P r' p v)
-    text_s p v = andso (L.readies P.known.string) (λ _. andso (statics (printer_of P r P.known.printing p) (v ∷ []) []) (λ t. statics P.known.printing.of_object (t ∷ []) []))
+    text_s p v = andso (L.readies P.known.string) (λ _. andso (statics (printer_of P r P.known.printing p) (v ∷ []) []) (λ t. andso (L.readies P.known.string) (λ _. statics P.known.printing.of_object (t ∷ []) [])))
 
     joined_s : (j : Joint) (v : Value) {m m' : TypedRun Value} → Steady m m' → Steady (joined P r j v m) (joined P r' j v m')
     joined_s (Operator op) v sm = andso sm (λ w. given_s (operated op v w))
@@ -165,10 +165,10 @@ module _ (D : ℕ) where
     forget_s from (suc n) = andso (h.changes Ty Frame (List Read) D _ (λ s. refl)) (λ _. forget_s (suc from) n)
 
     target_s : (v : Variable) → Steady (target_of P r v) (target_of P r' v)
-    target_s (LocalVariable n) = gives _
-    target_s (StaticVariable before f) = andso (values_s before) (λ _. gives _)
-    target_s (FieldVariable o f) = andso (value_s o) (λ v. gives _)
-    target_s (ElementVariable array index) = andso (value_s array) (λ a. andso (value_s index) (λ i. gives _))
+    target_s (LocalVariable place n) = gives _
+    target_s (StaticVariable place before f is_simple) = andso (values_s before) (λ _. gives _)
+    target_s (FieldVariable place o f is_raw) = andso (value_s o) (λ v. gives _)
+    target_s (ElementVariable place array index) = andso (value_s array) (λ a. andso (value_s index) (λ i. gives _))
 
     read_s : (t : Target) → Steady (read_target P r t) (read_target P r' t)
     read_s (ToLocal n) = h.looks Ty Frame (List Read) D _
@@ -188,6 +188,9 @@ module _ (D : ℕ) where
     assigned_s : (t : Target) (v : Value) → Steady (assigned P r t v) (assigned P r' t v)
     assigned_s t v = andso (write_s t v) (λ _. gives v)
 
+    stored_s : (t : Target) (guards : List Step) (v : Value) → Steady (stored P r t guards v) (stored P r' t guards v)
+    stored_s t guards v = andso (andso (stepping guards v) (write_s t)) (λ _. gives v)
+
     changed_s : (t : Target) (into : List Step) (b : Bool) (before w : Value) → Steady (changed P r t into b before w) (changed P r' t into b before w)
     changed_s t into b before w = andso (stepping into w) (λ v. andso (write_s t v) (λ _. gives _))
 
@@ -206,8 +209,11 @@ module _ (D : ℕ) where
     create_s : (ty : Ty) (m : MethodId) (args : Operands) → Steady (create P r ty m args) (create P r' ty m args)
     create_s ty m args =
         andso (L.readies (method_class P.table m)) (λ _.
-        andso (andso (closed_s ty) (λ t. h.makes Ty Frame (List Read) D (record { kept = kept_by P.table t; parts = new_fields P.table (method_class P.table m) }))) (λ a.
-        andso (values_s args) (λ vs. andso (directs m (Address a) vs []) (λ _. gives (Address a)))))
+        andso (h.makes Ty Frame (List Read) D _) (λ a.
+        andso (values_s args) (λ vs.
+        andso (closed_s ty) (λ t.
+        andso (h.sets_kept Ty Frame (List Read) D a (λ kept. born (method_class P.table m) (kept_by P.table t) kept)) (λ _.
+        andso (directs m (Address a) vs []) (λ _. gives (Address a)))))))
 
     new_array_s : (t : Ty) (n : ℕ) → Steady (new_array P r t n) (new_array P r' t n)
     new_array_s t n = h.makes Ty Frame (List Read) D _
@@ -233,29 +239,29 @@ module _ (D : ℕ) where
     fill_with_s a at (o ∷ os) = andso (value_s o) (λ v. andso (set_element_s (Address a) (Whole (pos at)) v) (λ _. fill_with_s a (suc at) os))
 
     form_s : (place : Place) (ty : Ty) (f : Form) → Steady (form_of P r place ty f) (form_of P r' place ty f)
-    form_s place ty (Fixed before value) = andso (values_s before) (λ _. constant_s value)
+    form_s place ty (Fixed before value named casts) = andso (values_s before) (λ _. constant_s value)
     form_s place ty Null = gives _
     form_s place ty (Local n) = h.looks Ty Frame (List Read) D _
     form_s place ty This = h.looks Ty Frame (List Read) D _
-    form_s place ty (StaticField before f) = andso (values_s before) (λ _. get_static_s f)
+    form_s place ty (StaticField before f is_simple) = andso (values_s before) (λ _. get_static_s f)
     form_s place ty (Field o f) = andso (value_s o) (get_field_s f)
     form_s place ty (Element array index) = andso (value_s array) (λ a. andso (value_s index) (get_element_s a))
     form_s place ty (Length array) = andso (value_s array) length_s
     form_s place ty (Prefix ops o) = andso (value_s o) (prefix_s ops)
     form_s place ty (Chain first links) = chain_s (value_s first) links
-    form_s place ty (AllOf os) = all_s (operand_list os)
-    form_s place ty (AnyOf os) = any_s (operand_list os)
+    form_s place ty (AllOf os from up_to) = andso (forget_s from (up_to - from)) (λ _. all_s (operand_list os))
+    form_s place ty (AnyOf os from up_to) = andso (forget_s from (up_to - from)) (λ _. any_s (operand_list os))
     form_s place ty (InstanceOf o to) = andso (value_s o) (instance_s to)
     form_s place ty (Conditional test x other from up_to) = andso (value_s test) (λ v. andso (forget_s from (up_to - from)) (λ _. if_s v (value_s x) (value_s other)))
-    form_s place ty (Assign variable value) = andso (target_s variable) (λ t. andso (value_s value) (assigned_s t))
+    form_s place ty (Assign variable value store) = andso (target_s variable) (λ t. andso (value_s value) (stored_s t store))
     form_s place ty (Compound variable joint left right into) =
         andso (target_s variable) (λ t. andso (read_s t) (λ v. andso (note_s place ty v) (λ x. andso (stepping left x) (λ w.
         andso (joined_s joint w (value_s right)) (λ z. andso (stepping into z) (assigned_s t))))))
     form_s place ty (Change variable op from into b) =
         andso (target_s variable) (λ t. andso (read_s t) (λ v. andso (note_s place ty v) (λ x. andso (stepping from x) (λ w.
         andso (given_s (stepped op w)) (changed_s t into b v)))))
-    form_s place ty (Call kind to m ts args phase) = andso (values_s to) (λ o. andso (values_s args) (λ vs. andso (h.by_state Ty Frame (List Read) D _ _ (λ s. gives _)) (call_s kind m o vs)))
-    form_s place ty (New m args phase) = create_s ty m args
+    form_s place ty (Call kind to m ts args phase thrown is_raw) = andso (values_s to) (λ o. andso (values_s args) (λ vs. andso (h.by_state Ty Frame (List Read) D _ _ (λ s. gives _)) (call_s kind m o vs)))
+    form_s place ty (New m args phase thrown is_raw) = create_s ty m args
     form_s place ty (NewArray lengths) = andso (values_s lengths) (λ vs. andso (lengths_s vs) (λ ns. andso (closed_s ty) (λ t. arrays_s t ns)))
     form_s place ty (ArrayOf elements) = andso (closed_s ty) (λ t. andso (new_array_s t (length (operand_list elements))) (λ a. fill_with_s a 0 (operand_list elements)))
     form_s place ty (Cast o to ss b) = andso (value_s o) (stepping ss)

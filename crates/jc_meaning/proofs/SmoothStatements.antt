@@ -182,7 +182,7 @@ module _ (P : TypedProgram) (r r' : Inner) (run run' : Stmt → TypedRun Complet
     form_s place (Continue target) = give_s _
     form_s place (Throw o) = go (e.value_s k P r r' L o) (λ v. go (e.address_s k P r r' L v) (λ a. h.throws Ty Frame (List Read) k a))
     form_s place (Try body cs last copies) = finally_s k L SR (try_s k L SR body cs) (stmt_list last)
-    form_s place (Construct m args phase) = go (e.values_s k P r r' L args) (λ vs. go (h.looks Ty Frame (List Read) k _) (λ o. go (e.directs k P r r' L m o vs []) (λ _. give_s _)))
+    form_s place (Construct m args phase thrown is_raw) = go (e.values_s k P r r' L args) (λ vs. go (h.looks Ty Frame (List Read) k _) (λ o. go (e.directs k P r r' L m o vs []) (λ _. give_s _)))
     form_s place (Initialise f value) = go (e.value_s k P r r' L value) (λ v. go (initialise_s k L SR f v) (λ _. give_s _))
 
     pub stmt_s : (t : Stmt) → Here (stmt_act P r run k t) (stmt_act P r' run' k' t)

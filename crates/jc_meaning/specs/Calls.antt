@@ -1,12 +1,12 @@
 -- Calls of methods and constructors (JLS 15.12.4).
-use Rattle.std.specs.Prelude.{ℕ, ◌-◌, List, [], ◌∷◌, ◌++◌, length, replicate, Option, Some, None, if◌then◌else◌}
+use Rattle.std.specs.Prelude.{ℕ, List, [], ◌∷◌, ◌++◌, Option, Some, None, if◌then◌else◌}
 use Rattle.jc_types.specs.declared.ids.MethodId.{MethodId}
 use Rattle.jc_types.specs.declared.form.Ty.{Ty}
 use Rattle.jc_types.specs.declared.erased.Erased.{Erased}
 use Rattle.jc_types.specs.Accessors.{method_vars_of, params_of, result_of}
 use Rattle.jc_types.specs.Erasing.{erasure}
 use Rattle.jc_running.specs.declared.value.Value.{Value}
-use Rattle.jc_running.specs.declared.value.Value.TheVariants.{Address, Null}
+use Rattle.jc_running.specs.declared.value.Value.TheVariants.{Address}
 use Rattle.jc_running.specs.declared.seen.Check.TheVariants.{EntryGuard}
 use Rattle.jc_running.specs.declared.value.Completion.{Completion}
 use Rattle.jc_running.specs.declared.value.Completion.TheVariants.{Normal, Broke, Continued, Returned}
@@ -14,23 +14,25 @@ use Rattle.jc_running.specs.Outcomes.{give, wrong, bind}
 use Rattle.jc_heaps.specs.declared.state.Object.{Object}
 use Rattle.jc_heaps.specs.States.{object_at, in_frame}
 use Rattle.jc_heaps.specs.Classes.{is_of, same_erased, methods_class}
+use Rattle.jc_heaps.specs.Layout.{default_in}
 use Rattle.jc_heaps.specs.Making.{address_of, checked}
 use Rattle.jc_typed.specs.declared.program.TypedProgram.{TypedProgram}
 use Rattle.jc_meaning.specs.declared.frame.Binding.{Binding}
 use Rattle.jc_meaning.specs.declared.frame.Frame.{Frame}
 use Rattle.jc_meaning.specs.Kept.{bindings, class_bindings, TypedRun, unsaid_all, typed_keeping}
-use Rattle.jc_meaning.specs.Programs.{captured_of, locals_of, method_class, selected}
+use Rattle.jc_meaning.specs.Programs.{begun_with, captured_of, locals_of, method_class, selected}
 
 -- what runs a method's body in its own variables
 abbrev pub Bodies : Type 0
 Bodies = MethodId → TypedRun Completion
 
--- A body's result. A method without a result gives null, which nothing reads
-abbrev pub answer_of : Completion → TypedRun Value
-answer_of Normal = give Null
-answer_of (Broke target) = wrong
-answer_of (Continued target) = wrong
-answer_of (Returned v) = give v
+-- A body's result. One that completes normally gives the default value of the result's type, which no caller of a method with a result
+-- sees (JLS 8.4.7); where there is no result it is null, which nothing reads
+abbrev pub answer_of : TypedProgram → MethodId → Completion → TypedRun Value
+answer_of P m Normal = give (default_in (result_of P.table m))
+answer_of P m (Broke target) = wrong
+answer_of P m (Continued target) = wrong
+answer_of P m (Returned v) = give v
 
 -- the type parameters of the receiver's class, and of the method, with what they stand for in a call. Where a call gives no types for
 -- a method's parameters, they stand for the null type (JLS 4.8, 15.12.2.6)
@@ -44,14 +46,14 @@ class_part P m (Some o) = class_bindings P.table (method_class P.table m) o.kept
 abbrev pub frame_of : TypedProgram → MethodId → Option (Object Ty) → List Ty → Frame
 frame_of P m receiver types = frame_with P m (class_part P m receiver ++ bindings (method_vars_of P.table m) types)
 
--- the variables of a method as it begins: the receiver, the arguments, and the others, which nothing reads before it sets them
+-- the variables of a method as it begins: the receiver, the arguments, and the others with the default values of their types
 abbrev pub first_locals : TypedProgram → MethodId → List Value → List Value
-first_locals P m given = given ++ replicate (locals_of P m - length given) Null
+first_locals P m given = begun_with (locals_of P m) given
 
 -- the body in a frame and variables of its own; behind it the caller has its own again
 abbrev pub run_method : TypedProgram → Bodies → MethodId → Option (Object Ty) → List Value → List Ty → TypedRun Value
 run_method P body m receiver given types =
-    in_frame (first_locals P m given) (frame_of P m receiver types) (bind (body m) answer_of)
+    in_frame (first_locals P m given) (frame_of P m receiver types) (bind (body m) (answer_of P m))
 
 -- a static method, whose class is initialised by now (JLS 15.12.4.5)
 abbrev pub call_static : TypedProgram → Bodies → MethodId → List Value → List Ty → TypedRun Value

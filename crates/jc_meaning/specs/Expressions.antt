@@ -6,6 +6,7 @@ use Rattle.jc_types.specs.declared.ids.CaptureId.{CaptureId}
 use Rattle.jc_types.specs.declared.ids.FieldId.{FieldId}
 use Rattle.jc_types.specs.declared.ids.MethodId.{MethodId}
 use Rattle.jc_types.specs.declared.form.Ty.{Ty}
+use Rattle.jc_types.specs.declared.form.Ty.TheVariants.{Raw}
 use Rattle.jc_types.specs.declared.constant.Constant.{Constant}
 use Rattle.jc_types.specs.declared.constant.Constant.TheVariants as constant
 use Rattle.jc_types.specs.declared.constant.Op.{Op}
@@ -17,7 +18,7 @@ use Rattle.jc_running.specs.declared.value.Value.{Value}
 use Rattle.jc_running.specs.declared.value.Value.TheVariants.{Whole, Address, Null as NullValue}
 use Rattle.jc_running.specs.Outcomes.{Val, give, wrong, bind, behind}
 use Rattle.jc_heaps.specs.declared.state.Object.{Object}
-use Rattle.jc_heaps.specs.States.{look, change, some_or_wrong, local, set_local, object_at, set_part}
+use Rattle.jc_heaps.specs.States.{look, change, some_or_wrong, local, set_local, object_at, set_part, set_kept}
 use Rattle.jc_heaps.specs.Numbers.{truth, number_as, operated, prefixed, stepped, boolean_of, whole_of}
 use Rattle.jc_heaps.specs.Classes.{element_of}
 use Rattle.jc_heaps.specs.Layout.{field_class, slot_of, default_erased, new_fields}
@@ -34,7 +35,7 @@ use Rattle.jc_typed.specs.declared.program.TypedProgram.{TypedProgram}
 use Rattle.jc_typed.specs.Trees.{Step, Expr, NoExpr, expr, Operand, NoOperand, operand, Form, Fixed, Null, Local, This, StaticField, Field, Element, Length, Prefix, Chain, AllOf, AnyOf, InstanceOf, Conditional, Assign, Compound, Change, Call, New, NewArray, ArrayOf, Cast, Variable, LocalVariable, StaticVariable, FieldVariable, ElementVariable, Operands, Links, NoLinks, MoreLinks}
 use Rattle.jc_meaning.specs.declared.target.Target.{Target}
 use Rattle.jc_meaning.specs.declared.target.Target.TheVariants.{ToLocal, ToStatic, ToField, ToElement}
-use Rattle.jc_meaning.specs.Kept.{TypedState, TypedRun, arguments_as, kept_by, kept_array, typed_keeping, closed, closed_in, closed_all, unsaid, set_captured}
+use Rattle.jc_meaning.specs.Kept.{TypedState, TypedRun, arguments_as, born, kept_by, kept_array, typed_keeping, closed, closed_in, closed_all, unsaid, set_captured}
 use Rattle.jc_meaning.specs.Programs.{operand_list, captured_of, method_class}
 use Rattle.jc_meaning.specs.Calls.{Bodies, call_static, call_direct, call_virtual}
 use Rattle.jc_meaning.specs.Steps.{Ready, steps}
@@ -55,7 +56,7 @@ module _ (P : TypedProgram) (r : Inner) where
   -- an expression, and then what is done with its value where it stands
   abbrev pub value_of : Operand → TypedRun Value
   value_of NoOperand = wrong
-  value_of (operand of_it ss) = bind (r.expr of_it) (steps P r.body r.ready ss)
+  value_of (operand place of_it ss) = bind (r.expr of_it) (steps P r.body r.ready ss)
 
   -- from left to right (JLS 15.7.1, 15.12.4.2)
   abbrev pub values_of : List Operand → TypedRun (List Value)
@@ -134,12 +135,12 @@ module _ (P : TypedProgram) (r : Inner) where
   printer_of p printed.Long = p.of_long
   printer_of p printed.Reference = p.of_object
 
-  -- by the two calls, for which String is initialised first
+  -- by the two calls, for each of which String is initialised first
   abbrev pub text_of : Printed → Value → TypedRun Value
   text_of as_it v =
       behind (r.ready P.known.string)
       (bind (call_static P r.body (printer_of P.known.printing as_it) (v ∷ []) [])
-      (λ t. call_static P r.body P.known.printing.of_object (t ∷ []) []))
+      (λ t. behind (r.ready P.known.string) (call_static P r.body P.known.printing.of_object (t ∷ []) [])))
 
   -- One operator: the left value is there, the right one comes next. The string of the left operand of string `+` is made before
   -- the right operand is evaluated
@@ -170,7 +171,8 @@ module _ (P : TypedProgram) (r : Inner) where
   instance_of to NullValue = give (truth false)
   instance_of to v = bind (passes keeping T to v) (λ b. give (truth b))
 
-  -- Captured variables from one on, which no value says anything about in this evaluation
+  -- Captured variables from one on, which no value says anything about in this evaluation: those of a branch, or of an operand of `&&` and
+  -- `||`, that isn't evaluated
   abbrev pub forget : ℕ → ℕ → TypedRun (Unit {0})
   forget from zero = give tt
   forget from (suc n) =
@@ -179,10 +181,10 @@ module _ (P : TypedProgram) (r : Inner) where
 
   -- the parts of a variable, from left to right (JLS 15.26.1)
   abbrev pub target_of : Variable → TypedRun Target
-  target_of (LocalVariable n) = give (ToLocal n)
-  target_of (StaticVariable before f) = behind (values before) (give (ToStatic f))
-  target_of (FieldVariable of_it f) = bind (value_of of_it) (λ v. give (ToField v f))
-  target_of (ElementVariable array index) = bind (value_of array) (λ a. bind (value_of index) (λ i. give (ToElement a i)))
+  target_of (LocalVariable place n) = give (ToLocal n)
+  target_of (StaticVariable place before f is_simple) = behind (values before) (give (ToStatic f))
+  target_of (FieldVariable place of_it f is_raw) = bind (value_of of_it) (λ v. give (ToField v f))
+  target_of (ElementVariable place array index) = bind (value_of array) (λ a. bind (value_of index) (λ i. give (ToElement a i)))
 
   -- the value that a variable has, and another value for it
   abbrev pub read_target : Target → TypedRun Value
@@ -197,13 +199,17 @@ module _ (P : TypedProgram) (r : Inner) where
   write_target (ToField of_it f) v = set_field f of_it v
   write_target (ToElement array index) v = set_element array index v
 
-  -- A value that was read or assigned is noted with its static type, closed as the variables stand then
+  -- A value that was read or assigned is noted with its static type, closed as the variables stand then. What `op=`, `++` and `--` read is
+  -- noted with the type of the variable, which is that of the whole and names no variable of the whole's own capture
   abbrev pub note : Place → Ty → Value → TypedRun Value
   note place ty v u s = Val v u (record s { record_of = s.record_of ++ record { place = place; value = v; ty = closed_in s ty } ∷ [] })
 
-  -- an assignment's value is what was stored
+  -- an assignment's value is what was stored; where guards stand at the store, the value is what goes into them
   abbrev pub assigned : Target → Value → TypedRun Value
   assigned t v = behind (write_target t v) (give v)
+
+  abbrev pub stored : Target → List Step → Value → TypedRun Value
+  stored t guards v = behind (bind (steps P r.body r.ready guards v) (write_target t)) (give v)
 
   -- `++` and `--`: the value before the change, or behind it
   abbrev pub changed : Target → List Step → Bool → Value → Value → TypedRun Value
@@ -221,16 +227,23 @@ module _ (P : TypedProgram) (r : Inner) where
   call_with Virtual m receiver args types = bind (first_value receiver) (λ v. call_virtual P r.body m v args types)
   call_with Direct m receiver args types = bind (first_value receiver) (λ v. call_direct P r.body m v args types)
 
-  -- A creation: the class is initialised, the object made, the arguments evaluated, and the constructor run (JLS 12.5, 15.9.4)
-  abbrev pub new_object : Ty → ClassId → TypedRun ℕ
-  new_object ty k = bind (closed ty) (λ t. make (record { kept = kept_by T t; parts = new_fields T k }))
+  -- a new object that nothing refers to yet keeps its class alone: the arguments may make the variables that its type names
+  abbrev pub new_object : ClassId → TypedRun ℕ
+  new_object k = make (record { kept = Raw k; parts = new_fields T k })
 
+  -- then it gets its type
+  abbrev pub set_type : ℕ → ClassId → Ty → TypedRun (Unit {0})
+  set_type a k t = set_kept a (λ kept. born k t kept)
+
+  -- A creation: the class is initialised, the object made, the arguments evaluated, and the constructor run (JLS 12.5, 15.9.4)
   abbrev pub create : Ty → MethodId → Operands → TypedRun Value
   create ty m args =
       behind (r.ready (method_class T m))
-      (bind (new_object ty (method_class T m)) (λ a.
+      (bind (new_object (method_class T m)) (λ a.
       bind (values args) (λ vs.
-      behind (call_direct P r.body m (Address a) vs []) (give (Address a)))))
+      bind (closed ty) (λ t.
+      behind (set_type a (method_class T m) (kept_by T t))
+      (behind (call_direct P r.body m (Address a) vs []) (give (Address a)))))))
 
   -- a new array of a closed array type, with that many elements as new
   abbrev pub new_array : Ty → ℕ → TypedRun ℕ
@@ -273,23 +286,23 @@ module _ (P : TypedProgram) (r : Inner) where
 
   -- what a form does, by its kind; `ty` is the static type of the expression
   abbrev pub form_of : Place → Ty → Form → TypedRun Value
-  form_of place ty (Fixed before value) = behind (values before) (constant_value value)
+  form_of place ty (Fixed before value named casts) = behind (values before) (constant_value value)
   form_of place ty Null = give NullValue
   form_of place ty (Local n) = local n
   form_of place ty This = local 0
-  form_of place ty (StaticField before f) = behind (values before) (get_static f)
+  form_of place ty (StaticField before f is_simple) = behind (values before) (get_static f)
   form_of place ty (Field of_it f) = bind (value_of of_it) (get_field f)
   form_of place ty (Element array index) = bind (value_of array) (λ a. bind (value_of index) (get_element a))
   form_of place ty (Length array) = bind (value_of array) length_of
   form_of place ty (Prefix ops of_it) = bind (value_of of_it) (prefixes ops)
   form_of place ty (Chain first links) = chain (value_of first) links
-  form_of place ty (AllOf os) = all_true (operand_list os)
-  form_of place ty (AnyOf os) = any_true (operand_list os)
+  form_of place ty (AllOf os from up_to) = behind (forget from (up_to - from)) (all_true (operand_list os))
+  form_of place ty (AnyOf os from up_to) = behind (forget from (up_to - from)) (any_true (operand_list os))
   form_of place ty (InstanceOf of_it to) = bind (value_of of_it) (instance_of to)
   form_of place ty (Conditional test first second from up_to) =
       bind (value_of test) (λ v. behind (forget from (up_to - from)) (if_true v (value_of first) (value_of second)))
-  form_of place ty (Assign variable value) =
-      bind (target_of variable) (λ t. bind (value_of value) (assigned t))
+  form_of place ty (Assign variable value store) =
+      bind (target_of variable) (λ t. bind (value_of value) (stored t store))
   form_of place ty (Compound variable joint left right into) =
       bind (target_of variable) (λ t.
       bind (read_target t) (λ v.
@@ -303,9 +316,9 @@ module _ (P : TypedProgram) (r : Inner) where
       bind (note place ty v) (λ x.
       bind (steps P r.body r.ready from x) (λ w.
       bind (given keeping T P.known (stepped op w)) (changed t into is_prefix v)))))
-  form_of place ty (Call kind receiver m type_args args phase) =
+  form_of place ty (Call kind receiver m type_args args phase thrown is_raw) =
       bind (values receiver) (λ to. bind (values args) (λ vs. bind (closed_all type_args) (call_with kind m to vs)))
-  form_of place ty (New m args phase) = create ty m args
+  form_of place ty (New m args phase thrown is_raw) = create ty m args
   form_of place ty (NewArray lengths) =
       bind (values lengths) (λ vs. bind (lengths_of vs) (λ ns. bind (closed ty) (λ t. arrays t ns)))
   form_of place ty (ArrayOf elements) =
@@ -316,12 +329,12 @@ module _ (P : TypedProgram) (r : Inner) where
   -- which values are noted: those of variables, fields, elements and calls, of written casts, and of assignments
   abbrev pub is_noted : Form → Bool
   is_noted (Local n) = true
-  is_noted (StaticField before f) = true
+  is_noted (StaticField before f is_simple) = true
   is_noted (Field of_it f) = true
   is_noted (Element array index) = true
-  is_noted (Call kind receiver m types args phase) = true
+  is_noted (Call kind receiver m types args phase thrown is_raw) = true
   is_noted (Cast of_it to ss is_below) = true
-  is_noted (Assign variable value) = true
+  is_noted (Assign variable value store) = true
   is_noted (Compound variable joint left right into) = true
   is_noted (Change variable op from into is_prefix) = true
   is_noted _ = false

@@ -86,6 +86,14 @@ kept_at T t _ = t
 unfoldable pub kept_by : Table → Ty → Ty
 kept_by T t = kept_at T t (out-Ty t)
 
+-- What an object keeps whose type was unknown until now: its class alone was kept, and now it is its type. Another object keeps what it has
+abbrev pub born_at : ClassId → Ty → Ty → Ty-F Arg Ty → Ty
+born_at k t kept (Ty-F.Raw c) = if c.0 == k.0 then t else kept
+born_at k t kept _ = kept
+
+unfoldable pub born : ClassId → Ty → Ty → Ty
+born k t kept = born_at k t kept (out-Ty kept)
+
 -- by the outermost layer of the type, in which the raw types are replaced already
 abbrev pub unbounded_step : Table → Ty-F Arg Ty → Ty
 unbounded_step T (Ty-F.Raw k) = Class k (replicate (length (vars_of T k)) Any)

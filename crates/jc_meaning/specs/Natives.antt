@@ -15,7 +15,7 @@ use Rattle.jc_running.specs.Outcomes.{Run, give, wrong, bind, behind}
 use Rattle.jc_heaps.specs.declared.state.State.{State}
 use Rattle.jc_heaps.specs.States.{some_or_wrong, local, object_at}
 use Rattle.jc_heaps.specs.Numbers.{whole_of}
-use Rattle.jc_heaps.specs.Making.{Keeping, make_string, put_byte, take_byte, exit_with, identity_hash}
+use Rattle.jc_heaps.specs.Making.{Keeping, make_string, units_of_text, put_byte, take_byte, exit_with, identity_hash}
 use Rattle.jc_typed.specs.declared.program.Known.{Known}
 use Rattle.jc_typed.specs.declared.program.Natives.{Natives}
 use Rattle.jc_meaning.specs.declared.target.Native.{Native}
@@ -64,12 +64,12 @@ address_in _ = wrong
 abbrev pub whole_in : {K F R : Type 0} → ℕ → Run (State K F R) ℤ
 whole_in n = bind (local n) (λ v. some_or_wrong (whole_of v))
 
--- A native method by its variables: the receiver or the argument is number 0. The name is a new string at each call, a byte goes
+-- A native method by its variables: the receiver or the argument is number 0. The name is a new string of its UTF-16 units at each call, a byte goes
 -- out by its low eight bits, and where no byte is left -1 is read
 abbrev pub native_act : {K F R : Type 0} → Keeping K → Table → Known → Native → Run (State K F R) Value
 native_act keeping T known HashCode = bind (local 0) (λ v. bind (address_in v) (λ a. give (identity_hash a)))
 native_act keeping T known ClassName =
-    bind (local 0) (λ v. bind (address_in v) (λ a. bind (object_at a) (λ o. make_string keeping T known (name_of T (keeping.erased o.kept)))))
+    bind (local 0) (λ v. bind (address_in v) (λ a. bind (object_at a) (λ o. make_string keeping T known (units_of_text (name_of T (keeping.erased o.kept))))))
 native_act keeping T known Put = bind (whole_in 0) (λ n. behind (put_byte (cast_unsigned w32 n % 256)) (give Null))
 native_act keeping T known ReadByte = take_byte
 native_act keeping T known Halt = bind (whole_in 0) exit_with

@@ -1,5 +1,5 @@
 -- What a typed program says of its methods and classes.
-use Rattle.std.specs.Prelude.{ℕ, ◌==◌, Bool, true, false, List, [], ◌∷◌, ◌++◌, length, Option, Some, None, slice_get, if◌then◌else◌}
+use Rattle.std.specs.Prelude.{ℕ, ◌==◌, Bool, true, false, List, [], ◌∷◌, ◌++◌, length, map, drop, Option, Some, None, slice_get, if◌then◌else◌}
 use Rattle.jc_types.specs.declared.ids.ClassId.{ClassId}
 use Rattle.jc_types.specs.declared.ids.MethodId.{MethodId}
 use Rattle.jc_types.specs.declared.environment.Bounds.{Bounds}
@@ -7,7 +7,10 @@ use Rattle.jc_types.specs.declared.declarations.MethodKind.{MethodKind}
 use Rattle.jc_types.specs.declared.declarations.MethodKind.TheVariants.{StaticInitialiser}
 use Rattle.jc_types.specs.declared.table.Table.{Table}
 use Rattle.jc_types.specs.Accessors.{methods_of, method_owner_of, method_kind_of}
-use Rattle.jc_heaps.specs.Layout.{or_object}
+use Rattle.jc_types.specs.declared.form.Ty.{Ty}
+use Rattle.jc_running.specs.declared.value.Value.{Value}
+use Rattle.jc_heaps.specs.Layout.{default_value, or_object}
+use Rattle.jc_typed.specs.declared.program.Local.{Local}
 use Rattle.jc_typed.specs.declared.program.Body.{Body}
 use Rattle.jc_typed.specs.declared.program.TypedMethod.{TypedMethod}
 use Rattle.jc_typed.specs.declared.program.Selection.{Selection}
@@ -52,13 +55,21 @@ bounds_in None = []
 abbrev pub captured_of : TypedProgram → MethodId → List Bounds
 captured_of P m = bounds_in (slice_get P.methods m.0)
 
--- how many variables a method has, the receiver and the parameters among them; none where there is no such method
-abbrev pub locals_in : Option TypedMethod → ℕ
-locals_in (Some m) = length m.locals
-locals_in None = 0
+-- the types of a method's variables, the receiver and the parameters among them; none where there is no such method
+abbrev pub local_types : List Local → List Ty
+local_types ls = map (λ l. l.ty) ls
 
-abbrev pub locals_of : TypedProgram → MethodId → ℕ
+abbrev pub locals_in : Option TypedMethod → List Ty
+locals_in (Some m) = local_types m.locals
+locals_in None = []
+
+abbrev pub locals_of : TypedProgram → MethodId → List Ty
 locals_of P m = locals_in (slice_get P.methods m.0)
+
+-- the variables of a method as it begins: those that are given, and the others, each of which has the default value of its type. Nothing
+-- reads them before it sets them (JLS 16)
+abbrev pub begun_with : List Ty → List Value → List Value
+begun_with types given = given ++ map default_value (drop (length given) types)
 
 -- the class that declares a method
 abbrev pub method_class : Table → MethodId → ClassId

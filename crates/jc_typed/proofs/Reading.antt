@@ -26,6 +26,10 @@ use Rattle.jc_typed.specs.declared.lists.CapturesNode.{CapturesNode}
 use Rattle.jc_typed.specs.declared.lists.CapturesNode.TheVariants as captures
 use Rattle.jc_typed.specs.declared.lists.OpsNode.{OpsNode}
 use Rattle.jc_typed.specs.declared.lists.OpsNode.TheVariants as ops
+use Rattle.jc_typed.specs.declared.lists.NamesNode.{NamesNode}
+use Rattle.jc_typed.specs.declared.lists.NamesNode.TheVariants as names
+use Rattle.jc_typed.specs.declared.lists.PlacesNode.{PlacesNode}
+use Rattle.jc_typed.specs.declared.lists.PlacesNode.TheVariants as places
 use Rattle.jc_typed.specs.declared.lists.CasesNode.{CasesNode}
 use Rattle.jc_typed.specs.declared.lists.CasesNode.TheVariants as cases
 use Rattle.jc_typed.specs.declared.lists.LinksNode.{LinksNode}
@@ -37,7 +41,7 @@ use Rattle.jc_typed.specs.declared.lists.DeclaredNode.TheVariants as declared
 use Rattle.jc_typed.specs.declared.lists.CatchesNode.{CatchesNode}
 use Rattle.jc_typed.specs.declared.lists.CatchesNode.TheVariants as catches
 use Rattle.jc_typed.specs.Trees.{stmt, NoStmts}
-use Rattle.jc_typed.specs.Parts.{Part, Grows, part_of, part_at, Below, WellFormed, parts_on, parts, part_over, part_in, step_over, form_over, stmt_form_over, BelowStep, BelowForm, BelowStmtForm, BelowArms, BelowCaptures, BelowCases, BelowCatches, BelowDeclared, BelowExpr, BelowLinks, BelowList, BelowOperand, BelowOps, BelowSteps, BelowStmt, BelowVariable, OfTypes, types_over, OfSteps, steps_over, OfCaptures, captures_over, OfOps, ops_over, OfCases, cases_over, OfExpr, expr_over, OfOperand, operand_over, OfOperands, operands_over, OfLinks, links_over, OfVariable, variable_over, OfDeclared, declared_over, OfStmt, stmt_over, OfStmts, stmts_over, OfArms, arms_over, OfCatches, catches_over}
+use Rattle.jc_typed.specs.Parts.{Part, FormsStay, Grows, part_of, part_at, Below, WellFormed, parts_on, parts, part_over, part_in, step_over, form_over, stmt_form_over, BelowStep, BelowForm, BelowStmtForm, BelowArms, BelowCaptures, BelowCases, BelowCatches, BelowDeclared, BelowExpr, BelowLinks, BelowList, BelowNames, BelowOperand, BelowOps, BelowPlaces, BelowSteps, BelowStmt, BelowVariable, OfTypes, types_over, OfSteps, steps_over, OfCaptures, captures_over, OfOps, ops_over, OfNames, names_over, OfPlaces, places_over, OfCases, cases_over, OfExpr, expr_over, OfOperand, operand_over, OfOperands, operands_over, OfLinks, links_over, OfVariable, variable_over, OfDeclared, declared_over, OfStmt, stmt_over, OfStmts, stmts_over, OfArms, arms_over, OfCatches, catches_over}
 
 pub record GrowsIn (old new : List Part) : Type 0 where
   pub longer : length old ≤ length new
@@ -87,30 +91,38 @@ same_ops : (ps qs : List Part) (n : OpsNode) → GrowsIn ps qs → BelowOps (len
 same_ops ps qs ops.Empty g b = refl
 same_ops ps qs (ops.More before last) g b = rw (g.kept before b) refl
 
+same_names : (ps qs : List Part) (n : NamesNode) → GrowsIn ps qs → BelowNames (length ps) n → names_over qs n ≡ names_over ps n
+same_names ps qs names.Empty g b = refl
+same_names ps qs (names.More before place local) g b = rw (g.kept before b) refl
+
+same_places : (ps qs : List Part) (n : PlacesNode) → GrowsIn ps qs → BelowPlaces (length ps) n → places_over qs n ≡ places_over ps n
+same_places ps qs places.Empty g b = refl
+same_places ps qs (places.More before last) g b = rw (g.kept before b) refl
+
 same_cases : (ps qs : List Part) (n : CasesNode) → GrowsIn ps qs → BelowCases (length ps) n → cases_over qs n ≡ cases_over ps n
 same_cases ps qs cases.Empty g b = refl
-same_cases ps qs (cases.More before last) g b = rw (g.kept before b) refl
+same_cases ps qs (cases.More before last) g b = rw (g.kept before (b.0), g.kept last.named (b.1)) refl
 
 same_form : (ps qs : List Part) (n : ExprForm) → GrowsIn ps qs → BelowForm (length ps) n → form_over qs n ≡ form_over ps n
-same_form ps qs (f.Constant before value) g b = rw (g.kept before (b.0), g.kept value (b.1)) refl
+same_form ps qs (f.Constant before value named casts) g b = rw (g.kept before (b.0), g.kept value (b.1), g.kept named (b.2), g.kept casts (b.3)) refl
 same_form ps qs f.Null g b = refl
 same_form ps qs (f.Local local) g b = refl
 same_form ps qs f.This g b = refl
-same_form ps qs (f.StaticField before field) g b = rw (g.kept before b) refl
+same_form ps qs (f.StaticField before field is_simple) g b = rw (g.kept before b) refl
 same_form ps qs (f.Field of_it field) g b = rw (g.kept of_it b) refl
 same_form ps qs (f.Element array index) g b = rw (g.kept array (b.0), g.kept index (b.1)) refl
 same_form ps qs (f.Length array) g b = rw (g.kept array b) refl
 same_form ps qs (f.Prefix ops of_it) g b = rw (g.kept ops (b.0), g.kept of_it (b.1)) refl
 same_form ps qs (f.Chain first links) g b = rw (g.kept first (b.0), g.kept links (b.1)) refl
-same_form ps qs (f.AllOf operands) g b = rw (g.kept operands b) refl
-same_form ps qs (f.AnyOf operands) g b = rw (g.kept operands b) refl
+same_form ps qs (f.AllOf operands from up_to) g b = rw (g.kept operands b) refl
+same_form ps qs (f.AnyOf operands from up_to) g b = rw (g.kept operands b) refl
 same_form ps qs (f.InstanceOf of_it to) g b = rw (g.kept of_it b) refl
 same_form ps qs (f.Conditional test then other from up_to) g b = rw (g.kept test (b.0), g.kept then (b.1), g.kept other (b.2)) refl
-same_form ps qs (f.Assign variable value) g b = rw (g.kept variable (b.0), g.kept value (b.1)) refl
+same_form ps qs (f.Assign variable value store) g b = rw (g.kept variable (b.0), g.kept value (b.1), g.kept store (b.2)) refl
 same_form ps qs (f.Compound variable joint left right into) g b = rw (g.kept variable (b.0), g.kept left (b.1), g.kept right (b.2), g.kept into (b.3)) refl
 same_form ps qs (f.Change variable op from into is_prefix) g b = rw (g.kept variable (b.0), g.kept from (b.1), g.kept into (b.2)) refl
-same_form ps qs (f.Call kind receiver method type_args args phase) g b = rw (g.kept receiver (b.0), g.kept type_args (b.1), g.kept args (b.2)) refl
-same_form ps qs (f.New constructor args phase) g b = rw (g.kept args b) refl
+same_form ps qs (f.Call kind receiver method type_args args phase thrown is_raw) g b = rw (g.kept receiver (b.0), g.kept type_args (b.1), g.kept args (b.2), g.kept thrown (b.3)) refl
+same_form ps qs (f.New constructor args phase thrown is_raw) g b = rw (g.kept args (b.0), g.kept thrown (b.1)) refl
 same_form ps qs (f.NewArray lengths) g b = rw (g.kept lengths b) refl
 same_form ps qs (f.ArrayOf elements) g b = rw (g.kept elements b) refl
 same_form ps qs (f.Cast of_it to steps is_below) g b = rw (g.kept of_it (b.0), g.kept to (b.1), g.kept steps (b.2)) refl
@@ -121,7 +133,7 @@ same_expr ps qs (e.Expr place ty captures form) g b = rw (g.kept ty (b.0), g.kep
 
 same_operand : (ps qs : List Part) (n : OperandNode) → GrowsIn ps qs → BelowOperand (length ps) n → operand_over qs n ≡ operand_over ps n
 same_operand ps qs o.Missing g b = refl
-same_operand ps qs (o.Operand of_it steps) g b = rw (g.kept of_it (b.0), g.kept steps (b.1)) refl
+same_operand ps qs (o.Operand place of_it steps) g b = rw (g.kept of_it (b.0), g.kept steps (b.1)) refl
 
 same_operands : (ps qs : List Part) (n : ListNode) → GrowsIn ps qs → BelowList (length ps) n → operands_over qs n ≡ operands_over ps n
 same_operands ps qs l.Empty g b = refl
@@ -132,10 +144,10 @@ same_links ps qs links.Empty g b = refl
 same_links ps qs (links.More before joint left right) g b = rw (g.kept before (b.0), g.kept left (b.1), g.kept right (b.2)) refl
 
 same_variable : (ps qs : List Part) (n : VariableNode) → GrowsIn ps qs → BelowVariable (length ps) n → variable_over qs n ≡ variable_over ps n
-same_variable ps qs (v.Local local) g b = refl
-same_variable ps qs (v.StaticField before field) g b = rw (g.kept before b) refl
-same_variable ps qs (v.Field of_it field) g b = rw (g.kept of_it b) refl
-same_variable ps qs (v.Element array index) g b = rw (g.kept array (b.0), g.kept index (b.1)) refl
+same_variable ps qs (v.Local place local) g b = refl
+same_variable ps qs (v.StaticField place before field is_simple) g b = rw (g.kept before b) refl
+same_variable ps qs (v.Field place of_it field is_raw) g b = rw (g.kept of_it b) refl
+same_variable ps qs (v.Element place array index) g b = rw (g.kept array (b.0), g.kept index (b.1)) refl
 
 same_declared : (ps qs : List Part) (n : DeclaredNode) → GrowsIn ps qs → BelowDeclared (length ps) n → declared_over qs n ≡ declared_over ps n
 same_declared ps qs declared.Empty g b = refl
@@ -159,7 +171,7 @@ same_stmt_form ps qs (s.Break target) g b = refl
 same_stmt_form ps qs (s.Continue target) g b = refl
 same_stmt_form ps qs (s.Throw of_it) g b = rw (g.kept of_it b) refl
 same_stmt_form ps qs (s.Try body catches last copies) g b = rw (g.kept body (b.0), g.kept catches (b.1), g.kept last (b.2)) refl
-same_stmt_form ps qs (s.Construct constructor args phase) g b = rw (g.kept args b) refl
+same_stmt_form ps qs (s.Construct constructor args phase thrown is_raw) g b = rw (g.kept args (b.0), g.kept thrown (b.1)) refl
 same_stmt_form ps qs (s.Initialise field value) g b = rw (g.kept value b) refl
 
 same_stmt : (ps qs : List Part) (n : StmtNode) → GrowsIn ps qs → BelowStmt (length ps) n → stmt_over qs n ≡ stmt_over ps n
@@ -185,6 +197,8 @@ same_at ps qs (n.Constant x) g b = refl
 same_at ps qs (n.Steps x) g b = ap OfSteps (same_steps ps qs x g b)
 same_at ps qs (n.Captures x) g b = ap OfCaptures (same_captures ps qs x g b)
 same_at ps qs (n.Ops x) g b = ap OfOps (same_ops ps qs x g b)
+same_at ps qs (n.Names x) g b = ap OfNames (same_names ps qs x g b)
+same_at ps qs (n.Places x) g b = ap OfPlaces (same_places ps qs x g b)
 same_at ps qs (n.Cases x) g b = ap OfCases (same_cases ps qs x g b)
 same_at ps qs (n.Expr x) g b = ap OfExpr (same_expr ps qs x g b)
 same_at ps qs (n.Operand x) g b = ap OfOperand (same_operand ps qs x g b)
@@ -224,6 +238,16 @@ well_more k (m ∷ ns) n w b = let e : k + length (m ∷ ns) ≡ k + 1 + length 
 seam : (ps : List Part) (p : Part) → part_in (ps ++ p ∷ []) (length ps) ≡ p
 unfolding part_in
 seam ps p = get_or-append_seam ps p [] (OfStmts NoStmts)
+
+-- an arena that grows, by its parts
+grows_parts : (ps qs : List Node) → Grows ps qs → GrowsIn (parts ps) (parts qs)
+grows_parts ps qs g = record {
+  longer = let e : length (parts ps) ≡ length ps = parts_length ps in let f : length (parts qs) ≡ length qs = parts_length qs in omega (arith, e, f, g.longer);
+  kept = λ i h. g.kept i (subst (λ k. i < k) (parts_length ps) h);
+}
+
+pub forms_stay : FormsStay
+forms_stay old new form g b = same_form (parts old) (parts new) form (grows_parts old new g) (subst (λ k. BelowForm k form) (sym (parts_length old)) b)
 
 -- the invariant after a push
 pub well_pushed : (ns : List Node) (n : Node) → WellFormed 0 ns → Below (length ns) n → WellFormed 0 (ns ++ n ∷ [])

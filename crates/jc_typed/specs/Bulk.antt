@@ -57,38 +57,38 @@ abbrev mutual
 
   pub operand_bulk : Operand → ℕ
   operand_bulk NoOperand = 0
-  operand_bulk (operand of_it ss) = expr_bulk of_it + steps_weight ss
+  operand_bulk (operand place of_it ss) = expr_bulk of_it + steps_weight ss
 
   pub form_bulk : Form → ℕ
-  form_bulk (Fixed before value) = 4 + operands_bulk before
+  form_bulk (Fixed before value named casts) = 4 + operands_bulk before
   form_bulk Null = 4
   form_bulk (Local n) = 4
   form_bulk This = 4
-  form_bulk (StaticField before f) = 8 + operands_bulk before
+  form_bulk (StaticField before f is_simple) = 8 + operands_bulk before
   form_bulk (Field of_it f) = 8 + operand_bulk of_it
   form_bulk (Element array index) = 8 + operand_bulk array + operand_bulk index
   form_bulk (Length array) = 8 + operand_bulk array
   form_bulk (Prefix ops of_it) = prefixes_weight ops + operand_bulk of_it
   form_bulk (Chain first links) = operand_bulk first + links_bulk links
-  form_bulk (AllOf os) = logic_weight os + operands_bulk os
-  form_bulk (AnyOf os) = logic_weight os + operands_bulk os
+  form_bulk (AllOf os from up_to) = logic_weight os + operands_bulk os
+  form_bulk (AnyOf os from up_to) = logic_weight os + operands_bulk os
   form_bulk (InstanceOf of_it to) = 8 + operand_bulk of_it
   form_bulk (Conditional test then other from up_to) = 16 + operand_bulk test + operand_bulk then + operand_bulk other
-  form_bulk (Assign variable value) = 12 + variable_bulk variable + operand_bulk value
+  form_bulk (Assign variable value store) = 12 + variable_bulk variable + operand_bulk value + steps_weight store
   form_bulk (Compound variable joint left right into) = 32 + variable_bulk variable + steps_weight left + operand_bulk right + steps_weight into
   form_bulk (Change variable op from into is_prefix) = 32 + variable_bulk variable + steps_weight from + steps_weight into
-  form_bulk (Call kind receiver m types args phase) = 12 + operands_bulk receiver + operands_bulk args
-  form_bulk (New m args phase) = 12 + operands_bulk args
+  form_bulk (Call kind receiver m types args phase thrown is_raw) = 12 + operands_bulk receiver + operands_bulk args
+  form_bulk (New m args phase thrown is_raw) = 12 + operands_bulk args
   form_bulk (NewArray lengths) = 12 + operands_bulk lengths
   form_bulk (ArrayOf elements) = 12 + 8 * operand_count elements + operands_bulk elements
   form_bulk (Cast of_it to ss is_below) = 8 + operand_bulk of_it + steps_weight ss
 
   -- a variable weighs what its parts weigh; its assignment is weighed by the form that it stands in
   pub variable_bulk : Variable → ℕ
-  variable_bulk (LocalVariable n) = 0
-  variable_bulk (StaticVariable before f) = operands_bulk before
-  variable_bulk (FieldVariable of_it f) = operand_bulk of_it
-  variable_bulk (ElementVariable array index) = operand_bulk array + operand_bulk index
+  variable_bulk (LocalVariable place n) = 0
+  variable_bulk (StaticVariable place before f is_simple) = operands_bulk before
+  variable_bulk (FieldVariable place of_it f is_raw) = operand_bulk of_it
+  variable_bulk (ElementVariable place array index) = operand_bulk array + operand_bulk index
 
   -- lists weigh what their members weigh, and the operators between these
   pub operands_bulk : Operands → ℕ
@@ -133,7 +133,7 @@ abbrev mutual
   stmt_form_bulk (Continue target) = 16
   stmt_form_bulk (Throw of_it) = 16 + operand_bulk of_it
   stmt_form_bulk (Try body catches last copies) = 16 + stmt_bulk body + catches_bulk catches + finally_bulk copies last
-  stmt_form_bulk (Construct m args phase) = 28 + operands_bulk args
+  stmt_form_bulk (Construct m args phase thrown is_raw) = 28 + operands_bulk args
   stmt_form_bulk (Initialise f value) = 28 + operand_bulk value
 
   -- a list of statements weighs what its statements weigh

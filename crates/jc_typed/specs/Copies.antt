@@ -1,6 +1,7 @@
 -- How often the block behind `finally` stands in the code of its `try`: once behind each way out (JLS 14.20.2). These are the normal
 -- end, an exception, and each jump in the block and the catch clauses that goes to a statement outside of them, or returns.
 use Rattle.std.specs.Prelude.{◌≡◌, ℕ, ◌+◌, ◌*◌, ◌==◌, ◌||◌, Bool, false, List, [], ◌∷◌, if◌then◌else◌}
+use Rattle.jc_typed.specs.Bulk.{capped}
 use Rattle.jc_typed.specs.Trees.{Stmt, stmt, StmtForm, Empty, Block, Locals, Effect, If, Labelled, While, Do, For, ForArray, ForIterable, Switch, Return, Break, Continue, Throw, Try, Construct, Initialise, Stmts, NoStmts, MoreStmts, Arms, NoArms, MoreArms, Catches, NoCatches, MoreCatches}
 
 -- whether a statement, by its number, is one of a list
@@ -37,7 +38,7 @@ abbrev mutual
   exits_of inside (Continue target) = leaving inside target
   exits_of inside (Throw of_it) = 0
   exits_of inside (Try body catches last copies) = exits_of_stmt inside body + exits_of_catches inside catches + copies * exits_of_stmts inside last
-  exits_of inside (Construct constructor args phase) = 0
+  exits_of inside (Construct constructor args phase thrown is_raw) = 0
   exits_of inside (Initialise field value) = 0
 
   -- lists of statements, arms of an `if` and catch clauses: the jumps of all of them
@@ -57,7 +58,7 @@ abbrev mutual
 abbrev pub copies_of : Stmt → Catches → ℕ
 copies_of body catches = 2 + exits_of_stmt [] body + exits_of_catches [] catches
 
--- each `try` of a statement says how often its finally block stands in the code
+-- each `try` of a statement says how often its finally block stands in the code, up to the greatest number of 64 bits
 abbrev mutual
   pub CopiesRight : Stmt → Type 0
   CopiesRight (stmt place form) = FormCopiesRight form
@@ -80,8 +81,8 @@ abbrev mutual
   FormCopiesRight (Break target) = Unit {0}
   FormCopiesRight (Continue target) = Unit {0}
   FormCopiesRight (Throw of_it) = Unit {0}
-  FormCopiesRight (Try body catches last copies) = CopiesRight body × ClauseCopiesRight catches × AllCopiesRight last × (copies ≡ copies_of body catches)
-  FormCopiesRight (Construct constructor args phase) = Unit {0}
+  FormCopiesRight (Try body catches last copies) = CopiesRight body × ClauseCopiesRight catches × AllCopiesRight last × (copies ≡ capped (copies_of body catches))
+  FormCopiesRight (Construct constructor args phase thrown is_raw) = Unit {0}
   FormCopiesRight (Initialise field value) = Unit {0}
 
   -- each statement of a list, of the arms of an `if`, and of the blocks of catch clauses

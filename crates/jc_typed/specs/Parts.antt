@@ -31,7 +31,11 @@ use Rattle.jc_typed.specs.declared.lists.CapturesNode.{CapturesNode}
 use Rattle.jc_typed.specs.declared.lists.CapturesNode.TheVariants as captures
 use Rattle.jc_typed.specs.declared.lists.OpsNode.{OpsNode}
 use Rattle.jc_typed.specs.declared.lists.OpsNode.TheVariants as ops
-use Rattle.jc_typed.specs.declared.lists.Case.{Case}
+use Rattle.jc_typed.specs.declared.lists.Case.{Case as CaseNode}
+use Rattle.jc_typed.specs.declared.lists.NamesNode.{NamesNode}
+use Rattle.jc_typed.specs.declared.lists.NamesNode.TheVariants as names
+use Rattle.jc_typed.specs.declared.lists.PlacesNode.{PlacesNode}
+use Rattle.jc_typed.specs.declared.lists.PlacesNode.TheVariants as places
 use Rattle.jc_typed.specs.declared.lists.CasesNode.{CasesNode}
 use Rattle.jc_typed.specs.declared.lists.CasesNode.TheVariants as cases
 use Rattle.jc_typed.specs.declared.lists.LinksNode.{LinksNode}
@@ -42,7 +46,7 @@ use Rattle.jc_typed.specs.declared.lists.DeclaredNode.{DeclaredNode}
 use Rattle.jc_typed.specs.declared.lists.DeclaredNode.TheVariants as declared
 use Rattle.jc_typed.specs.declared.lists.CatchesNode.{CatchesNode}
 use Rattle.jc_typed.specs.declared.lists.CatchesNode.TheVariants as catches
-use Rattle.jc_typed.specs.Trees.{Step, Widen, Narrow, BoxUp, Unbox, Up, Test, Expr, NoExpr, expr, Operand, NoOperand, operand, Form, Fixed, Null, Local, This, StaticField, Field, Element, Length, Prefix, Chain, AllOf, AnyOf, InstanceOf, Conditional, Assign, Compound, Change, Call, New, NewArray, ArrayOf, Cast, Variable, LocalVariable, StaticVariable, FieldVariable, ElementVariable, Operands, NoOperands, MoreOperands, Links, NoLinks, MoreLinks, Declared, NoDeclared, MoreDeclared, Stmt, stmt, StmtForm, Empty, Block, Locals, Effect, If, Labelled, While, Do, For, ForArray, ForIterable, Switch, Return, Break, Continue, Throw, Try, Construct, Initialise, Stmts, NoStmts, MoreStmts, Arms, NoArms, MoreArms, Catches, NoCatches, MoreCatches}
+use Rattle.jc_typed.specs.Trees.{Named, Case, Step, Widen, Narrow, BoxUp, Unbox, Up, Test, Expr, NoExpr, expr, Operand, NoOperand, operand, Form, Fixed, Null, Local, This, StaticField, Field, Element, Length, Prefix, Chain, AllOf, AnyOf, InstanceOf, Conditional, Assign, Compound, Change, Call, New, NewArray, ArrayOf, Cast, Variable, LocalVariable, StaticVariable, FieldVariable, ElementVariable, Operands, NoOperands, MoreOperands, Links, NoLinks, MoreLinks, Declared, NoDeclared, MoreDeclared, Stmt, stmt, StmtForm, Empty, Block, Locals, Effect, If, Labelled, While, Do, For, ForArray, ForIterable, Switch, Return, Break, Continue, Throw, Try, Construct, Initialise, Stmts, NoStmts, MoreStmts, Arms, NoArms, MoreArms, Catches, NoCatches, MoreCatches}
 
 -- what a node can stand for
 pub data Part : Type 0 where
@@ -52,6 +56,8 @@ pub data Part : Type 0 where
   OfSteps : List Step → Part
   OfCaptures : List Capture → Part
   OfOps : List Op → Part
+  OfNames : List Named → Part
+  OfPlaces : List Place → Part
   OfCases : List Case → Part
   OfExpr : Expr → Part
   OfOperand : Operand → Part
@@ -98,6 +104,14 @@ abbrev pub as_ops : Part → List Op
 as_ops (OfOps x) = x
 as_ops _ = []
 
+abbrev pub as_names : Part → List Named
+as_names (OfNames x) = x
+as_names _ = []
+
+abbrev pub as_places : Part → List Place
+as_places (OfPlaces x) = x
+as_places _ = []
+
 abbrev pub as_cases : Part → List Case
 as_cases (OfCases x) = x
 as_cases _ = []
@@ -119,10 +133,10 @@ abbrev pub as_links : Part → Links
 as_links (OfLinks x) = x
 as_links _ = NoLinks
 
--- a part of another sort is the local variable number 0, or no declared variables
+-- a part of another sort is the local variable number 0 at no place, or no declared variables
 abbrev pub as_variable : Part → Variable
 as_variable (OfVariable x) = x
-as_variable _ = LocalVariable 0
+as_variable _ = LocalVariable nowhere 0
 
 abbrev pub as_declared : Part → Declared
 as_declared (OfDeclared x) = x
@@ -167,6 +181,12 @@ captures_in ps i = as_captures (part_in ps i)
 
 abbrev pub ops_in : List Part → ℕ → List Op
 ops_in ps i = as_ops (part_in ps i)
+
+abbrev pub names_in : List Part → ℕ → List Named
+names_in ps i = as_names (part_in ps i)
+
+abbrev pub places_in : List Part → ℕ → List Place
+places_in ps i = as_places (part_in ps i)
 
 abbrev pub cases_in : List Part → ℕ → List Case
 cases_in ps i = as_cases (part_in ps i)
@@ -229,31 +249,43 @@ abbrev pub ops_over : List Part → OpsNode → List Op
 ops_over ps ops.Empty = []
 ops_over ps (ops.More before last) = ops_in ps before ++ last ∷ []
 
+abbrev pub names_over : List Part → NamesNode → List Named
+names_over ps names.Empty = []
+names_over ps (names.More before place local) = names_in ps before ++ record { place = place; local = local } ∷ []
+
+abbrev pub places_over : List Part → PlacesNode → List Place
+places_over ps places.Empty = []
+places_over ps (places.More before last) = places_in ps before ++ last ∷ []
+
+-- a label with the locals that its constant names
+abbrev pub case_over : List Part → CaseNode → Case
+case_over ps node = record { key = node.key; skips = node.skips; named = names_in ps node.named }
+
 abbrev pub cases_over : List Part → CasesNode → List Case
 cases_over ps cases.Empty = []
-cases_over ps (cases.More before last) = cases_in ps before ++ last ∷ []
+cases_over ps (cases.More before last) = cases_in ps before ++ case_over ps last ∷ []
 
 -- the form of an expression (JLS 15): what isn't a place of a part stays as it is
 abbrev pub form_over : List Part → ExprForm → Form
-form_over ps (f.Constant before value) = Fixed (operands_in ps before) (constant_in ps value)
+form_over ps (f.Constant before value named casts) = Fixed (operands_in ps before) (constant_in ps value) (names_in ps named) (places_in ps casts)
 form_over ps f.Null = Null
 form_over ps (f.Local local) = Local local
 form_over ps f.This = This
-form_over ps (f.StaticField before field) = StaticField (operands_in ps before) field
+form_over ps (f.StaticField before field is_simple) = StaticField (operands_in ps before) field is_simple
 form_over ps (f.Field of_it field) = Field (operand_in ps of_it) field
 form_over ps (f.Element array index) = Element (operand_in ps array) (operand_in ps index)
 form_over ps (f.Length array) = Length (operand_in ps array)
 form_over ps (f.Prefix ops of_it) = Prefix (ops_in ps ops) (operand_in ps of_it)
 form_over ps (f.Chain first links) = Chain (operand_in ps first) (links_in ps links)
-form_over ps (f.AllOf operands) = AllOf (operands_in ps operands)
-form_over ps (f.AnyOf operands) = AnyOf (operands_in ps operands)
+form_over ps (f.AllOf operands from up_to) = AllOf (operands_in ps operands) from up_to
+form_over ps (f.AnyOf operands from up_to) = AnyOf (operands_in ps operands) from up_to
 form_over ps (f.InstanceOf of_it to) = InstanceOf (operand_in ps of_it) to
 form_over ps (f.Conditional test then other from up_to) = Conditional (operand_in ps test) (operand_in ps then) (operand_in ps other) from up_to
-form_over ps (f.Assign variable value) = Assign (variable_in ps variable) (operand_in ps value)
+form_over ps (f.Assign variable value store) = Assign (variable_in ps variable) (operand_in ps value) (steps_in ps store)
 form_over ps (f.Compound variable joint left right into) = Compound (variable_in ps variable) joint (steps_in ps left) (operand_in ps right) (steps_in ps into)
 form_over ps (f.Change variable op from into is_prefix) = Change (variable_in ps variable) op (steps_in ps from) (steps_in ps into) is_prefix
-form_over ps (f.Call kind receiver method type_args args phase) = Call kind (operands_in ps receiver) method (types_in ps type_args) (operands_in ps args) phase
-form_over ps (f.New constructor args phase) = New constructor (operands_in ps args) phase
+form_over ps (f.Call kind receiver method type_args args phase thrown is_raw) = Call kind (operands_in ps receiver) method (types_in ps type_args) (operands_in ps args) phase (types_in ps thrown) is_raw
+form_over ps (f.New constructor args phase thrown is_raw) = New constructor (operands_in ps args) phase (types_in ps thrown) is_raw
 form_over ps (f.NewArray lengths) = NewArray (operands_in ps lengths)
 form_over ps (f.ArrayOf elements) = ArrayOf (operands_in ps elements)
 form_over ps (f.Cast of_it to steps is_below) = Cast (operand_in ps of_it) (type_in ps to) (steps_in ps steps) is_below
@@ -265,7 +297,7 @@ expr_over ps (e.Expr place ty captures form) = expr place (type_in ps ty) (captu
 
 abbrev pub operand_over : List Part → OperandNode → Operand
 operand_over ps o.Missing = NoOperand
-operand_over ps (o.Operand of_it steps) = operand (expr_in ps of_it) (steps_in ps steps)
+operand_over ps (o.Operand place of_it steps) = operand place (expr_in ps of_it) (steps_in ps steps)
 
 -- operands, and the operators of a chain, each with the steps of the left value and the right operand
 abbrev pub operands_over : List Part → ListNode → Operands
@@ -278,10 +310,10 @@ links_over ps (links.More before joint left right) = MoreLinks (links_in ps befo
 
 -- what an assignment or `++` changes (JLS 15.26), and the variables that a statement declares (JLS 14.4)
 abbrev pub variable_over : List Part → VariableNode → Variable
-variable_over ps (v.Local local) = LocalVariable local
-variable_over ps (v.StaticField before field) = StaticVariable (operands_in ps before) field
-variable_over ps (v.Field of_it field) = FieldVariable (operand_in ps of_it) field
-variable_over ps (v.Element array index) = ElementVariable (operand_in ps array) (operand_in ps index)
+variable_over ps (v.Local place local) = LocalVariable place local
+variable_over ps (v.StaticField place before field is_simple) = StaticVariable place (operands_in ps before) field is_simple
+variable_over ps (v.Field place of_it field is_raw) = FieldVariable place (operand_in ps of_it) field is_raw
+variable_over ps (v.Element place array index) = ElementVariable place (operand_in ps array) (operand_in ps index)
 
 abbrev pub declared_over : List Part → DeclaredNode → Declared
 declared_over ps declared.Empty = NoDeclared
@@ -306,7 +338,7 @@ stmt_form_over ps (s.Break target) = Break target
 stmt_form_over ps (s.Continue target) = Continue target
 stmt_form_over ps (s.Throw of_it) = Throw (operand_in ps of_it)
 stmt_form_over ps (s.Try body catches last copies) = Try (stmt_in ps body) (catches_in ps catches) (stmts_in ps last) copies
-stmt_form_over ps (s.Construct constructor args phase) = Construct constructor (operands_in ps args) phase
+stmt_form_over ps (s.Construct constructor args phase thrown is_raw) = Construct constructor (operands_in ps args) phase (types_in ps thrown) is_raw
 stmt_form_over ps (s.Initialise field value) = Initialise field (operand_in ps value)
 
 -- a statement with its place, and lists of statements, arms of an `if` and catch clauses
@@ -333,6 +365,8 @@ part_over ps (n.Constant x) = OfConstant x
 part_over ps (n.Steps x) = OfSteps (steps_over ps x)
 part_over ps (n.Captures x) = OfCaptures (captures_over ps x)
 part_over ps (n.Ops x) = OfOps (ops_over ps x)
+part_over ps (n.Names x) = OfNames (names_over ps x)
+part_over ps (n.Places x) = OfPlaces (places_over ps x)
 part_over ps (n.Cases x) = OfCases (cases_over ps x)
 part_over ps (n.Expr x) = OfExpr (expr_over ps x)
 part_over ps (n.Operand x) = OfOperand (operand_over ps x)
@@ -371,31 +405,39 @@ abbrev pub BelowOps : ℕ → OpsNode → Type 0
 BelowOps k ops.Empty = Unit {0}
 BelowOps k (ops.More before last) = before < k
 
+abbrev pub BelowNames : ℕ → NamesNode → Type 0
+BelowNames k names.Empty = Unit {0}
+BelowNames k (names.More before place local) = before < k
+
+abbrev pub BelowPlaces : ℕ → PlacesNode → Type 0
+BelowPlaces k places.Empty = Unit {0}
+BelowPlaces k (places.More before last) = before < k
+
 abbrev pub BelowCases : ℕ → CasesNode → Type 0
 BelowCases k cases.Empty = Unit {0}
-BelowCases k (cases.More before last) = before < k
+BelowCases k (cases.More before last) = (before < k) × (last.named < k)
 
 -- the form of an expression: all its operands, lists, types and steps
 abbrev pub BelowForm : ℕ → ExprForm → Type 0
-BelowForm k (f.Constant before value) = (before < k) × (value < k)
+BelowForm k (f.Constant before value named casts) = (before < k) × (value < k) × (named < k) × (casts < k)
 BelowForm k f.Null = Unit {0}
 BelowForm k (f.Local local) = Unit {0}
 BelowForm k f.This = Unit {0}
-BelowForm k (f.StaticField before field) = before < k
+BelowForm k (f.StaticField before field is_simple) = before < k
 BelowForm k (f.Field of_it field) = of_it < k
 BelowForm k (f.Element array index) = (array < k) × (index < k)
 BelowForm k (f.Length array) = array < k
 BelowForm k (f.Prefix ops of_it) = (ops < k) × (of_it < k)
 BelowForm k (f.Chain first links) = (first < k) × (links < k)
-BelowForm k (f.AllOf operands) = operands < k
-BelowForm k (f.AnyOf operands) = operands < k
+BelowForm k (f.AllOf operands from up_to) = operands < k
+BelowForm k (f.AnyOf operands from up_to) = operands < k
 BelowForm k (f.InstanceOf of_it to) = of_it < k
 BelowForm k (f.Conditional test then other from up_to) = (test < k) × (then < k) × (other < k)
-BelowForm k (f.Assign variable value) = (variable < k) × (value < k)
+BelowForm k (f.Assign variable value store) = (variable < k) × (value < k) × (store < k)
 BelowForm k (f.Compound variable joint left right into) = (variable < k) × (left < k) × (right < k) × (into < k)
 BelowForm k (f.Change variable op from into is_prefix) = (variable < k) × (from < k) × (into < k)
-BelowForm k (f.Call kind receiver method type_args args phase) = (receiver < k) × (type_args < k) × (args < k)
-BelowForm k (f.New constructor args phase) = args < k
+BelowForm k (f.Call kind receiver method type_args args phase thrown is_raw) = (receiver < k) × (type_args < k) × (args < k) × (thrown < k)
+BelowForm k (f.New constructor args phase thrown is_raw) = (args < k) × (thrown < k)
 BelowForm k (f.NewArray lengths) = lengths < k
 BelowForm k (f.ArrayOf elements) = elements < k
 BelowForm k (f.Cast of_it to steps is_below) = (of_it < k) × (to < k) × (steps < k)
@@ -407,7 +449,7 @@ BelowExpr k (e.Expr place ty captures form) = (ty < k) × (captures < k) × Belo
 
 abbrev pub BelowOperand : ℕ → OperandNode → Type 0
 BelowOperand k o.Missing = Unit {0}
-BelowOperand k (o.Operand of_it steps) = (of_it < k) × (steps < k)
+BelowOperand k (o.Operand place of_it steps) = (of_it < k) × (steps < k)
 
 -- operators of a chain, variables, and declared variables
 abbrev pub BelowLinks : ℕ → LinksNode → Type 0
@@ -415,10 +457,10 @@ BelowLinks k links.Empty = Unit {0}
 BelowLinks k (links.More before joint left right) = (before < k) × (left < k) × (right < k)
 
 abbrev pub BelowVariable : ℕ → VariableNode → Type 0
-BelowVariable k (v.Local local) = Unit {0}
-BelowVariable k (v.StaticField before field) = before < k
-BelowVariable k (v.Field of_it field) = of_it < k
-BelowVariable k (v.Element array index) = (array < k) × (index < k)
+BelowVariable k (v.Local place local) = Unit {0}
+BelowVariable k (v.StaticField place before field is_simple) = before < k
+BelowVariable k (v.Field place of_it field is_raw) = of_it < k
+BelowVariable k (v.Element place array index) = (array < k) × (index < k)
 
 abbrev pub BelowDeclared : ℕ → DeclaredNode → Type 0
 BelowDeclared k declared.Empty = Unit {0}
@@ -443,7 +485,7 @@ BelowStmtForm k (s.Break target) = Unit {0}
 BelowStmtForm k (s.Continue target) = Unit {0}
 BelowStmtForm k (s.Throw of_it) = of_it < k
 BelowStmtForm k (s.Try body catches last copies) = (body < k) × (catches < k) × (last < k)
-BelowStmtForm k (s.Construct constructor args phase) = args < k
+BelowStmtForm k (s.Construct constructor args phase thrown is_raw) = (args < k) × (thrown < k)
 BelowStmtForm k (s.Initialise field value) = value < k
 
 -- a statement, arms of an `if`, and catch clauses
@@ -466,6 +508,8 @@ Below k (n.Constant x) = Unit {0}
 Below k (n.Steps x) = BelowSteps k x
 Below k (n.Captures x) = BelowCaptures k x
 Below k (n.Ops x) = BelowOps k x
+Below k (n.Names x) = BelowNames k x
+Below k (n.Places x) = BelowPlaces k x
 Below k (n.Cases x) = BelowCases k x
 Below k (n.Expr x) = BelowExpr k x
 Below k (n.Operand x) = BelowOperand k x
@@ -514,6 +558,12 @@ captures_of ns i = captures_in (parts ns) i
 
 abbrev pub ops_of : List Node → ℕ → List Op
 ops_of ns i = ops_in (parts ns) i
+
+abbrev pub names_of : List Node → ℕ → List Named
+names_of ns i = names_in (parts ns) i
+
+abbrev pub places_of : List Node → ℕ → List Place
+places_of ns i = places_in (parts ns) i
 
 abbrev pub cases_of : List Node → ℕ → List Case
 cases_of ns i = cases_in (parts ns) i
@@ -567,6 +617,12 @@ captures_at ns node = captures_over (parts ns) node
 abbrev pub ops_at : List Node → OpsNode → List Op
 ops_at ns node = ops_over (parts ns) node
 
+abbrev pub names_at : List Node → NamesNode → List Named
+names_at ns node = names_over (parts ns) node
+
+abbrev pub places_at : List Node → PlacesNode → List Place
+places_at ns node = places_over (parts ns) node
+
 abbrev pub cases_at : List Node → CasesNode → List Case
 cases_at ns node = cases_over (parts ns) node
 
@@ -606,3 +662,10 @@ catches_at ns node = catches_over (parts ns) node
 pub record Grows (old new : List Node) : Type 0 where
   pub longer : length old ≤ length new
   pub kept : (i : ℕ) → i < length old → part_of new i ≡ part_of old i
+
+-- a form over an arena is the same over one that has grown, and stays above its parts
+abbrev pub FormsStay : Type 0
+FormsStay = (old new : List Node) (form : ExprForm) → Grows old new → BelowForm (length old) form → form_over (parts new) form ≡ form_over (parts old) form
+
+abbrev pub FormsStayAbove : Type 0
+FormsStayAbove = (old new : List Node) (form : ExprForm) → Grows old new → BelowForm (length old) form → BelowForm (length new) form

@@ -26,7 +26,7 @@ pub fn operand_bulk(nodes: &Nodes, at: u32) -> u64
 {
     match nodes.operand(at) {
         OperandNode::Missing => 0,
-        OperandNode::Operand { of, steps } => {
+        OperandNode::Operand { of, steps, .. } => {
             expr_bulk(nodes, of).saturating_add(steps_weight(nodes, steps))
         }
     }
@@ -87,7 +87,7 @@ fn variable_bulk(nodes: &Nodes, at: u32) -> u64
         VariableNode::Local { .. } => 0,
         VariableNode::StaticField { before, .. } => operands_bulk(nodes, before),
         VariableNode::Field { of, .. } => operand_bulk(nodes, of),
-        VariableNode::Element { array, index } => {
+        VariableNode::Element { array, index, .. } => {
             operand_bulk(nodes, array).saturating_add(operand_bulk(nodes, index))
         }
     }
@@ -124,10 +124,10 @@ fn form_bulk(nodes: &Nodes, at: u32, form: ExprForm) -> u64
         ExprForm::Chain { first, links } => {
             operand_bulk(nodes, first).saturating_add(links_bulk(nodes, links))
         }
-        ExprForm::AllOf { operands } => {
+        ExprForm::AllOf { operands, .. } => {
             operands_bulk(nodes, operands).saturating_add(logic_weight(nodes, operands))
         }
-        ExprForm::AnyOf { operands } => {
+        ExprForm::AnyOf { operands, .. } => {
             operands_bulk(nodes, operands).saturating_add(logic_weight(nodes, operands))
         }
         ExprForm::Call { receiver, args, .. } => operands_bulk(nodes, receiver)
@@ -150,8 +150,13 @@ fn form_bulk(nodes: &Nodes, at: u32, form: ExprForm) -> u64
             .saturating_add(operand_bulk(nodes, then))
             .saturating_add(operand_bulk(nodes, other))
             .saturating_add(16),
-        ExprForm::Assign { variable, value } => variable_bulk(nodes, variable)
+        ExprForm::Assign {
+            variable,
+            value,
+            store,
+        } => variable_bulk(nodes, variable)
             .saturating_add(operand_bulk(nodes, value))
+            .saturating_add(steps_weight(nodes, store))
             .saturating_add(12),
         ExprForm::Compound {
             variable,

@@ -33,9 +33,10 @@ pub enum Joint {
     Concat { left: Printed, right: Printed },
 }
 
-/// An expression (JLS 15) over the places of its parts: the place of its first token, its type after capture, the variables
-/// that this capture made, and its form. A call of a method without a result has the null type, which nothing reads. `Missing`
-/// stands where there is no expression.
+/// An expression (JLS 15) over the places of its parts: the place of its first token without parentheses, its type after capture,
+/// the variables that this capture made, and behind them those that were made where the bounds of a type variable were taken for
+/// a member of it, and its form. A call of a method without a result has the null type, which nothing reads. `Missing` stands
+/// where there is no expression.
 #[derive(Clone, Copy, Debug)]
 pub enum ExprNode {
     Missing,
@@ -53,10 +54,13 @@ pub enum ExprNode {
 /// (JLS 15.11.1, 15.12.4.1).
 #[derive(Clone, Copy, Debug)]
 pub enum ExprForm {
-    /// A constant expression (JLS 15.28), or a constant variable that is named through `before`.
+    /// A constant expression (JLS 15.28), or a constant variable that is named through `before`: of an instance field this is the
+    /// read of the field. `named` are the locals that the folded expression names, and `casts` the places of its casts to String.
     Constant {
         before: u32,
         value: u32,
+        named: u32,
+        casts: u32,
     },
     Null,
     Local {
@@ -64,10 +68,12 @@ pub enum ExprForm {
     },
     This,
 
-    /// A static field that is no constant variable, an instance field, an element and the length of an array.
+    /// A static field that is no constant variable, and whether its simple name names it; an instance field, an element and the
+    /// length of an array.
     StaticField {
         before: u32,
         field: FieldId,
+        is_simple: bool,
     },
     Field {
         of: u32,
@@ -93,12 +99,17 @@ pub enum ExprForm {
         links: u32,
     },
 
-    /// Operands of `&&`, and of `||` (JLS 15.23, 15.24).
+    /// Operands of `&&`, and of `||` (JLS 15.23, 15.24). The captured variables from `from` on and below `up_to` are those of the
+    /// operands behind the first.
     AllOf {
         operands: u32,
+        from: u64,
+        up_to: u64,
     },
     AnyOf {
         operands: u32,
+        from: u64,
+        up_to: u64,
     },
 
     /// A test against the erasure of a type (JLS 15.20.2).
@@ -117,10 +128,13 @@ pub enum ExprForm {
     },
 
     /// `v = e`, `v op= e`, where `into` takes the result back to the type of the variable, and `++` and `--`, where the value is
-    /// that before or behind the change (JLS 15.26, 15.14.2, 15.14.3, 15.15.1, 15.15.2).
+    /// that before or behind the change (JLS 15.26, 15.14.2, 15.14.3, 15.15.1, 15.15.2). `store` are the guards of what is stored by
+    /// `v = e`, whose own value is what goes into them. The type of `v op= e`, `++` and `--` is that of the variable without
+    /// capture.
     Assign {
         variable: u32,
         value: u32,
+        store: u32,
     },
     Compound {
         variable: u32,
@@ -138,6 +152,9 @@ pub enum ExprForm {
     },
 
     /// `receiver` has no or one operand. `type_args` are the inferred or written arguments of the method's type parameters.
+    /// `thrown` are the types that the method says it throws, with the arguments of the receiver's type and of the call put in,
+    /// erased where the call goes through an unchecked conversion (JLS 15.12.2.6); `is_raw` tells whether the receiver's view as
+    /// the method's class is raw.
     Call {
         kind: CallKind,
         receiver: u32,
@@ -145,17 +162,24 @@ pub enum ExprForm {
         type_args: u32,
         args: u32,
         phase: Phase,
+        thrown: u32,
+        is_raw: bool,
     },
 
-    /// A creation of an object of the expression's type (JLS 15.9).
+    /// A creation of an object of the expression's type (JLS 15.9), which keeps its inferred arguments also where the constructor
+    /// is chosen by an unchecked conversion: a step goes up to the raw type then. `is_raw` tells whether the type is raw.
     New {
         constructor: MethodId,
         args: u32,
         phase: Phase,
+        thrown: u32,
+        is_raw: bool,
     },
 
     /// A creation of an array of the expression's type by its lengths, the outermost first, or by its elements
-    /// (JLS 15.10, 10.6, 15.12.4.2).
+    /// (JLS 15.10, 10.6, 15.12.4.2). The type of a created array or object has a class or a primitive type at its base, and no type
+    /// variable. The array of a call of variable arity has the erased element type, and the steps of its elements go up to the
+    /// element type of the parameter.
     NewArray {
         lengths: u32,
     },
@@ -163,7 +187,8 @@ pub enum ExprForm {
         elements: u32,
     },
 
-    /// A written cast to a type, and whether the operand's type was below it (JLS 15.16).
+    /// A written cast to a type, and whether the operand's type was below it, which no primitive one is (JLS 15.16). No step of it is
+    /// said to be unchecked, since the cast itself is.
     Cast {
         of: u32,
         to: u32,
@@ -172,18 +197,37 @@ pub enum ExprForm {
     },
 }
 
-/// An expression with what is done with its value where it stands: guards, and the steps of its conversion (JLS 5).
+/// An expression with what is done with its value where it stands: guards, and the steps of its conversion (JLS 5). Its place is
+/// that of the first token, parentheses included; that of the expression is the first one inside of them.
 #[derive(Clone, Copy, Debug)]
 pub enum OperandNode {
     Missing,
-    Operand { of: u32, steps: u32 },
+    Operand { place: Place, of: u32, steps: u32 },
 }
 
-/// A variable that is assigned (JLS 15.26).
+/// A variable that is assigned (JLS 15.26), with the place of its first token without parentheses; whether a static field is
+/// named by its simple name, and whether the receiver's view as the class of a field is raw.
 #[derive(Clone, Copy, Debug)]
 pub enum VariableNode {
-    Local { local: u32 },
-    StaticField { before: u32, field: FieldId },
-    Field { of: u32, field: FieldId },
-    Element { array: u32, index: u32 },
+    Local {
+        place: Place,
+        local: u32,
+    },
+    StaticField {
+        place: Place,
+        before: u32,
+        field: FieldId,
+        is_simple: bool,
+    },
+    Field {
+        place: Place,
+        of: u32,
+        field: FieldId,
+        is_raw: bool,
+    },
+    Element {
+        place: Place,
+        array: u32,
+        index: u32,
+    },
 }

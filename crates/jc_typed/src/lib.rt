@@ -7,6 +7,7 @@
 
 mod expression_bulk;
 mod expressions;
+mod laws;
 mod lists;
 mod nodes;
 mod program;
@@ -15,9 +16,10 @@ mod statements;
 mod weights;
 
 pub use expressions::{CallKind, ExprForm, ExprNode, Joint, OperandNode, Printed, VariableNode};
+pub use laws::{form_below, same_form};
 pub use lists::{
     ArmsNode, Capture, CapturesNode, Case, CasesNode, CatchesNode, DeclaredNode, LinksNode,
-    ListNode, OpsNode, StepNode, StepsNode,
+    ListNode, NamesNode, OpsNode, PlacesNode, StepNode, StepsNode,
 };
 pub use nodes::{Node, Nodes};
 pub use program::{

@@ -50,11 +50,30 @@ pub enum OpsNode {
     More { before: u32, last: Op },
 }
 
-/// A label of a `switch`: its constant, or None for `default`, and how many statements stand before it.
+/// Locals that a folded constant names, in the order of their places.
+#[derive(Clone, Copy, Debug)]
+pub enum NamesNode {
+    Empty,
+    More {
+        before: u32,
+        place: Place,
+        local: u32,
+    },
+}
+
+#[derive(Clone, Copy, Debug)]
+pub enum PlacesNode {
+    Empty,
+    More { before: u32, last: Place },
+}
+
+/// A label of a `switch`: its constant, or None for `default`, how many statements stand before it, and the locals that the
+/// constant names.
 #[derive(Clone, Copy, Debug, PartialEq, Eq)]
 pub struct Case {
     pub key: Option<i32>,
     pub skips: u32,
+    pub named: u32,
 }
 
 #[derive(Clone, Copy, Debug)]

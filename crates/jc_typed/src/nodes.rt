@@ -1,11 +1,11 @@
 //! The arenas of typed trees.
 ghost use Rattle.std.specs.Prelude.{◌≡◌, ◌<◌, [], length, IfOk};
-ghost use Rattle.jc_typed.specs.Parts.{Below, BelowArms, BelowCaptures, BelowCases, BelowCatches, BelowDeclared, BelowExpr, BelowLinks, BelowList, BelowOperand, BelowOps, BelowSteps, BelowStmt, BelowVariable, Grows, arms_at, arms_of, captures_at, captures_of, cases_at, cases_of, catches_at, catches_of, constant_of, declared_at, declared_of, expr_at, expr_of, links_at, links_of, operand_at, operand_of, operands_at, operands_of, ops_at, ops_of, part_at, part_of, steps_at, steps_of, stmt_at, stmt_of, stmts_at, stmts_of, type_of, types_at, types_of, variable_at, variable_of};
+ghost use Rattle.jc_typed.specs.Parts.{Below, BelowArms, BelowCaptures, BelowCases, BelowCatches, BelowDeclared, BelowExpr, BelowLinks, BelowList, BelowNames, BelowOperand, BelowOps, BelowPlaces, BelowSteps, BelowStmt, BelowVariable, Grows, arms_at, arms_of, captures_at, captures_of, cases_at, cases_of, catches_at, catches_of, constant_of, declared_at, declared_of, expr_at, expr_of, links_at, links_of, names_at, names_of, operand_at, operand_of, operands_at, operands_of, ops_at, ops_of, part_at, part_of, places_at, places_of, steps_at, steps_of, stmt_at, stmt_of, stmts_at, stmts_of, type_of, types_at, types_of, variable_at, variable_of};
 
 use crate::expressions::{ExprNode, OperandNode, VariableNode};
 use crate::lists::{
-    ArmsNode, CapturesNode, CasesNode, CatchesNode, DeclaredNode, LinksNode, ListNode, OpsNode,
-    StepsNode,
+    ArmsNode, CapturesNode, CasesNode, CatchesNode, DeclaredNode, LinksNode, ListNode, NamesNode,
+    OpsNode, PlacesNode, StepsNode,
 };
 use crate::statements::{StmtForm, StmtNode};
 use jc_rules::{Place, WantOfMemory};
@@ -22,6 +22,8 @@ pub enum Node {
     Steps(StepsNode),
     Captures(CapturesNode),
     Ops(OpsNode),
+    Names(NamesNode),
+    Places(PlacesNode),
     Cases(CasesNode),
     Expr(ExprNode),
     Operand(OperandNode),
@@ -160,6 +162,26 @@ impl Nodes {
         ensures grows { Grows self.old self.new }
     {
         self.push(Node::Ops(node))
+    }
+
+    /// Adds a list of named locals, and tells its place.
+    pub fn push_names(&mut self, node: NamesNode) -> Result<u32, WantOfMemory>
+        requires { BelowNames (length self.old) node }
+        ensures value { IfOk result (λ at. names_of self.new at ≡ names_at self.old node) }
+        ensures within { IfOk result (λ at. at < length self.new) }
+        ensures grows { Grows self.old self.new }
+    {
+        self.push(Node::Names(node))
+    }
+
+    /// Adds a list of places in sources, and tells its place.
+    pub fn push_places(&mut self, node: PlacesNode) -> Result<u32, WantOfMemory>
+        requires { BelowPlaces (length self.old) node }
+        ensures value { IfOk result (λ at. places_of self.new at ≡ places_at self.old node) }
+        ensures within { IfOk result (λ at. at < length self.new) }
+        ensures grows { Grows self.old self.new }
+    {
+        self.push(Node::Places(node))
     }
 
     /// Adds a list of labels, and tells its place.
@@ -336,6 +358,28 @@ impl Nodes {
         }
     }
 
+    pub fn names(&self, at: u32) -> NamesNode
+        requires { at < length self.now }
+        ensures value { names_of self.now at ≡ names_at self.now result }
+        ensures below { BelowNames at result }
+    {
+        match self.get(at) {
+            Node::Names(node) => *node,
+            _ => NamesNode::Empty,
+        }
+    }
+
+    pub fn places(&self, at: u32) -> PlacesNode
+        requires { at < length self.now }
+        ensures value { places_of self.now at ≡ places_at self.now result }
+        ensures below { BelowPlaces at result }
+    {
+        match self.get(at) {
+            Node::Places(node) => *node,
+            _ => PlacesNode::Empty,
+        }
+    }
+
     pub fn cases(&self, at: u32) -> CasesNode
         requires { at < length self.now }
         ensures value { cases_of self.now at ≡ cases_at self.now result }
@@ -398,7 +442,10 @@ impl Nodes {
     {
         match self.get(at) {
             Node::Variable(node) => *node,
-            _ => VariableNode::Local { local: 0 },
+            _ => VariableNode::Local {
+                place: Place { file: 0, at: 0 },
+                local: 0,
+            },
         }
     }
 

@@ -98,10 +98,12 @@ pub struct Body {
     pub rest: u32,
 }
 
-/// A method. `entry_checks` tells how many of its parameters are checked where a call of an overridden method leads to it. An
-/// abstract or native method has no body.
+/// A method. `entry_checks` tells how many of its parameters are checked where a call of an overridden method leads to it: those
+/// whose erasure isn't that of the same parameter of some method that it overrides, directly or not, in its own class
+/// (JLS 8.4.8.1, 15.12.4.5). An abstract or native method has no body.
 #[derive(Drop)]
 pub struct TypedMethod {
+    pub id: MethodId,
     pub locals: Items<Local>,
     pub captured: Env,
     pub nodes: Nodes,

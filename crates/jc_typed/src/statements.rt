@@ -103,7 +103,8 @@ pub enum StmtForm {
         of: u32,
     },
 
-    /// `last` is the optional block behind `finally`, which stands `copies` times in the code (JLS 14.20).
+    /// `last` is the optional block behind `finally`, which stands `copies` times in the code, or more often where that is the
+    /// greatest number (JLS 14.20).
     Try {
         body: u32,
         catches: u32,
@@ -111,11 +112,14 @@ pub enum StmtForm {
         copies: u64,
     },
 
-    /// A call of a constructor by `this` or `super` (JLS 8.8.7.1).
+    /// A call of a constructor by `this` or `super` (JLS 8.8.7.1). `thrown` is as in a call; `is_raw` tells whether the superclass
+    /// that `super` names is raw.
     Construct {
         constructor: MethodId,
         args: u32,
         phase: Phase,
+        thrown: u32,
+        is_raw: bool,
     },
 
     /// The initialiser of a field (JLS 8.3.2).

@@ -1,0 +1,3 @@
+pub mod Descriptors
+pub mod Bridging
+pub mod Entering
