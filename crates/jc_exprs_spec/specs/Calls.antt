@@ -147,12 +147,13 @@ by_choice place c f = provided (choice_breaks place c) (by_rule 604 place)
 abbrev pub choice_of : World → List Bounds → Ty → List MethodView → List Ty → List Typed → Option Ty → Choice
 choice_of W env t ms explicit ts target = resolved W.table env (apart_site W.table t (site ms explicit ts target))
 
-abbrev pub chosen_among : {A : Type 0} → World → Place → Ty → List MethodView → List Ty → List Typed → Option Ty → (Chosen → Run A) → List Bounds → Run A
-chosen_among W place t ms explicit ts target f env =
-    provided (members_breaks place ms (accessible W t ms)) (by_choice place (choice_of W env t (accessible W t ms) explicit ts target) f)
+-- it is asked where there is such a member, and nothing else is broken before
+abbrev pub chosen_among : {A : Type 0} → World → Place → Ty → List Refusal → List MethodView → List Ty → List Typed → Option Ty → (Chosen → Run A) → List Bounds → Run A
+chosen_among W place t broken ms explicit ts target f env =
+    provided (broken ++ members_breaks place ms (accessible W t ms)) (by_choice place (choice_of W env t (accessible W t ms) explicit ts target) f)
 
-unfoldable pub choosing : {A : Type 0} → World → Place → Ty → List MethodView → List Ty → List Typed → Option Ty → (Chosen → Run A) → Run A
-choosing W place t ms explicit ts target f env = chosen_among W place t ms explicit ts target f env env
+unfoldable pub choosing : {A : Type 0} → World → Place → Ty → List Refusal → List MethodView → List Ty → List Typed → Option Ty → (Chosen → Run A) → Run A
+choosing W place t broken ms explicit ts target f env = chosen_among W place t broken ms explicit ts target f env env
 
 -- ---- the call (JLS 15.12.3)
 
@@ -255,8 +256,8 @@ called_with W place r ts c env = called_by W place r ts c env env
 -- a call of a method of this name, explicit type arguments being written or none
 unfoldable pub called : World → Place → Receiver → List ℕ → List TypeArg → List Typed → Option Ty → Run Typed
 called W place r n explicit ts target =
-    provided (unless (all_types W explicit) 623 place)
-    (choosing W place (searched W r) (members W.table (searched W r) n) (explicit_types W explicit) ts target (called_with W place r ts))
+    choosing W place (searched W r) (unless (all_types W explicit) 623 place) (members W.table (searched W r) n) (explicit_types W explicit) ts target
+    (called_with W place r ts)
 
 -- ---- which class or value is searched (JLS 15.12.1)
 

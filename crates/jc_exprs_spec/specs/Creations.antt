@@ -35,7 +35,8 @@ use Rattle.jc_convert.specs.Converting.{assignment, box, invocation, narrows}
 use Rattle.jc_resolve.specs.declared.choice.Choice.{Choice}
 use Rattle.jc_resolve.specs.declared.choice.Chosen.{Chosen}
 use Rattle.jc_resolve.specs.Choosing.{resolved}
-use Rattle.jc_resolve_sites.specs.Sites.{apart_site, constructor_ids, diamond_view, renamed_site}
+use Rattle.jc_resolve_sites.specs.Constructors.{constructor_ids, diamond_view}
+use Rattle.jc_resolve_sites.specs.Sites.{apart_site, renamed_site}
 use Rattle.jc_typed.specs.Trees.{Step, BoxUp, Up, Operand, Operands, NoOperands, MoreOperands, ArrayOf, Cast, Conditional, New, NewArray}
 use Rattle.jc_exprs_spec.specs.Told.{Run, fine, by_rule, breaking, onward, provided, unless, Spanned}
 use Rattle.jc_exprs_spec.specs.Typeds.{Typed, Known, node, fixed, type_of, known_of, constant_of, captured, of_kind, plain, stepped, converted, operands_of, steps_by, cast_steps_by, upwards, unconverted}

@@ -263,12 +263,14 @@ listed_as W place (Some t) os = listed W.table place t os
 
 -- ---- the steps of the fold
 
--- a creation by the place of `new`; an array initialiser and an initialiser by the type that is wanted
+-- a creation by the place of `new`, and an initialiser by the type that is wanted
 abbrev pub Created : Type 0
 Created = Place → Option Ty → Run Typed
 
-abbrev pub Listing : Type 0
-Listing = Option Ty → Run Typed
+-- an array initialiser: the place of its brace, and its array by the place at which that is created and the type that is wanted
+pub record Listing : Type 0 where
+  pub start : Place
+  pub run : Place → Option Ty → Run Typed
 
 abbrev pub Given : Type 0
 Given = Option Ty → Run Operated
@@ -285,21 +287,19 @@ creation_step W (Creation-F.Object class diamond actuals body) =
     λ place wanted. onward (every (runs actuals)) (λ ts. created W place (written_class W class) diamond wanted ts)
 creation_step W (Creation-F.Sized element first more dims) =
     λ place wanted. onward (every (runs (first ∷ more))) (λ ts. sized W.table place (with_dims (length more + 1 + dims) (written_base W element)) ts)
-creation_step W (Creation-F.Initialised element dims init) = λ place wanted. onward (init (Some (with_dims (dims + 1) (written_base W element)))) (created_array place)
-  where
-    created_array : Place → Typed → Run Typed
-    created_array place t = fine (record t { start = place; place = place })
+creation_step W (Creation-F.Initialised element dims init) = λ place wanted. init.run place (Some (with_dims (dims + 1) (written_base W element)))
 
 abbrev pub init_step : World → Init-F Created Node Given Further Listing → Given
 init_step W (Init-F.Value it) = λ wanted. given_to W wanted it
-init_step W (Init-F.Nested it) = λ wanted. onward (it wanted) (λ t. fine (plain t))
+init_step W (Init-F.Nested it) = λ wanted. onward (it.run it.start wanted) (λ t. fine (plain t))
 
 abbrev pub operand_step : Operand-F Created Node Given Further Listing → Further
 operand_step (Operand-F.Binary o right) = Binary o (right.run None)
 operand_step (Operand-F.InstanceOf ty) = InstanceOf ty
 
 abbrev pub array_step : World → ArrayInit-F Created Node Given Further Listing → Listing
-array_step W n = λ wanted. onward (every (givens (element_of_some wanted) n.inits)) (listed_as W (at W n.at) wanted)
+array_step W n =
+    record { start = at W n.at; run = λ place wanted. onward (every (givens (element_of_some wanted) n.inits)) (listed_as W place wanted) }
 
 abbrev pub expr_step : World → Expr-F Created Node Given Further Listing → Node
 expr_step W (Expr-F.Assign left o right) = value_node left.start (assignment W left (operator_of o) right)
@@ -376,7 +376,7 @@ constructed_with W place t ts c env =
 
 unfoldable pub constructed : World → Place → Ty → List Expr → Run StmtForm
 constructed W place t es =
-    onward (every (runs (map (made W) es))) (λ ts. choosing W place t (constructors W.table t false) [] ts None (constructed_with W place t ts))
+    onward (every (runs (map (made W) es))) (λ ts. choosing W place t [] (constructors W.table t false) [] ts None (constructed_with W place t ts))
 
 -- a node of the expression breaks this rule
 abbrev pub Breaks : World → Option Ty → List Bounds → Expr → Refusal → Type 0

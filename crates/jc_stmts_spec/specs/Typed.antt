@@ -11,9 +11,6 @@ use Rattle.jc_types.specs.declared.declarations.FieldDecl.{FieldDecl}
 use Rattle.jc_types.specs.declared.declarations.MethodDecl.{MethodDecl}
 use Rattle.jc_types.specs.declared.declarations.ParamName.{ParamName}
 use Rattle.jc_types.specs.declared.environment.Bounds.{Bounds}
-use Rattle.jc_types.specs.declared.erased.Base.{Base}
-use Rattle.jc_types.specs.declared.erased.Base.TheVariants as base
-use Rattle.jc_types.specs.declared.erased.Erased.{Erased}
 use Rattle.jc_types.specs.declared.form.Ty.{Ty}
 use Rattle.jc_types.specs.declared.form.Ty.TheVariants.{NullTy}
 use Rattle.jc_types.specs.declared.ids.ClassId.{ClassId}
@@ -22,8 +19,6 @@ use Rattle.jc_types.specs.declared.ids.MethodId.{MethodId}
 use Rattle.jc_types.specs.declared.table.Table.{Table}
 use Rattle.jc_types.specs.Accessors.{method_place_of, params_of, result_of}
 use Rattle.jc_types.specs.Breaks.{IsOf}
-use Rattle.jc_types.specs.Erasing.{erasure}
-use Rattle.jc_types.specs.Sameness.{prim_number}
 use Rattle.jc_overriding.specs.Viewing.{is_static, own_type}
 use Rattle.jc_overriding.specs.Overriding.{overrides, owner}
 use Rattle.jc_declares.specs.declared.heads.Heads.{Heads}
@@ -35,6 +30,7 @@ use Rattle.jc_typed.specs.declared.program.Local.{Local}
 use Rattle.jc_typed.specs.declared.program.TypedMethod.{TypedMethod}
 use Rattle.jc_typed.specs.Parts.{nowhere, stmt_of, stmts_of}
 use Rattle.jc_typed.specs.Trees.{Operand, NoOperand, Stmt, stmt, StmtForm, Block, Construct, Empty, Initialise, Stmts, NoStmts, MoreStmts}
+use Rattle.jc_bridges_spec.specs.Entering.{entry_checks}
 use Rattle.jc_exprs_spec.specs.Told.{Told, Fine, Broken, Out, Run, breaking, breaks, by_rule, fine, typed}
 use Rattle.jc_exprs_spec.specs.Constants.{constants_of}
 use Rattle.jc_exprs_spec.specs.Fields.{declared_field, is_static_field}
@@ -282,41 +278,6 @@ abbrev pub cycle_breaks : Table → Heads → Knowledge → List MethodBody → 
 cycle_breaks T H K calls b (WithThis n es) =
     cycle_at (place_in (early_world T H K b.method) n) (leads (next_in T H K calls) (length calls) (next_in T H K calls b.method) b.method)
 cycle_breaks T H K calls b _ = []
-
--- ---- parameters that are checked where a call of an overridden method leads to the body
-
-abbrev pub same_erased : Erased → Erased → Bool
-same_erased e f = same_base e.base f.base && (e.dims == f.dims)
-  where
-    same_base : Base → Base → Bool
-    same_base (base.Prim p) (base.Prim q) = prim_number p == prim_number q
-    same_base (base.Class j) (base.Class k) = j.0 == k.0
-    same_base base.NullTy base.NullTy = true
-    same_base _ _ = false
-
--- a parameter's erasure differs from that of the same parameter of a method
-abbrev pub differs_from : Table → ℕ → Ty → MethodId → Bool
-differs_from T i t n = not (same_as (slice_get (params_of T n) i))
-  where
-    same_as : Option Ty → Bool
-    same_as None = true
-    same_as (Some u) = same_erased (erasure T [] t) (erasure T [] u)
-
--- .. of some method that m overrides, where the methods are counted from j
-abbrev pub differs_in : Table → MethodId → ℕ → Ty → ℕ → List MethodDecl → Bool
-differs_in T m i t j [] = false
-differs_in T m i t j (d ∷ ds) = (overrides T m (record { 0 = j }) && differs_from T i t (record { 0 = j })) || differs_in T m i t (j + 1) ds
-
-abbrev pub one_if : Bool → ℕ
-one_if true = 1
-one_if false = 0
-
-abbrev pub checks_from : Table → MethodId → ℕ → List Ty → ℕ
-checks_from T m i [] = 0
-checks_from T m i (t ∷ ts) = one_if (differs_in T m i t 0 T.methods) + checks_from T m (i + 1) ts
-
-unfoldable pub entry_checks : Table → MethodId → ℕ
-entry_checks T m = checks_from T m 0 (params_of T m)
 
 -- ---- what is promised
 
