@@ -33,12 +33,12 @@ use Rattle.jc_resolve_sites.specs.Sites.{apart_site}
 use Rattle.jc_typed.specs.declared.expressions.CallKind.{CallKind}
 use Rattle.jc_typed.specs.declared.expressions.CallKind.TheVariants as kind
 use Rattle.jc_typed.specs.Trees.{Step, Up, Operand, operand, Operands, NoOperands, MoreOperands, ArrayOf, Call}
-use Rattle.jc_exprs_spec.specs.Told.{Run, fine, by_rule, breaking, onward, provided, unless}
-use Rattle.jc_exprs_spec.specs.Typeds.{Typed, Settled, node, type_of, tree, captured, plain, stepped, one_operand, steps_by, read_guard, use_guard, settled}
-use Rattle.jc_exprs_spec.specs.Fields.{is_raw_as, may_name_method}
-use Rattle.jc_exprs_spec.specs.Senses.{Sense, OfField, OfClass, OfPackage, OfNothing}
-use Rattle.jc_exprs_spec.specs.Worlds.{World, Ground, Instance, Static, Early, named_class, round, this_type, written_arg}
-use Rattle.jc_exprs_spec.specs.Names.{Meaning, Value, Other, class_erased, instance_breaks, super_type, this_at}
+use Rattle.jc_exprs_parts_spec.specs.Told.{Run, fine, by_rule, breaking, onward, provided, unless}
+use Rattle.jc_exprs_parts_spec.specs.Typeds.{Typed, Settled, node, type_of, tree, captured, plain, stepped, one_operand, steps_by, read_guard, use_guard, settled}
+use Rattle.jc_exprs_parts_spec.specs.Fields.{is_raw_as, may_name_method}
+use Rattle.jc_exprs_parts_spec.specs.Senses.{Sense, OfField, OfClass, OfPackage, OfNothing}
+use Rattle.jc_exprs_parts_spec.specs.Worlds.{World, Here, Instance, Static, Early, named_class, round, this_type, written_arg}
+use Rattle.jc_exprs_parts_spec.specs.Names.{Meaning, Value, Other, class_erased, instance_breaks, super_type, this_at}
 
 -- ---- explicit type arguments (JLS 15.12): types, no wildcards and no primitive types (623)
 
@@ -213,7 +213,7 @@ receiver_operands W env r m false = object_operand W env r m
 abbrev pub receiver_breaks : World → Place → Receiver → Bool → List Refusal
 receiver_breaks W place r true = []
 receiver_breaks W place (OnValue s) false = []
-receiver_breaks W place (OnThis at) false = instance_breaks W.ground place
+receiver_breaks W place (OnThis at) false = instance_breaks W.here place
 receiver_breaks W place (OnSuper at t) false = []
 receiver_breaks W place (OnClass k) false = breaking 611 place ∷ []
 receiver_breaks W place (OnOuter k) false = breaking 611 place ∷ []
@@ -289,4 +289,4 @@ super_called W place n explicit target ts (Some t) = called W place (OnSuper pla
 
 unfoldable pub call_super : World → Place → List ℕ → List TypeArg → Option Ty → List Typed → Run Typed
 call_super W place n explicit target ts =
-    provided (instance_breaks W.ground place) (super_called W place n explicit target ts (super_type W))
+    provided (instance_breaks W.here place) (super_called W place n explicit target ts (super_type W))

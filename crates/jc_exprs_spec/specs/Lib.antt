@@ -1,13 +1,3 @@
-pub mod Told
-pub mod Worlds
-pub mod Typeds
-pub mod Fields
-pub mod Operators
-pub mod Senses
-pub mod Constants
-pub mod Chains
-pub mod Assigning
-pub mod Names
 pub mod Calls
 pub mod Creations
 pub mod Typing

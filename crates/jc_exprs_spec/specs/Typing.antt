@@ -36,15 +36,16 @@ use Rattle.jc_types.specs.Breaks.{IsOf}
 use Rattle.jc_overriding.specs.Viewing.{with_dims}
 use Rattle.jc_typed.specs.Trees.{Operand as Operated, NoOperands, ArrayOf, Null, StmtForm, Construct}
 use Rattle.jc_resolve.specs.declared.choice.Chosen.{Chosen}
-use Rattle.jc_exprs_spec.specs.Told.{Run, fine, by_rule, breaks, both, feeding, onward, every, provided, unless, Spanned, spanned}
-use Rattle.jc_exprs_spec.specs.Typeds.{Typed, node, fixed, is_void, operands_of, plain, Known}
-use Rattle.jc_exprs_spec.specs.Operators.{string_type}
-use Rattle.jc_exprs_spec.specs.Chains.{Joined, Whole, whole, joining, tested, Signed, Unsigned, signed, signing}
-use Rattle.jc_exprs_spec.specs.Assigning.{Target, changed, compound, stored}
-use Rattle.jc_exprs_spec.specs.Names.{Located, Meaning, Value, element_of, first_meant, located_behind, next_meant, simple_located, super_member, target_of, this_value, value_of}
+use Rattle.jc_exprs_parts_spec.specs.Told.{Run, fine, by_rule, breaks, both, feeding, onward, every, provided, unless, Spanned, spanned}
+use Rattle.jc_exprs_parts_spec.specs.Typeds.{Typed, node, fixed, is_void, operands_of, plain, Known}
+use Rattle.jc_exprs_parts_spec.specs.Operators.{string_type}
+use Rattle.jc_exprs_parts_spec.specs.Chains.{Joined, Whole, whole, joining, tested, Signed, Unsigned, signed, signing}
+use Rattle.jc_exprs_parts_spec.specs.Assigning.{Target, changed, compound, stored}
+use Rattle.jc_exprs_parts_spec.specs.Names.{Located, Meaning, Value, element_of, first_meant, located_behind, next_meant, simple_located, super_member, target_of, this_value, value_of}
 use Rattle.jc_exprs_spec.specs.Calls.{arguments, call_here, call_on, call_super, choosing}
-use Rattle.jc_exprs_spec.specs.Creations.{assigned, cast_to, chosen, constructors, created, is_raw_type, listed, sized}
-use Rattle.jc_exprs_spec.specs.Worlds.{World, at, written, written_base, written_class}
+use Rattle.jc_exprs_parts_spec.specs.Values.{assigned, cast_to, chosen, listed, sized}
+use Rattle.jc_exprs_spec.specs.Creations.{constructors, created, is_raw_type}
+use Rattle.jc_exprs_parts_spec.specs.Worlds.{World, at, written, written_base, written_class}
 
 -- What is made of an expression: where it begins; its typing, by the type that its value is assigned to, if it is; the same of an expression that is a
 -- statement, which may be a call without a result (JLS 14.8), and of the operand of a minus (JLS 3.10.1); what it means before a point (JLS 6.5); and the

@@ -21,7 +21,7 @@ use Rattle.jc_declares.specs.declared.heads.Heads.{Heads}
 use Rattle.jc_declares.specs.declared.unit.SourceUnit.{SourceUnit}
 use Rattle.jc_declares.specs.Heads.{Named, types_of_unit}
 use Rattle.jc_declares.specs.Making.{class_id}
-use Rattle.jc_exprs_spec.specs.Fields.{is_static_field}
+use Rattle.jc_exprs_parts_spec.specs.Fields.{is_static_field}
 
 -- ---- what a body consists of
 

@@ -37,13 +37,13 @@ use Rattle.jc_convert.specs.Converting.{assignment, invocation}
 use Rattle.jc_typed.specs.declared.lists.Capture.{Capture}
 use Rattle.jc_typed.specs.declared.program.Local.{Local}
 use Rattle.jc_typed.specs.Trees.{Expr as Tree, NoExpr, expr, Step, Unbox, Operand, NoOperand, operand, Named}
-use Rattle.jc_exprs_spec.specs.Told.{Told, Fine, Broken, Out, Run, fine, by_rule, breaking, breaks, typed, both, onward, provided, unless}
-use Rattle.jc_exprs_spec.specs.Typeds.{Typed, Known, Kind, Settled, capturing, settled, type_of, known_of, known_in, constant_of, plain, bare, stepped, converted, steps_by, read_guard, use_guard, unconverted}
-use Rattle.jc_exprs_spec.specs.Assigning.{exact_primitive}
-use Rattle.jc_exprs_spec.specs.Constants.{constant_as}
-use Rattle.jc_exprs_spec.specs.Names.{array_operand, class_erased}
+use Rattle.jc_exprs_parts_spec.specs.Told.{Told, Fine, Broken, Out, Run, fine, by_rule, breaking, breaks, typed, both, onward, provided, unless}
+use Rattle.jc_exprs_parts_spec.specs.Typeds.{Typed, Known, Kind, Settled, capturing, settled, type_of, known_of, known_in, constant_of, plain, bare, stepped, converted, steps_by, read_guard, use_guard, unconverted}
+use Rattle.jc_exprs_parts_spec.specs.Assigning.{exact_primitive}
+use Rattle.jc_exprs_parts_spec.specs.Constants.{constant_as}
+use Rattle.jc_exprs_parts_spec.specs.Names.{array_operand, class_erased}
 use Rattle.jc_exprs_spec.specs.Typing.{effect, initialised, typing}
-use Rattle.jc_exprs_spec.specs.Worlds.{World, LocalIn, at, written, written_class}
+use Rattle.jc_exprs_parts_spec.specs.Worlds.{World, LocalIn, at, written, written_class}
 use Rattle.jc_stmts_spec.specs.Plans.{Item, Enter, Leave, Declare, Fill, Ask, Label, Each, Caught, Parameter, Fault, Want, Effect, Truth, Result, Nowhere, Selector, Thrown}
 
 -- ---- answers

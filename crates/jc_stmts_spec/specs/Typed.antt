@@ -31,12 +31,12 @@ use Rattle.jc_typed.specs.declared.program.TypedMethod.{TypedMethod}
 use Rattle.jc_typed.specs.Parts.{nowhere, stmt_of, stmts_of}
 use Rattle.jc_typed.specs.Trees.{Operand, NoOperand, Stmt, stmt, StmtForm, Block, Construct, Empty, Initialise, Stmts, NoStmts, MoreStmts}
 use Rattle.jc_bridges_spec.specs.Entering.{entry_checks}
-use Rattle.jc_exprs_spec.specs.Told.{Told, Fine, Broken, Out, Run, breaking, breaks, by_rule, fine, typed}
-use Rattle.jc_exprs_spec.specs.Constants.{constants_of}
-use Rattle.jc_exprs_spec.specs.Fields.{declared_field, is_static_field}
-use Rattle.jc_exprs_spec.specs.Names.{super_type}
+use Rattle.jc_exprs_parts_spec.specs.Told.{Told, Fine, Broken, Out, Run, breaking, breaks, by_rule, fine, typed}
+use Rattle.jc_exprs_parts_spec.specs.Constants.{constants_of}
+use Rattle.jc_exprs_parts_spec.specs.Fields.{declared_field, is_static_field}
+use Rattle.jc_exprs_parts_spec.specs.Names.{super_type}
 use Rattle.jc_exprs_spec.specs.Typing.{constructed, initialised}
-use Rattle.jc_exprs_spec.specs.Worlds.{World, Ground, Instance, Static, Early, Initialising, LocalIn, this_type}
+use Rattle.jc_exprs_parts_spec.specs.Worlds.{World, Here, Instance, Static, Early, Initialising, LocalIn, this_type}
 use Rattle.jc_stmts_spec.specs.Assembling.{Made, assemble}
 use Rattle.jc_stmts_spec.specs.Bodies.{Begins, WithThis, WithSuper, WithImplied, WithNone, Initialiser, OfField, OfBlock, MethodBody}
 use Rattle.jc_stmts_spec.specs.Courses.{Course, items_on}
@@ -52,12 +52,12 @@ abbrev pub class_scope_in : Option ClassDecl → ℕ
 class_scope_in (Some c) = c.scope.0
 class_scope_in None = 0
 
-abbrev pub ground_if : Bool → Ground
-ground_if true = Static
-ground_if false = Instance
+abbrev pub here_if : Bool → Here
+here_if true = Static
+here_if false = Instance
 
-abbrev pub world_at : Table → Heads → Knowledge → ClassId → ℕ → Ground → Option Initialising → List LocalIn → World
-world_at T H K k scope ground i ls =
+abbrev pub world_at : Table → Heads → Knowledge → ClassId → ℕ → Here → Option Initialising → List LocalIn → World
+world_at T H K k scope here i ls =
     record {
       table = T;
       heads = H;
@@ -65,19 +65,19 @@ world_at T H K k scope ground i ls =
       constants = constants_of T H K;
       class = k;
       scope = scope;
-      ground = ground;
+      here = here;
       initialising = i;
       locals = ls;
     }
 
 -- in a method, with the locals in scope; among the arguments of the call that a constructor begins with there is no instance yet
-abbrev pub method_world : Table → Heads → Knowledge → MethodId → Ground → List LocalIn → World
-method_world T H K m ground ls = world_at T H K (owner T m) (method_scope_in (slice_get T.methods m.0)) ground None ls
+abbrev pub method_world : Table → Heads → Knowledge → MethodId → Here → List LocalIn → World
+method_world T H K m here ls = world_at T H K (owner T m) (method_scope_in (slice_get T.methods m.0)) here None ls
 
 -- in an initialiser of a class
 abbrev pub initialiser_world : Table → Heads → Knowledge → ClassId → Bool → Option FieldId → List LocalIn → World
 initialiser_world T H K k is_static f ls =
-    world_at T H K k (class_scope_in (slice_get T.classes k.0)) (ground_if is_static) (Some (record { is_static = is_static; field = f })) ls
+    world_at T H K k (class_scope_in (slice_get T.classes k.0)) (here_if is_static) (Some (record { is_static = is_static; field = f })) ls
 
 -- ---- the first locals: `this` of an instance, and then the parameters
 
@@ -218,7 +218,7 @@ method_jumps T m = record { round = []; returns = returns_of (result_of T m) }
 
 abbrev pub rest_course : Table → Heads → Knowledge → MethodBody → Course → Course
 rest_course T H K b c =
-    items_on (method_world T H K b.method (ground_if (is_static T b.method))) (result_of T b.method) (opened (param_scope T b.method) c)
+    items_on (method_world T H K b.method (here_if (is_static T b.method))) (result_of T b.method) (opened (param_scope T b.method) c)
     (enclosed (plan (method_jumps T b.method) b.rest))
 
 abbrev pub rest_stmt : Table → MethodBody → Course → Stmt

@@ -29,9 +29,9 @@ use Rattle.jc_convert.specs.Converting.{assignment, narrows}
 use Rattle.jc_folding.specs.Folding.{as_constant, fold, given_constant}
 use Rattle.jc_declares.specs.declared.heads.Heads.{Heads}
 use Rattle.jc_declares.specs.Looking.{Knowledge}
-use Rattle.jc_exprs_spec.specs.Operators.{is_string, prefix_on, promoted_both, string_type}
-use Rattle.jc_exprs_spec.specs.Senses.{Sense, OfField, simple_sense, next_senses}
-use Rattle.jc_exprs_spec.specs.Worlds.{World, Instance, constant_field}
+use Rattle.jc_exprs_parts_spec.specs.Operators.{is_string, prefix_on, promoted_both, string_type}
+use Rattle.jc_exprs_parts_spec.specs.Senses.{Sense, OfField, simple_sense, next_senses}
+use Rattle.jc_exprs_parts_spec.specs.Worlds.{World, Instance, constant_field}
 
 -- ---- operators on constants
 
@@ -175,7 +175,7 @@ assigned_constant T t c = if_converted T t c (assignment T [] (type_of_constant 
 -- where a field's initialiser stands
 abbrev pub field_world : Table → Heads → Knowledge → List (Option Constant) → ClassId → ℕ → World
 field_world T H K cs k scope =
-    record { table = T; heads = H; knowledge = K; constants = cs; class = k; scope = scope; ground = Instance; initialising = None; locals = [] }
+    record { table = T; heads = H; knowledge = K; constants = cs; class = k; scope = scope; here = Instance; initialising = None; locals = [] }
 
 -- a field's value, where those of some fields are known
 abbrev pub field_value : Table → Heads → Knowledge → List (Option Constant) → FieldDecl → FieldValue → Option Constant

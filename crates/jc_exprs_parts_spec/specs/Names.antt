@@ -20,12 +20,12 @@ use Rattle.jc_types.specs.Erasing.{erasure}
 use Rattle.jc_convert.specs.declared.answer.Converts.{Converts}
 use Rattle.jc_convert.specs.Converting.{invocation}
 use Rattle.jc_typed.specs.Trees.{Operand, Operands, NoOperands, Variable, LocalVariable, StaticVariable, FieldVariable, ElementVariable, Fixed, Local, This, StaticField, Field, Element, Length}
-use Rattle.jc_exprs_spec.specs.Told.{Run, fine, by_rule, breaking, onward, provided, unless}
-use Rattle.jc_exprs_spec.specs.Typeds.{Typed, Known, Settled, node, fixed, type_of, captured, plain, converted, stepped, one_operand, read_guard, use_guard, unconverted, settled}
-use Rattle.jc_exprs_spec.specs.Fields.{class_fields, declared_field, field_class, field_erasure, field_in, fields_named, is_raw_as, is_static_field, may_name_field}
-use Rattle.jc_exprs_spec.specs.Senses.{Sense, OfField, OfClass, OfPackage, OfNothing, simple_sense, next_sense, may_name_class}
-use Rattle.jc_exprs_spec.specs.Worlds.{World, Ground, Instance, Static, Early, LocalIn, Initialising, constant_field, local_named, named_class, this_type}
-use Rattle.jc_exprs_spec.specs.Assigning.{Target}
+use Rattle.jc_exprs_parts_spec.specs.Told.{Run, fine, by_rule, breaking, onward, provided, unless}
+use Rattle.jc_exprs_parts_spec.specs.Typeds.{Typed, Known, Settled, node, fixed, type_of, captured, plain, converted, stepped, one_operand, read_guard, use_guard, unconverted, settled}
+use Rattle.jc_exprs_parts_spec.specs.Fields.{class_fields, declared_field, field_class, field_erasure, field_in, fields_named, is_raw_as, is_static_field, may_name_field}
+use Rattle.jc_exprs_parts_spec.specs.Senses.{Sense, OfField, OfClass, OfPackage, OfNothing, simple_sense, next_sense, may_name_class}
+use Rattle.jc_exprs_parts_spec.specs.Worlds.{World, Here, Instance, Static, Early, LocalIn, Initialising, constant_field, local_named, named_class, this_type}
+use Rattle.jc_exprs_parts_spec.specs.Assigning.{Target}
 
 -- ---- what is found
 
@@ -134,7 +134,7 @@ target_of W l env = target_by W l env env
 
 -- ---- this (JLS 15.8.3, 8.8.7.1): 611 in a static place, 620 before there is an instance
 
-abbrev pub instance_breaks : Ground → Place → List Refusal
+abbrev pub instance_breaks : Here → Place → List Refusal
 instance_breaks Instance place = []
 instance_breaks Static place = breaking 611 place ∷ []
 instance_breaks Early place = breaking 620 place ∷ []
@@ -143,7 +143,7 @@ abbrev pub this_at : World → Place → Typed
 this_at W place = node place (this_type W) This
 
 abbrev pub this_value : World → Place → Run Typed
-this_value W place = provided (instance_breaks W.ground place) (fine (this_at W place))
+this_value W place = provided (instance_breaks W.here place) (fine (this_at W place))
 
 -- ---- fields of a value (JLS 15.11.1)
 
@@ -200,7 +200,7 @@ super_by W place n None = by_rule 603 place
 super_by W place n (Some t) = member_of W place n (record { it = this_at W place; ty = t })
 
 unfoldable pub super_member : World → Place → List ℕ → Run Located
-super_member W place n = provided (instance_breaks W.ground place) (super_by W place n (super_type W))
+super_member W place n = provided (instance_breaks W.here place) (super_by W place n (super_type W))
 
 -- ---- elements (JLS 15.13): 617 at what is no array, 607 at an index that isn't promoted to int
 
@@ -227,7 +227,7 @@ element_of W a i = onward (settled W.table a) (indexed W.table i)
 
 -- a field of the class of the place, or a static one of a class round it
 abbrev pub own_breaks : World → Place → Bool → FieldId → List Refusal
-own_breaks W place true f = if is_static_field W.table f then [] else instance_breaks W.ground place
+own_breaks W place true f = if is_static_field W.table f then [] else instance_breaks W.here place
 own_breaks W place false f = unless (is_static_field W.table f) 611 place
 
 abbrev pub own_field : World → Place → ClassId → FieldId → FieldAt

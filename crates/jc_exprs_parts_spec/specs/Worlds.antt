@@ -26,10 +26,10 @@ use Rattle.jc_declares.specs.Writing.{Reading, wrote_arg, wrote_base, wrote_clas
 
 -- whether there is an instance of the class: none in a static place (JLS 8.1.3), and none yet among the arguments of a constructor's call of
 -- another constructor (JLS 8.8.7.1)
-pub data Ground : Type 0 where
-  Instance : Ground
-  Static : Ground
-  Early : Ground
+pub data Here : Type 0 where
+  Instance : Here
+  Static : Here
+  Early : Here
 
 -- a local variable or parameter in scope, by its number in the method; one that is a constant variable has its value (JLS 4.12.4)
 pub record LocalIn : Type 0 where
@@ -52,7 +52,7 @@ pub record World : Type 0 where
   pub constants : List (Option Constant)
   pub class : ClassId
   pub scope : ℕ
-  pub ground : Ground
+  pub here : Here
   pub initialising : Option Initialising
   pub locals : List LocalIn
 
@@ -63,12 +63,12 @@ at W n = record { file = class_file W.heads W.class.0; at = n }
 
 -- ---- types that are written there (JLS 6.5.5): a class's type variables may not be named in a static place
 
-abbrev pub is_static_ground : Ground → Bool
-is_static_ground Static = true
-is_static_ground _ = false
+abbrev pub is_static_here : Here → Bool
+is_static_here Static = true
+is_static_here _ = false
 
 abbrev pub reading : World → Reading
-reading W = reading_of W.heads W.knowledge W.scope (is_static_ground W.ground || is_interface W.heads W.class.0)
+reading W = reading_of W.heads W.knowledge W.scope (is_static_here W.here || is_interface W.heads W.class.0)
 
 abbrev pub written : World → TypeTree → Ty
 written W tree = (wrote_type W.heads W.knowledge (reading W) tree).ty

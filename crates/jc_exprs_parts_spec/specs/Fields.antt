@@ -22,7 +22,7 @@ use Rattle.jc_overriding.specs.Viewing.{Seeing, With, Raised, plain, seeing_of}
 use Rattle.jc_overriding.specs.Overriding.{is_open_to}
 use Rattle.jc_declares.specs.Heads.{top_of_class}
 use Rattle.jc_declares.specs.Looking.{body_asker, is_accessible, is_open}
-use Rattle.jc_exprs_spec.specs.Worlds.{World}
+use Rattle.jc_exprs_parts_spec.specs.Worlds.{World}
 
 -- ---- the fields of a name that a class has
 

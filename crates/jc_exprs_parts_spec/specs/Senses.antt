@@ -8,8 +8,8 @@ use Rattle.jc_types.specs.Names.{named}
 use Rattle.jc_declares.specs.Heads.{types_of_package}
 use Rattle.jc_declares.specs.Looking.{Look, Meaning, AClass, AVariable, body_asker, is_accessible, member}
 use Rattle.jc_declares.specs.Making.{class_id}
-use Rattle.jc_exprs_spec.specs.Fields.{class_fields}
-use Rattle.jc_exprs_spec.specs.Worlds.{World, reading, round}
+use Rattle.jc_exprs_parts_spec.specs.Fields.{class_fields}
+use Rattle.jc_exprs_parts_spec.specs.Worlds.{World, reading, round}
 
 -- fields as members of a class, where it is told whether that is the class of the place; a class; a package; or what is no value, no class and no package
 pub data Sense : Type 0 where

@@ -17,7 +17,7 @@ use Rattle.jc_types.specs.declared.table.Table.{Table}
 use Rattle.jc_types.specs.Accessors.{variable_count, vars_of, result_of}
 use Rattle.jc_types.specs.Erasing.{erasure, variable_bounds}
 use Rattle.jc_types.specs.Reifying.{reifiable}
-use Rattle.jc_judge.specs.Capturing.{capture, capture_one, meeting}
+use Rattle.jc_judge.specs.Capturing.{capture, meeting}
 use Rattle.jc_judge.specs.Kinds.{Layer, ArgLayer, is_null}
 use Rattle.jc_judge.specs.Meeting.{as_one, flattened, parts_at}
 use Rattle.jc_lub.specs.Distinct.{erased_below}
@@ -28,7 +28,7 @@ use Rattle.jc_running.specs.declared.seen.Check.{Check}
 use Rattle.jc_running.specs.declared.seen.Check.TheVariants as check
 use Rattle.jc_typed.specs.declared.lists.Capture.{Capture}
 use Rattle.jc_typed.specs.Trees.{Step, Widen, Narrow, BoxUp, Unbox, Up, Test, Expr, expr, Operand, operand, Operands, NoOperands, MoreOperands, Form, Fixed, Call, Named}
-use Rattle.jc_exprs_spec.specs.Told.{Fine, Broken, Out, Run, fine, onward, by_rule, breaking, provided}
+use Rattle.jc_exprs_parts_spec.specs.Told.{Fine, Broken, Out, Run, fine, onward, by_rule, breaking, provided}
 
 -- An expression that has a typing: `start` is its first token, and `place` the first one inside of the parentheses round it; `ty` is its type, and
 -- `captures` are the variables of its capture. `lead` is what its value goes through wherever it stands, but in a statement of its own.
@@ -129,15 +129,27 @@ or_int None = Int
 abbrev pub upwards : Table → List Bounds → Bool → Ty → Ty → List Step
 upwards T env unchecked s t = Up t (unchecked && not (reifiable T t)) ∷ use_guard T env s (erasure T env t)
 
--- the steps of a conversion from s, by the types that they lead through
+-- a step of a conversion from s, and the type that it leads to
+abbrev pub turned : Table → List Bounds → Bool → Ty → Turn → List Step
+turned T env u s (turn.Widen q) = Widen q ∷ []
+turned T env u s (turn.Narrow q) = Narrow q ∷ []
+turned T env u s turn.BoxUp = BoxUp (primitive_at (out-Ty s)) ∷ []
+turned T env u s turn.Unbox = Unbox (or_int (unboxed T env s)) ∷ []
+turned T env u s (turn.Up t) = upwards T env u s t
+turned T env u s (turn.Check t) = Test check.WrittenCast (erasure T env t) ∷ []
+
+abbrev pub turned_to : Table → List Bounds → Ty → Turn → Ty
+turned_to T env s (turn.Widen q) = Prim q
+turned_to T env s (turn.Narrow q) = Prim q
+turned_to T env s turn.BoxUp = box T (primitive_at (out-Ty s))
+turned_to T env s turn.Unbox = Prim (or_int (unboxed T env s))
+turned_to T env s (turn.Up t) = t
+turned_to T env s (turn.Check t) = t
+
+-- all steps of it
 abbrev pub led : Table → List Bounds → Bool → Ty → List Turn → List Step
 led T env u s [] = []
-led T env u s (turn.Widen q ∷ more) = Widen q ∷ led T env u (Prim q) more
-led T env u s (turn.Narrow q ∷ more) = Narrow q ∷ led T env u (Prim q) more
-led T env u s (turn.BoxUp ∷ more) = BoxUp (primitive_at (out-Ty s)) ∷ led T env u (box T (primitive_at (out-Ty s))) more
-led T env u s (turn.Unbox ∷ more) = Unbox (or_int (unboxed T env s)) ∷ led T env u (Prim (or_int (unboxed T env s))) more
-led T env u s (turn.Up t ∷ more) = upwards T env u s t ++ led T env u t more
-led T env u s (turn.Check t ∷ more) = Test check.WrittenCast (erasure T env t) ∷ led T env u t more
+led T env u s (t ∷ ts) = turned T env u s t ++ led T env u (turned_to T env s t) ts
 
 -- .. where there is a conversion; else nothing is asked of them
 abbrev pub steps_by : Table → List Bounds → Ty → Converts → List Step
@@ -194,7 +206,7 @@ named_one T n _ = []
 
 abbrev pub named_parts : Table → ℕ → List Ty → List Capture
 named_parts T n [] = []
-named_parts T n (t ∷ ts) = named_one T n (out-Ty t) ++ named_parts T (n + length (capture_one T n t).fresh) ts
+named_parts T n (t ∷ ts) = let here = named_one T n (out-Ty t) in here ++ named_parts T (n + length here) ts
 
 abbrev pub named_in : Table → ℕ → Layer → List Capture
 named_in T n (Ty-F.Meet parts) = named_parts T n parts

@@ -19,10 +19,10 @@ use Rattle.jc_convert.specs.Converting.{assignment, invocation}
 use Rattle.jc_typed.specs.declared.expressions.Joint.{Joint}
 use Rattle.jc_typed.specs.declared.expressions.Joint.TheVariants as joint
 use Rattle.jc_typed.specs.Trees.{Step, Narrow, BoxUp, Variable, Assign, Compound, Change}
-use Rattle.jc_exprs_spec.specs.Told.{Run, fine, by_rule, breaking, provided, unless}
-use Rattle.jc_exprs_spec.specs.Typeds.{Typed, type_of, constant_of, node, captured, converted, stepped, steps_by, read_guard, use_guard, unconverted}
-use Rattle.jc_exprs_spec.specs.Operators.{Takes, Verdict, Taken, Refused, Unknown, taken, promoted}
-use Rattle.jc_exprs_spec.specs.Chains.{steps_to}
+use Rattle.jc_exprs_parts_spec.specs.Told.{Run, fine, by_rule, breaking, provided, unless}
+use Rattle.jc_exprs_parts_spec.specs.Typeds.{Typed, type_of, constant_of, node, captured, converted, stepped, steps_by, read_guard, use_guard, unconverted}
+use Rattle.jc_exprs_parts_spec.specs.Operators.{Takes, Verdict, Taken, Refused, Unknown, taken, promoted}
+use Rattle.jc_exprs_parts_spec.specs.Chains.{steps_to}
 
 -- A variable: where it begins, with and without the parentheses round it; its type as its receiver has it, without capture; the erasure of its declared
 -- type; and whether it is a field that is named simply before its declaration, which may be assigned there but not read (JLS 8.3.2.3).

@@ -1,0 +1,3 @@
+pub mod Walking
+mod Named
+mod Counted

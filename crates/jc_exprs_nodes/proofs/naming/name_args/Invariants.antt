@@ -1,0 +1,14 @@
+use Rattle.std.proofs.Common.{◌≡◌, ◌+◌, ◌<◌, ◌++◌, length}
+use Rattle.jc_typed.specs.Parts.{captures_of, Grows}
+use Rattle.jc_exprs_parts_spec.specs.Typeds.{named_args}
+use Rattle.jc_exprs_nodes.proofs.naming.name_args.Given as goal
+
+abbrev pub invariant-loop-rest : goal.invariant-loop-rest
+invariant-loop-rest l =
+    (captures_of l.nodes l.named.list ++ named_args l.class l.named.next l.at l.rest ≡ captures_of l.fn.nodes l.start.list ++ named_args l.class l.start.next 0 l.args)
+    × (l.named.next + length (named_args l.class l.named.next l.at l.rest) ≡ l.start.next + length (named_args l.class l.start.next 0 l.args))
+    × (l.named.list < length l.nodes)
+    × Grows l.fn.nodes l.nodes
+
+abbrev pub decreases-loop-rest : goal.decreases-loop-rest
+decreases-loop-rest l = length l.rest

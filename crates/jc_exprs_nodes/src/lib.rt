@@ -1,0 +1,15 @@
+//! Nodes of typed expressions: what each form of the typing of bodies calls to break a rule, to see a typed part, to capture, and to convert.
+#![tactic(auto)]
+
+mod breaking;
+mod kinds;
+mod naming;
+mod parts;
+mod stepping;
+mod walk;
+
+pub use breaking::{broken, refusal};
+pub use kinds::{captured, capturing};
+pub use parts::part;
+pub use stepping::{Judging, push_read_guard, push_upwards, push_use_guard};
+pub use walk::{KindAt, Part, Walk};
