@@ -2,7 +2,7 @@
 use Rattle.std.proofs.Common.{◌≡◌, refl, List, [], ◌∷◌, ◌++◌}
 use Rattle.jc_types.specs.declared.form.Ty.{Ty}
 use Rattle.jc_typed.specs.Trees.{Step}
-use Rattle.jc_exprs_parts_spec.specs.Typeds.{behind, up_by}
+use Rattle.jc_exprs_nodes_spec.specs.Typeds.{behind, up_by}
 
 pub behind_more : (t : Ty) (ss : List Step) (s : Step) → behind t (ss ++ s ∷ []) ≡ up_by (behind t ss) s
 behind_more t [] s = refl

@@ -1,3 +1,4 @@
 pub mod Walking
 mod Named
 mod Counted
+mod Leading

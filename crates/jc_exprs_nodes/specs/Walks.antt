@@ -5,8 +5,8 @@ use Rattle.jc_types.specs.declared.form.Ty.TheVariants.{NullTy}
 use Rattle.jc_typed.specs.declared.nodes.Node.{Node}
 use Rattle.jc_typed.specs.Trees.{Expr, NoExpr, expr, Operand, NoOperand, operand, Null, Step}
 use Rattle.jc_typed.specs.Parts.{captures_of, expr_of, nowhere, operand_of, steps_of, type_of}
-use Rattle.jc_exprs_parts_spec.specs.Told.{Standing, standing}
-use Rattle.jc_exprs_parts_spec.specs.Typeds.{Typed, Kind, plain, tree, type_of as counted_type}
+use Rattle.jc_exprs_nodes_spec.specs.Told.{Standing, standing}
+use Rattle.jc_exprs_nodes_spec.specs.Typeds.{Typed, Kind, plain, tree, type_of as counted_type}
 use Rattle.jc_exprs_nodes.specs.declared.walk.Walk.{Walk}
 use Rattle.jc_exprs_nodes.specs.declared.walk.KindAt.{KindAt}
 use Rattle.jc_exprs_nodes.specs.declared.walk.Part.{Part}

@@ -2,8 +2,8 @@
 ghost use Rattle.std.specs.Prelude.{◌≡◌, ◌<◌, length, IfOk, OnOk, IsTrue};
 ghost use Rattle.jc_rules.specs.Rules.{is_rule};
 ghost use Rattle.jc_typed.specs.Parts.{Grows};
-ghost use Rattle.jc_exprs_parts_spec.specs.Told.{breaking, by_rule, ran};
-ghost use Rattle.jc_exprs_parts_spec.specs.Typeds.{Typed};
+ghost use Rattle.jc_exprs_nodes_spec.specs.Told.{breaking, by_rule, ran};
+ghost use Rattle.jc_exprs_nodes_spec.specs.Typeds.{Typed};
 ghost use Rattle.jc_exprs_nodes.specs.Walks.{has, now};
 
 use crate::walk::Walk;
@@ -24,7 +24,7 @@ pub fn refusal(number: u16, place: Place) -> Refusal
 }
 
 /// A node that breaks a rule: the walk keeps the least break, and nothing stands for the node.
-#[tactic(auto, unfolding(jc_exprs_parts_spec::specs::Told::ran, crate::specs::Walks::typed_in))]
+#[tactic(auto, unfolding(jc_exprs_nodes_spec::specs::Told::ran, crate::specs::Walks::typed_in))]
 pub fn broken(walk: &mut Walk, number: u16, place: Place) -> Result<u32, WantOfMemory>
     requires { IsTrue (is_rule number) }
     ensures state { OnOk result ((ran (by_rule {A = Typed} number place) (now walk.old)).state ≡ now walk.new) }

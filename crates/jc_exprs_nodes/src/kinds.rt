@@ -1,8 +1,8 @@
 //! Capture, anew at each occurrence (JLS 5.1.10).
 ghost use Rattle.std.specs.Prelude.{◌≡◌, ◌<◌, length, IfOk, OnOk};
 ghost use Rattle.jc_typed.specs.Parts.{BelowForm, form_over, Grows, parts, steps_of};
-ghost use Rattle.jc_exprs_parts_spec.specs.Told.{ran};
-ghost use Rattle.jc_exprs_parts_spec.specs.Typeds.{captured, capturing};
+ghost use Rattle.jc_exprs_nodes_spec.specs.Told.{ran};
+ghost use Rattle.jc_exprs_nodes_spec.specs.Typeds.{captured, capturing};
 ghost use Rattle.jc_exprs_nodes.specs.Walks.{has, has_kind, KindBelow, now};
 
 use crate::breaking::refusal;
@@ -15,7 +15,7 @@ use jc_types::{Table, Ty, sooner};
 use std::alloc::Global;
 
 /// A type after capture; none where two unrelated classes meet (624).
-#[tactic(auto, using(jc_typed::proofs::Growing::growing), unfolding(jc_exprs_parts_spec::specs::Told::ran, jc_exprs_parts_spec::specs::Typeds::capturing))]
+#[tactic(auto, using(jc_typed::proofs::Growing::growing), unfolding(jc_exprs_nodes_spec::specs::Told::ran, jc_exprs_nodes_spec::specs::Typeds::capturing))]
 pub fn capturing(
     alloc: Global,
     table: &Table,
@@ -44,7 +44,7 @@ pub fn capturing(
 }
 
 /// An expression of a type that is captured there, with what its value goes through; nothing where two classes meet.
-#[tactic(auto, using(jc_typed::proofs::Growing::growing, jc_exprs_parts_spec::proofs::Runs::runs, crate::proofs::Walking::walking))]
+#[tactic(auto, using(jc_typed::proofs::Growing::growing, jc_exprs_nodes_spec::proofs::Runs::runs, crate::proofs::Walking::walking))]
 pub fn captured(
     alloc: Global,
     table: &Table,

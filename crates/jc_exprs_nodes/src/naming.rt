@@ -3,7 +3,7 @@ ghost use Rattle.std.specs.Prelude.{◌≡◌, ◌+◌, ◌<◌, ◌++◌, lengt
 ghost use Rattle.jc_types.specs.declared.form.Arg.{out-Arg};
 ghost use Rattle.jc_types.specs.declared.form.Ty.{out-Ty};
 ghost use Rattle.jc_typed.specs.Parts.{captures_of, Grows};
-ghost use Rattle.jc_exprs_parts_spec.specs.Typeds.{named_args, named_at, named_in, named_one, named_parts};
+ghost use Rattle.jc_exprs_nodes_spec.specs.Typeds.{named_args, named_at, named_in, named_one, named_parts};
 
 use jc_rules::WantOfMemory;
 use jc_typed::{Capture, CapturesNode, Nodes};

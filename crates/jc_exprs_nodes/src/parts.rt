@@ -1,7 +1,7 @@
 //! Typed parts of a node.
 ghost use Rattle.std.specs.Prelude.{◌≡◌, ◌<◌, length, None, IfSome};
 ghost use Rattle.jc_typed.specs.Parts.{steps_of, type_of};
-ghost use Rattle.jc_exprs_parts_spec.specs.Typeds.{behind};
+ghost use Rattle.jc_exprs_nodes_spec.specs.Typeds.{behind};
 ghost use Rattle.jc_exprs_nodes.specs.Walks.{has, IsPart};
 
 use crate::walk::Part;

@@ -5,9 +5,10 @@ ghost use Rattle.jc_types.specs.declared.conversion.Step.TheVariants as turn;
 ghost use Rattle.jc_types.specs.declared.form.Ty.{out-Ty};
 ghost use Rattle.std.specs.Prelude.{◌∷◌, []};
 ghost use Rattle.jc_convert.specs.Converting.{unboxed};
-ghost use Rattle.jc_typed.specs.Parts.{BelowStep, Grows, operand_of, parts, step_over, steps_of};
-ghost use Rattle.jc_exprs_parts_spec.specs.Typeds.{is_erased_below, led, or_int, primitive_at, read_guard, stepped, turned, turned_to, upwards, use_guard};
-ghost use Rattle.jc_exprs_nodes.specs.Walks.{IsPart, known};
+ghost use Rattle.jc_typed.specs.Parts.{BelowStep, Grows, expr_of, operand_of, parts, step_over, steps_of};
+ghost use Rattle.jc_exprs_nodes_spec.specs.Typeds.{is_erased_below, led, or_int, primitive_at, read_guard, turned, turned_to, upwards, use_guard};
+ghost use Rattle.jc_typed.specs.Trees.{operand};
+ghost use Rattle.jc_types.specs.declared.form.Ty.TheVariants.{Prim};
 
 use crate::walk::Part;
 use jc_boxes::box_class;
@@ -142,4 +143,126 @@ fn unboxed_or_int(alloc: Global, judging: Judging<'_>, ty: &Ty) -> Result<Primit
         Some(p) => Ok(p),
         None => Ok(Primitive::Int),
     }
+}
+
+/// Steps so far, and the type of a value behind them.
+#[derive(Drop)]
+pub struct Led {
+    pub steps: u32,
+    pub ty: Ty,
+}
+
+// One step of a conversion that is told by its node alone, and leads to a primitive type.
+fn led_to(
+    nodes: &mut Nodes,
+    before: u32,
+    last: StepNode,
+    to: Primitive,
+) -> Result<Led, WantOfMemory>
+    requires before { before < length nodes.old }
+    requires last { BelowStep (length nodes.old) last }
+    ensures value { IfOk result (λ r. steps_of nodes.new r.steps ≡ steps_of nodes.old before ++ step_over (parts nodes.old) last ∷ []) }
+    ensures ty { IfOk result (λ r. r.ty ≡ Prim to) }
+    ensures within { IfOk result (λ r. r.steps < length nodes.new) }
+    ensures grows { Grows nodes.old nodes.new }
+{
+    let steps = push_step(nodes, before, last)?;
+    Ok(Led {
+        steps,
+        ty: Ty::Prim(to),
+    })
+}
+
+// One step of a conversion.
+#[tactic(auto, using(jc_typed::proofs::Growing::growing))]
+fn push_turn(
+    alloc: Global,
+    nodes: &mut Nodes,
+    judging: Judging<'_>,
+    unchecked: bool,
+    from: &Led,
+    turn: &Step,
+) -> Result<Led, WantOfMemory>
+    requires { from.now.steps < length nodes.old }
+    ensures value { IfOk result (λ r. steps_of nodes.new r.steps ≡ steps_of nodes.old from.now.steps ++ turned judging.table.now judging.env.now.bounds unchecked from.now.ty turn.now) }
+    ensures ty { IfOk result (λ r. r.ty ≡ turned_to judging.table.now judging.env.now.bounds from.now.ty turn.now) }
+    ensures within { IfOk result (λ r. r.steps < length nodes.new) }
+    ensures grows { Grows nodes.old nodes.new }
+{
+    match turn {
+        Step::Widen(to) => led_to(nodes, from.steps, StepNode::Widen(*to), *to),
+        Step::Narrow(to) => led_to(nodes, from.steps, StepNode::Narrow(*to), *to),
+        Step::Unbox => {
+            let to = unboxed_or_int(alloc, judging, &from.ty)?;
+            led_to(nodes, from.steps, StepNode::Unbox(to), to)
+        }
+        Step::BoxUp => {
+            let of = primitive_at(&from.ty);
+            let steps = push_step(nodes, from.steps, StepNode::BoxUp(of))?;
+            Ok(Led {
+                steps,
+                ty: Ty::Class {
+                    id: box_class(judging.table, of),
+                    args: Items::new(alloc),
+                },
+            })
+        }
+        Step::Up(to) => {
+            let ty = copy_type(alloc, to)?;
+            let steps = push_upwards(alloc, nodes, judging, from.steps, unchecked, &from.ty, to)?;
+            Ok(Led { steps, ty })
+        }
+        Step::Check(to) => {
+            let ty = copy_type(alloc, to)?;
+            let steps = push_step(nodes, from.steps, StepNode::Test {
+                check: Check::WrittenCast,
+                to: erasure(judging.table, judging.env, to),
+            })?;
+            Ok(Led { steps, ty })
+        }
+    }
+}
+
+/// Steps with those of a conversion from a type behind them.
+#[tactic(auto, using(jc_typed::proofs::Growing::growing, crate::proofs::Leading::leading))]
+pub fn push_led(
+    alloc: Global,
+    nodes: &mut Nodes,
+    judging: Judging<'_>,
+    before: u32,
+    unchecked: bool,
+    from: &Ty,
+    turns: &[Step],
+) -> Result<u32, WantOfMemory>
+    requires { before < length nodes.old }
+    ensures value { IfOk result (λ at. steps_of nodes.new at ≡ steps_of nodes.old before ++ led judging.table.now judging.env.now.bounds unchecked from.now turns.now) }
+    ensures within { IfOk result (λ at. at < length nodes.new) }
+    ensures grows { Grows nodes.old nodes.new }
+{
+    let mut so_far = Led {
+        steps: before,
+        ty: copy_type(alloc, from)?,
+    };
+    let mut rest = turns;
+    while let [turn, more @ ..] = rest {
+        so_far = push_turn(alloc, nodes, judging, unchecked, &so_far, turn)?;
+        rest = more;
+    }
+    Ok(so_far.steps)
+}
+
+/// A typed part with further steps behind its lead.
+#[tactic(auto, using(jc_typed::proofs::Growing::growing))]
+pub fn stepped(nodes: &mut Nodes, part: Part, steps: u32) -> Result<u32, WantOfMemory>
+    requires of { part.of < length nodes.old }
+    requires steps { steps < length nodes.old }
+    ensures value { IfOk result (λ at. operand_of nodes.new at ≡ operand part.start (expr_of nodes.old part.of) (steps_of nodes.old steps)) }
+    ensures within { IfOk result (λ at. at < length nodes.new) }
+    ensures grows { Grows nodes.old nodes.new }
+{
+    nodes.push_operand(OperandNode::Operand {
+        place: part.start,
+        of: part.of,
+        steps,
+    })
 }

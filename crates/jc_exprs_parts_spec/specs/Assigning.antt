@@ -19,8 +19,8 @@ use Rattle.jc_convert.specs.Converting.{assignment, invocation}
 use Rattle.jc_typed.specs.declared.expressions.Joint.{Joint}
 use Rattle.jc_typed.specs.declared.expressions.Joint.TheVariants as joint
 use Rattle.jc_typed.specs.Trees.{Step, Narrow, BoxUp, Variable, Assign, Compound, Change}
-use Rattle.jc_exprs_parts_spec.specs.Told.{Run, fine, by_rule, breaking, provided, unless}
-use Rattle.jc_exprs_parts_spec.specs.Typeds.{Typed, type_of, constant_of, node, captured, converted, stepped, steps_by, read_guard, use_guard, unconverted}
+use Rattle.jc_exprs_nodes_spec.specs.Told.{Run, fine, by_rule, breaking, provided, unless}
+use Rattle.jc_exprs_nodes_spec.specs.Typeds.{Typed, type_of, constant_of, node, captured, converted, stepped, steps_by, read_guard, use_guard, unconverted}
 use Rattle.jc_exprs_parts_spec.specs.Operators.{Takes, Verdict, Taken, Refused, Unknown, taken, promoted}
 use Rattle.jc_exprs_parts_spec.specs.Chains.{steps_to}
 

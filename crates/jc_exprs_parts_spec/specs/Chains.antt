@@ -24,8 +24,8 @@ use Rattle.jc_folding.specs.Folding.{fold}
 use Rattle.jc_typed.specs.declared.expressions.Joint.{Joint}
 use Rattle.jc_typed.specs.declared.expressions.Joint.TheVariants as joint
 use Rattle.jc_typed.specs.Trees.{Step, Operand, operand, Operands, NoOperands, MoreOperands, Links, NoLinks, MoreLinks, Form, Chain, AllOf, AnyOf, InstanceOf, Prefix}
-use Rattle.jc_exprs_parts_spec.specs.Told.{Told, Fine, Broken, Out, Run, fine, by_rule, breaking, unless, provided, Spanned}
-use Rattle.jc_exprs_parts_spec.specs.Typeds.{Typed, Known, tree, type_of, node, fixed, known_of, plain, stepped, steps_by, one_operand, unconverted}
+use Rattle.jc_exprs_nodes_spec.specs.Told.{Told, Fine, Broken, Out, Run, fine, by_rule, breaking, unless, provided, Spanned}
+use Rattle.jc_exprs_nodes_spec.specs.Typeds.{Typed, Known, tree, type_of, node, fixed, known_of, plain, stepped, steps_by, one_operand, unconverted}
 use Rattle.jc_exprs_parts_spec.specs.Operators.{Takes, Verdict, Taken, Refused, Unknown, taken, as_primitive, prefix_on, prefix_taken}
 use Rattle.jc_exprs_parts_spec.specs.Constants.{prefixed_constant}
 

@@ -1,12 +1,9 @@
-pub mod Told
 pub mod Worlds
-pub mod Typeds
 pub mod Fields
-pub mod Operators
 pub mod Senses
+pub mod Operators
 pub mod Constants
 pub mod Chains
 pub mod Assigning
 pub mod Names
 pub mod Values
-pub mod Gates

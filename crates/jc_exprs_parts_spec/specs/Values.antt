@@ -23,8 +23,8 @@ use Rattle.jc_convert.specs.declared.answer.Converts.{Converts}
 use Rattle.jc_convert.specs.Casting.{cast, is_numeric}
 use Rattle.jc_convert.specs.Converting.{assignment, box, invocation, narrows}
 use Rattle.jc_typed.specs.Trees.{Step, BoxUp, Operand, NoOperands, ArrayOf, Cast, Conditional, NewArray}
-use Rattle.jc_exprs_parts_spec.specs.Told.{Run, fine, breaking, provided, unless, Spanned}
-use Rattle.jc_exprs_parts_spec.specs.Typeds.{Typed, Known, node, fixed, type_of, known_of, constant_of, captured, plain, stepped, converted, operands_of, steps_by, cast_steps_by, upwards, unconverted}
+use Rattle.jc_exprs_nodes_spec.specs.Told.{Run, fine, breaking, provided, unless, Spanned}
+use Rattle.jc_exprs_nodes_spec.specs.Typeds.{Typed, Known, node, fixed, type_of, known_of, constant_of, captured, plain, stepped, converted, operands_of, steps_by, cast_steps_by, upwards, unconverted}
 use Rattle.jc_exprs_parts_spec.specs.Operators.{as_primitive}
 use Rattle.jc_exprs_parts_spec.specs.Constants.{conditional_constant, constant_as, numeric_choice}
 

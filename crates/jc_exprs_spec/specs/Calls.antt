@@ -33,8 +33,8 @@ use Rattle.jc_resolve_sites.specs.Sites.{apart_site}
 use Rattle.jc_typed.specs.declared.expressions.CallKind.{CallKind}
 use Rattle.jc_typed.specs.declared.expressions.CallKind.TheVariants as kind
 use Rattle.jc_typed.specs.Trees.{Step, Up, Operand, operand, Operands, NoOperands, MoreOperands, ArrayOf, Call}
-use Rattle.jc_exprs_parts_spec.specs.Told.{Run, fine, by_rule, breaking, onward, provided, unless}
-use Rattle.jc_exprs_parts_spec.specs.Typeds.{Typed, Settled, node, type_of, tree, captured, plain, stepped, one_operand, steps_by, read_guard, use_guard, settled}
+use Rattle.jc_exprs_nodes_spec.specs.Told.{Run, fine, by_rule, breaking, onward, provided, unless}
+use Rattle.jc_exprs_nodes_spec.specs.Typeds.{Typed, Settled, node, type_of, tree, captured, plain, stepped, one_operand, steps_by, read_guard, use_guard, settled}
 use Rattle.jc_exprs_parts_spec.specs.Fields.{is_raw_as, may_name_method}
 use Rattle.jc_exprs_parts_spec.specs.Senses.{Sense, OfField, OfClass, OfPackage, OfNothing}
 use Rattle.jc_exprs_parts_spec.specs.Worlds.{World, Here, Instance, Static, Early, named_class, round, this_type, written_arg}

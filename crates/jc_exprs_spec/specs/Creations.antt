@@ -21,8 +21,8 @@ use Rattle.jc_resolve.specs.Choosing.{resolved}
 use Rattle.jc_resolve_sites.specs.Constructors.{constructor_ids, diamond_view}
 use Rattle.jc_resolve_sites.specs.Sites.{apart_site, renamed_site}
 use Rattle.jc_typed.specs.Trees.{Step, Up, New}
-use Rattle.jc_exprs_parts_spec.specs.Told.{Run, provided, unless}
-use Rattle.jc_exprs_parts_spec.specs.Typeds.{Typed, captured}
+use Rattle.jc_exprs_nodes_spec.specs.Told.{Run, provided, unless}
+use Rattle.jc_exprs_nodes_spec.specs.Typeds.{Typed, captured}
 use Rattle.jc_exprs_parts_spec.specs.Worlds.{World}
 use Rattle.jc_exprs_spec.specs.Calls.{accessible, arguments, by_choice, members_breaks, site}
 

@@ -36,8 +36,8 @@ use Rattle.jc_types.specs.Breaks.{IsOf}
 use Rattle.jc_overriding.specs.Viewing.{with_dims}
 use Rattle.jc_typed.specs.Trees.{Operand as Operated, NoOperands, ArrayOf, Null, StmtForm, Construct}
 use Rattle.jc_resolve.specs.declared.choice.Chosen.{Chosen}
-use Rattle.jc_exprs_parts_spec.specs.Told.{Run, fine, by_rule, breaks, both, feeding, onward, every, provided, unless, Spanned, spanned}
-use Rattle.jc_exprs_parts_spec.specs.Typeds.{Typed, node, fixed, is_void, operands_of, plain, Known}
+use Rattle.jc_exprs_nodes_spec.specs.Told.{Run, fine, by_rule, breaks, both, feeding, onward, every, provided, unless, Spanned, spanned}
+use Rattle.jc_exprs_nodes_spec.specs.Typeds.{Typed, node, fixed, is_void, operands_of, plain, Known}
 use Rattle.jc_exprs_parts_spec.specs.Operators.{string_type}
 use Rattle.jc_exprs_parts_spec.specs.Chains.{Joined, Whole, whole, joining, tested, Signed, Unsigned, signed, signing}
 use Rattle.jc_exprs_parts_spec.specs.Assigning.{Target, changed, compound, stored}

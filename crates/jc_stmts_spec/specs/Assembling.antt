@@ -19,7 +19,7 @@ use Rattle.jc_types.specs.declared.form.Ty.TheVariants.{NullTy}
 use Rattle.jc_typed.specs.Bulk.{capped}
 use Rattle.jc_typed.specs.Copies.{copies_of}
 use Rattle.jc_typed.specs.Trees.{Operand, NoOperand, Operands, NoOperands, MoreOperands, Declared, NoDeclared, MoreDeclared, Case, Stmt, stmt, StmtForm, Empty, Block, Locals, Effect, If, Labelled, While, Do, For, ForArray, ForIterable, Switch, Return, Break, Continue, Throw, Try, Stmts, NoStmts, MoreStmts, Arms, NoArms, MoreArms, Catches, NoCatches, MoreCatches}
-use Rattle.jc_exprs_parts_spec.specs.Typeds.{one_operand}
+use Rattle.jc_exprs_nodes_spec.specs.Typeds.{one_operand}
 use Rattle.jc_stmts_spec.specs.Courses.{Answer, AnOperand, ALocal, AKey, AnEach, SomeTypes, Elements}
 use Rattle.jc_stmts_spec.specs.Plans.{Jumps, Round, OfLoop, OfSwitch, OfLabel, inside, break_target, continue_target, planned, Planned}
 

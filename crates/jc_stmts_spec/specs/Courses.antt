@@ -37,8 +37,8 @@ use Rattle.jc_convert.specs.Converting.{assignment, invocation}
 use Rattle.jc_typed.specs.declared.lists.Capture.{Capture}
 use Rattle.jc_typed.specs.declared.program.Local.{Local}
 use Rattle.jc_typed.specs.Trees.{Expr as Tree, NoExpr, expr, Step, Unbox, Operand, NoOperand, operand, Named}
-use Rattle.jc_exprs_parts_spec.specs.Told.{Told, Fine, Broken, Out, Run, fine, by_rule, breaking, breaks, typed, both, onward, provided, unless}
-use Rattle.jc_exprs_parts_spec.specs.Typeds.{Typed, Known, Kind, Settled, capturing, settled, type_of, known_of, known_in, constant_of, plain, bare, stepped, converted, steps_by, read_guard, use_guard, unconverted}
+use Rattle.jc_exprs_nodes_spec.specs.Told.{Told, Fine, Broken, Out, Run, fine, by_rule, breaking, breaks, typed, both, onward, provided, unless}
+use Rattle.jc_exprs_nodes_spec.specs.Typeds.{Typed, Known, Kind, Settled, capturing, settled, type_of, known_of, known_in, constant_of, plain, bare, stepped, converted, steps_by, read_guard, use_guard, unconverted}
 use Rattle.jc_exprs_parts_spec.specs.Assigning.{exact_primitive}
 use Rattle.jc_exprs_parts_spec.specs.Constants.{constant_as}
 use Rattle.jc_exprs_parts_spec.specs.Names.{array_operand, class_erased}

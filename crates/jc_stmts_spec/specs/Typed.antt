@@ -31,7 +31,7 @@ use Rattle.jc_typed.specs.declared.program.TypedMethod.{TypedMethod}
 use Rattle.jc_typed.specs.Parts.{nowhere, stmt_of, stmts_of}
 use Rattle.jc_typed.specs.Trees.{Operand, NoOperand, Stmt, stmt, StmtForm, Block, Construct, Empty, Initialise, Stmts, NoStmts, MoreStmts}
 use Rattle.jc_bridges_spec.specs.Entering.{entry_checks}
-use Rattle.jc_exprs_parts_spec.specs.Told.{Told, Fine, Broken, Out, Run, breaking, breaks, by_rule, fine, typed}
+use Rattle.jc_exprs_nodes_spec.specs.Told.{Told, Fine, Broken, Out, Run, breaking, breaks, by_rule, fine, typed}
 use Rattle.jc_exprs_parts_spec.specs.Constants.{constants_of}
 use Rattle.jc_exprs_parts_spec.specs.Fields.{declared_field, is_static_field}
 use Rattle.jc_exprs_parts_spec.specs.Names.{super_type}

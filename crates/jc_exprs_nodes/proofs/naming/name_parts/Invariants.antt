@@ -1,6 +1,6 @@
 use Rattle.std.proofs.Common.{◌≡◌, ◌<◌, ◌++◌, length}
 use Rattle.jc_typed.specs.Parts.{captures_of, Grows}
-use Rattle.jc_exprs_parts_spec.specs.Typeds.{named_parts}
+use Rattle.jc_exprs_nodes_spec.specs.Typeds.{named_parts}
 use Rattle.jc_exprs_nodes.proofs.naming.name_parts.Given as goal
 
 abbrev pub invariant-loop-rest : goal.invariant-loop-rest

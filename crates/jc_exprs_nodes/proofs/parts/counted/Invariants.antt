@@ -1,6 +1,6 @@
 use Rattle.std.proofs.Common.{◌≡◌, ◌<◌, length}
 use Rattle.jc_typed.specs.Parts.{steps_of, type_of}
-use Rattle.jc_exprs_parts_spec.specs.Typeds.{behind}
+use Rattle.jc_exprs_nodes_spec.specs.Typeds.{behind}
 use Rattle.jc_exprs_nodes.proofs.parts.counted.Given as goal
 
 abbrev pub invariant-loop-before : goal.invariant-loop-before

@@ -2,8 +2,8 @@
 use Rattle.std.specs.Prelude.{◌≡◌, List, Option, Some, None}
 use Rattle.jc_types.specs.declared.environment.Bounds.{Bounds}
 use Rattle.jc_types.specs.Breaks.{IsOf, LeastOf}
-use Rattle.jc_exprs_parts_spec.specs.Told.{Run, Ran, Standing, both, breaks, onward, ran, standing, three}
-use Rattle.jc_exprs_parts_spec.specs.Typeds.{Typed}
+use Rattle.jc_exprs_nodes_spec.specs.Told.{Run, Ran, Standing, both, breaks, onward, ran, standing, three}
+use Rattle.jc_exprs_nodes_spec.specs.Typeds.{Typed}
 
 -- a node one of whose parts has no typing
 abbrev pub stopped : {A : Type 0} → Standing → Ran A

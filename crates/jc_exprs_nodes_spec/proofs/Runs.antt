@@ -4,9 +4,9 @@ use Rattle.jc_rules.specs.declared.rule.Refusal.{Refusal}
 use Rattle.jc_types.specs.declared.environment.Bounds.{Bounds}
 use Rattle.jc_types.specs.Breaks.{IsOf, LeastOf, least}
 use Rattle.jc_types.proofs.Least.{least_append, least_of}
-use Rattle.jc_exprs_parts_spec.specs.Told.{Told, Fine, Broken, Out, Run, Ran, Standing, standing, typed, breaks, ran, ran_of, fine, pair, triple, both, three, after, onward}
-use Rattle.jc_exprs_parts_spec.specs.Typeds.{Typed}
-use Rattle.jc_exprs_parts_spec.specs.Gates.{stopped, gated, gated_two, gated_three, OnePart, TwoParts, ThreeParts, FoundIsLeast}
+use Rattle.jc_exprs_nodes_spec.specs.Told.{Told, Fine, Broken, Out, Run, Ran, Standing, standing, typed, breaks, ran, ran_of, fine, pair, triple, both, three, after, onward}
+use Rattle.jc_exprs_nodes_spec.specs.Typeds.{Typed}
+use Rattle.jc_exprs_nodes_spec.specs.Gates.{stopped, gated, gated_two, gated_three, OnePart, TwoParts, ThreeParts, FoundIsLeast}
 
 -- a node without parts
 pub ran_fine : {A : Type 0} (a : A) (s : Standing) → ran (fine a) s ≡ record { state = s; has = Some a }

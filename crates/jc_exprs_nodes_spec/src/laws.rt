@@ -1,5 +1,5 @@
 //! Laws of what is told of a node by its parts.
-ghost use Rattle.jc_exprs_parts_spec.specs.Gates.{FoundIsLeast, OnePart, ThreeParts, TwoParts};
+ghost use Rattle.jc_exprs_nodes_spec.specs.Gates.{FoundIsLeast, OnePart, ThreeParts, TwoParts};
 
 /// A node of one part: a walk goes through it, and where it has a typing the node's rule is asked behind it.
 #[tactic(auto, using(crate::proofs::Runs::one_part))]
