@@ -40,12 +40,12 @@ known ns at = or_null (has ns at)
 pub record IsPart (ns : List Node) (at : ℕ) (p : Part) : Type 0 where
   pub it : has ns at ≡ Some (known ns at)
   pub operand : operand_of ns at ≡ plain (known ns at)
-  pub tree : expr_of ns p.of_it ≡ tree (known ns at)
+  pub tree : expr_of ns p.of ≡ tree (known ns at)
   pub start : (known ns at).start ≡ p.start
   pub place : (known ns at).place ≡ p.place
   pub ty : counted_type (known ns at) ≡ type_of ns p.ty
   pub lead : (known ns at).lead ≡ steps_of ns p.lead
-  pub below : (p.of_it < length ns) × (p.ty < length ns) × (p.lead < length ns)
+  pub below : (p.of < length ns) × (p.ty < length ns) × (p.lead < length ns)
 
 -- a type after capture, with the variables that this made
 abbrev pub kind_at : List Node → KindAt → Kind

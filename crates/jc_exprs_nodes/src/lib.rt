@@ -11,5 +11,7 @@ mod walk;
 pub use breaking::{broken, refusal};
 pub use kinds::{captured, capturing};
 pub use parts::part;
-pub use stepping::{Judging, Led, push_led, push_read_guard, push_upwards, push_use_guard, stepped};
+pub use stepping::{
+    Judging, Led, push_led, push_read_guard, push_upwards, push_use_guard, stepped,
+};
 pub use walk::{KindAt, Part, Walk};

@@ -123,12 +123,7 @@ fn name_parts(
 
 /// The list of the variables that the capture of a type makes, where so many were made before.
 #[tactic(auto, using(jc_types::proofs::Opened::opened, jc_typed::proofs::Growing::growing))]
-pub fn push_named(
-    nodes: &mut Nodes,
-    table: &Table,
-    next: u64,
-    ty: &Ty,
-) -> Result<u32, WantOfMemory>
+pub fn push_named(nodes: &mut Nodes, table: &Table, next: u64, ty: &Ty) -> Result<u32, WantOfMemory>
     ensures value { IfOk result (λ at. captures_of nodes.new at ≡ named_in table.now next (out-Ty ty.now)) }
     ensures within { IfOk result (λ at. at < length nodes.new) }
     ensures grows { Grows nodes.old nodes.new }

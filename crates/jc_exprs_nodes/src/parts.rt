@@ -34,7 +34,11 @@ pub fn part(nodes: &Nodes, at: u32) -> Option<Part>
 {
     match nodes.operand(at) {
         OperandNode::Missing => None,
-        OperandNode::Operand { place: start, of, steps: lead } => match nodes.expr(of) {
+        OperandNode::Operand {
+            place: start,
+            of,
+            steps: lead,
+        } => match nodes.expr(of) {
             ExprNode::Missing => None,
             ExprNode::Expr { place, ty, .. } => Some(Part {
                 start,

@@ -18,7 +18,9 @@ use jc_rules::{Items, WantOfMemory};
 use jc_running::Check;
 use jc_sub::is_null;
 use jc_typed::{Nodes, OperandNode, StepNode, StepsNode};
-use jc_types::{Conversion, Env, Erased, Primitive, Step, Table, Ty, copy_type, erasure, reifiable};
+use jc_types::{
+    Conversion, Env, Erased, Primitive, Step, Table, Ty, copy_type, erasure, reifiable,
+};
 use std::alloc::Global;
 
 /// What guards and steps are asked over: the table, and the captured variables so far.
@@ -42,16 +44,21 @@ fn push_step(nodes: &mut Nodes, before: u32, last: StepNode) -> Result<u32, Want
 // Whether the erasure of a type is below an erased type; null is of every reference type.
 fn is_erased_below(
     alloc: Global,
-    judging: Judging<'_>,
+    judging: &Judging,
     from: &Ty,
     to: Erased,
 ) -> Result<bool, WantOfMemory>
-    ensures { IfOk result (λ r. r ≡ is_erased_below judging.table.now judging.env.now.bounds from.now to) }
+    ensures { IfOk result (λ r. r ≡ is_erased_below judging.now.table.now judging.now.env.now.bounds from.now to) }
 {
     if is_null(from) {
         return Ok(true);
     }
-    erased_below(alloc, judging.table, erasure(judging.table, judging.env, from), to)
+    erased_below(
+        alloc,
+        judging.table,
+        erasure(judging.table, judging.env, from),
+        to,
+    )
 }
 
 /// Steps with a guard behind them, where a value of a type is used as one of an erased type that its own erasure isn't below.
@@ -59,23 +66,27 @@ fn is_erased_below(
 pub fn push_use_guard(
     alloc: Global,
     nodes: &mut Nodes,
-    judging: Judging<'_>,
+    judging: &Judging,
     before: u32,
     from: &Ty,
     to: Erased,
 ) -> Result<u32, WantOfMemory>
     requires { before < length nodes.old }
-    ensures value { IfOk result (λ at. steps_of nodes.new at ≡ steps_of nodes.old before ++ use_guard judging.table.now judging.env.now.bounds from.now to) }
+    ensures value { IfOk result (λ at. steps_of nodes.new at ≡ steps_of nodes.old before ++ use_guard judging.now.table.now judging.now.env.now.bounds from.now to) }
     ensures within { IfOk result (λ at. at < length nodes.new) }
     ensures grows { Grows nodes.old nodes.new }
 {
     if is_erased_below(alloc, judging, from, to)? {
         return Ok(before);
     }
-    push_step(nodes, before, StepNode::Test {
-        check: Check::UseGuard,
-        to,
-    })
+    push_step(
+        nodes,
+        before,
+        StepNode::Test {
+            check: Check::UseGuard,
+            to,
+        },
+    )
 }
 
 /// The lead of what is read of a declared type as one of another type: a guard where the erasure of the declared one isn't below the other's.
@@ -83,11 +94,11 @@ pub fn push_use_guard(
 pub fn push_read_guard(
     alloc: Global,
     nodes: &mut Nodes,
-    judging: Judging<'_>,
+    judging: &Judging,
     declared: Erased,
     ty: &Ty,
 ) -> Result<u32, WantOfMemory>
-    ensures value { IfOk result (λ at. steps_of nodes.new at ≡ read_guard judging.table.now judging.env.now.bounds declared ty.now) }
+    ensures value { IfOk result (λ at. steps_of nodes.new at ≡ read_guard judging.now.table.now judging.now.env.now.bounds declared ty.now) }
     ensures within { IfOk result (λ at. at < length nodes.new) }
     ensures grows { Grows nodes.old nodes.new }
 {
@@ -96,10 +107,14 @@ pub fn push_read_guard(
     if erased_below(alloc, judging.table, declared, to)? {
         return Ok(none);
     }
-    push_step(nodes, none, StepNode::Test {
-        check: Check::ReadGuard,
-        to,
-    })
+    push_step(
+        nodes,
+        none,
+        StepNode::Test {
+            check: Check::ReadGuard,
+            to,
+        },
+    )
 }
 
 /// Steps with one upwards behind them, and the guard that this needs.
@@ -107,21 +122,28 @@ pub fn push_read_guard(
 pub fn push_upwards(
     alloc: Global,
     nodes: &mut Nodes,
-    judging: Judging<'_>,
+    judging: &Judging,
     before: u32,
     unchecked: bool,
     from: &Ty,
     to: &Ty,
 ) -> Result<u32, WantOfMemory>
     requires { before < length nodes.old }
-    ensures value { IfOk result (λ at. steps_of nodes.new at ≡ steps_of nodes.old before ++ upwards judging.table.now judging.env.now.bounds unchecked from.now to.now) }
+    ensures value { IfOk result (λ at. steps_of nodes.new at ≡ steps_of nodes.old before ++ upwards judging.now.table.now judging.now.env.now.bounds unchecked from.now to.now) }
     ensures within { IfOk result (λ at. at < length nodes.new) }
     ensures grows { Grows nodes.old nodes.new }
 {
     let ty = nodes.push_type(copy_type(alloc, to)?)?;
     let unchecked = unchecked && !reifiable(judging.table, to);
     let up = push_step(nodes, before, StepNode::Up { ty, unchecked })?;
-    push_use_guard(alloc, nodes, judging, up, from, erasure(judging.table, judging.env, to))
+    push_use_guard(
+        alloc,
+        nodes,
+        judging,
+        up,
+        from,
+        erasure(judging.table, judging.env, to),
+    )
 }
 
 // The primitive type of a type that is one.
@@ -136,8 +158,8 @@ fn primitive_at(ty: &Ty) -> Primitive
 }
 
 // The primitive type that a type unboxes to; int where there is none.
-fn unboxed_or_int(alloc: Global, judging: Judging<'_>, ty: &Ty) -> Result<Primitive, WantOfMemory>
-    ensures { IfOk result (λ p. p ≡ or_int (unboxed judging.table.now judging.env.now.bounds ty.now)) }
+fn unboxed_or_int(alloc: Global, judging: &Judging, ty: &Ty) -> Result<Primitive, WantOfMemory>
+    ensures { IfOk result (λ p. p ≡ or_int (unboxed judging.now.table.now judging.now.env.now.bounds ty.now)) }
 {
     match unboxed(alloc, judging.table, judging.env.bounds.slice(), ty)? {
         Some(p) => Ok(p),
@@ -178,14 +200,14 @@ fn led_to(
 fn push_turn(
     alloc: Global,
     nodes: &mut Nodes,
-    judging: Judging<'_>,
+    judging: &Judging,
     unchecked: bool,
     from: &Led,
     turn: &Step,
 ) -> Result<Led, WantOfMemory>
     requires { from.now.steps < length nodes.old }
-    ensures value { IfOk result (λ r. steps_of nodes.new r.steps ≡ steps_of nodes.old from.now.steps ++ turned judging.table.now judging.env.now.bounds unchecked from.now.ty turn.now) }
-    ensures ty { IfOk result (λ r. r.ty ≡ turned_to judging.table.now judging.env.now.bounds from.now.ty turn.now) }
+    ensures value { IfOk result (λ r. steps_of nodes.new r.steps ≡ steps_of nodes.old from.now.steps ++ turned judging.now.table.now judging.now.env.now.bounds unchecked from.now.ty turn.now) }
+    ensures ty { IfOk result (λ r. r.ty ≡ turned_to judging.now.table.now judging.now.env.now.bounds from.now.ty turn.now) }
     ensures within { IfOk result (λ r. r.steps < length nodes.new) }
     ensures grows { Grows nodes.old nodes.new }
 {
@@ -214,10 +236,14 @@ fn push_turn(
         }
         Step::Check(to) => {
             let ty = copy_type(alloc, to)?;
-            let steps = push_step(nodes, from.steps, StepNode::Test {
-                check: Check::WrittenCast,
-                to: erasure(judging.table, judging.env, to),
-            })?;
+            let steps = push_step(
+                nodes,
+                from.steps,
+                StepNode::Test {
+                    check: Check::WrittenCast,
+                    to: erasure(judging.table, judging.env, to),
+                },
+            )?;
             Ok(Led { steps, ty })
         }
     }
@@ -228,14 +254,14 @@ fn push_turn(
 pub fn push_led(
     alloc: Global,
     nodes: &mut Nodes,
-    judging: Judging<'_>,
+    judging: &Judging,
     before: u32,
     unchecked: bool,
     from: &Ty,
     turns: &[Step],
 ) -> Result<u32, WantOfMemory>
     requires { before < length nodes.old }
-    ensures value { IfOk result (λ at. steps_of nodes.new at ≡ steps_of nodes.old before ++ led judging.table.now judging.env.now.bounds unchecked from.now turns.now) }
+    ensures value { IfOk result (λ at. steps_of nodes.new at ≡ steps_of nodes.old before ++ led judging.now.table.now judging.now.env.now.bounds unchecked from.now turns.now) }
     ensures within { IfOk result (λ at. at < length nodes.new) }
     ensures grows { Grows nodes.old nodes.new }
 {

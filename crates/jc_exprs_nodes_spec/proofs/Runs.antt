@@ -53,8 +53,9 @@ module _ {A B C D : Type 0} (f : A → B → C → Run D) where
   all x (Fine a) (Fine b) (Broken c cs) env = refl
   all x (Fine a) (Broken b bs) (Fine c) env = ap (λ y. stopped (standing env y)) (least_append x (b ∷ bs) (breaks (Fine c)))
   all x (Fine a) (Broken b bs) (Broken c cs) env = ap (λ y. stopped (standing env y)) (least_append x (b ∷ bs) (c ∷ cs))
-  all x (Broken a as_) b c env =
-      ap (λ y. stopped (standing env y)) (least_append x (a ∷ as_) (breaks b ++ breaks c) ∙ least_append (least x (a ∷ as_)) (breaks b) (breaks c))
+  all x (Broken a rest) b c env =
+      ap (λ y. stopped (standing env y))
+      (least_append x ((a ∷ rest) ++ breaks b) (breaks c) ∙ ap (λ y. least y (breaks c)) (least_append x (a ∷ rest) (breaks b)))
 
   -- three parts
   pub ran_three : (m : Run A) (n : Run B) (l : Run C) (s : Standing) →

@@ -43,7 +43,7 @@ pub record Typed : Type 0 where
 abbrev pub tree : Typed → Expr
 tree t = expr t.place t.ty t.captures t.form
 
--- the type of a value behind these steps, of which only those upwards and the boxes' change it
+-- the type of a value behind the steps of a lead, of which only those upwards change it
 abbrev pub up_by : Ty → Step → Ty
 up_by t (Up u unchecked) = u
 up_by t _ = t

@@ -5,8 +5,8 @@ use Rattle.jc_exprs_nodes.proofs.stepping.push_led.Given as goal
 
 abbrev pub invariant-loop-rest : goal.invariant-loop-rest
 invariant-loop-rest l =
-    (steps_of l.nodes l.so_far.steps ++ led l.judging.table l.judging.env.bounds l.unchecked l.so_far.ty l.rest
-    ≡ steps_of l.fn.nodes l.before ++ led l.judging.table l.judging.env.bounds l.unchecked l.from l.turns)
+    (steps_of l.nodes l.so_far.steps ++ led l.judging.table.now l.judging.env.now.bounds l.unchecked l.so_far.ty l.rest
+    ≡ steps_of l.fn.nodes l.before ++ led l.judging.table.now l.judging.env.now.bounds l.unchecked l.from l.turns)
     × (l.so_far.steps < length l.nodes)
     × Grows l.fn.nodes l.nodes
 
