@@ -6,4 +6,3 @@ pub mod Expressions
 pub mod Statements
 pub mod Classes
 pub mod Meaning
-pub mod Meeting

@@ -18,7 +18,7 @@ use Rattle.jc_heaps.specs.declared.state.Object.{Object}
 use Rattle.jc_heaps.specs.States.{shown_of, object_at}
 use Rattle.jc_heaps.specs.declared.given.Given.{Given}
 use Rattle.jc_heaps.specs.Numbers.{truth, operated, prefixed, stepped, boolean_of, whole_of}
-use Rattle.jc_heaps.specs.Layout.{slot_of, field_class, new_fields}
+use Rattle.jc_heaps.specs.Layout.{slot_of, field_class}
 use Rattle.jc_heaps.specs.Making.{raise, address_of, place_of, passes, given}
 use Rattle.jc_heaps.proofs.Plain.{seq, soft}
 use Rattle.jc_heaps.proofs.SmoothHeaps as h

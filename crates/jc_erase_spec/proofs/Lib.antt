@@ -1,0 +1,5 @@
+pub mod Heaps
+pub mod Keeps
+pub mod Calls
+pub mod Alike
+mod Small
