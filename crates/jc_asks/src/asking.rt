@@ -1,5 +1,5 @@
 //! Questions about the types of a table, and their answers in words.
-use crate::calling::meant;
+use crate::calling::{created, meant, meant_of};
 use crate::conversions::{constant_of, conversion_words};
 use crate::having::{hiding_words, member_words, override_words, selected_words};
 use crate::heads::{class_of_name, scope_of, table_of};
@@ -76,6 +76,8 @@ impl Asker {
             "cast" => self.cast(alloc, first, second),
             "infer" => self.infer(alloc, line),
             "call" => self.call(alloc, line),
+            "means" => self.means(alloc, line),
+            "creates" => self.creates(alloc, line),
             "members" => member_words(alloc, &self.scope, &self.table, first, second),
             "overrides" => override_words(alloc, &self.scope, &self.table, first, second),
             "hides" => hiding_words(alloc, &self.scope, &self.table, first, second),
@@ -196,9 +198,23 @@ impl Asker {
         }
     }
 
-    fn call(&self, alloc: Global, line: &str) -> Read<String> {
+    fn call(&mut self, alloc: Global, line: &str) -> Read<String> {
         match line.split_once(' ') {
-            Some((_, call)) => meant(alloc, &self.scope, &self.table, &self.env, call),
+            Some((_, call)) => meant(alloc, &self.scope, &self.table, &mut self.env, call),
+            None => Err(Stop::Refused(Unreadable)),
+        }
+    }
+
+    fn means(&mut self, alloc: Global, line: &str) -> Read<String> {
+        match line.split_once(' ') {
+            Some((_, call)) => meant_of(alloc, &self.scope, &self.table, &mut self.env, call),
+            None => Err(Stop::Refused(Unreadable)),
+        }
+    }
+
+    fn creates(&mut self, alloc: Global, line: &str) -> Read<String> {
+        match line.split_once(' ') {
+            Some((_, call)) => created(alloc, &self.scope, &self.table, &mut self.env, call),
             None => Err(Stop::Refused(Unreadable)),
         }
     }

@@ -1,12 +1,16 @@
 //! Calls in words, and the member that each means.
+use crate::heads::class_of_name;
 use crate::inferring::{method_of, types_in};
 use crate::names::Scope;
+use crate::types::read_type;
 use crate::words::{put_result, put_type};
 use crate::{Read, Unreadable};
-use jc_members::MethodView;
-use jc_resolve::{CallSite, Choice, resolve};
-use jc_rules::{Items, Stop};
-use jc_types::{Env, MethodId, Phase, Table};
+use jc_members::{MethodView, members, method_index, view_of_method};
+use jc_resolve::{CallSite, Choice, is_apart, resolve};
+use jc_resolve_sites::{apart_site, constructor_ids, diamond_view, renamed_site};
+use jc_rules::{Items, Stop, Text};
+use jc_sub::class_of;
+use jc_types::{Env, MethodId, Phase, Table, Ty};
 use std::alloc::Global;
 
 /// The member that words spell: `fixed` or `variable`, its type parameters, and behind a colon its result and its parameters. Its number is its id.
@@ -35,24 +39,158 @@ fn member_of(
 }
 
 /// What a call means whose explicit type arguments, arguments and target stand before the first bar, and whose members stand behind the bars.
-pub fn meant(alloc: Global, scope: &Scope, table: &Table, env: &Env, call: &str) -> Read<String> {
+pub fn meant(
+    alloc: Global,
+    scope: &Scope,
+    table: &Table,
+    env: &mut Env,
+    call: &str,
+) -> Read<String> {
     let mut bars = call.split('|');
-    let mut parts = bars.next().unwrap_or("").split(':');
-    let explicit = types_in(alloc, scope, parts.next().unwrap_or(""))?;
-    let args = types_in(alloc, scope, parts.next().unwrap_or(""))?;
-    let mut target = types_in(alloc, scope, parts.next().unwrap_or(""))?;
+    let head = bars.next().unwrap_or("");
     let mut members = Items::new(alloc);
     for (number, words) in bars.enumerate() {
         members.push(member_of(alloc, scope, table, number as u64, words)?)?;
     }
-    let site = CallSite {
+    let site = site_of(alloc, scope, head, members)?;
+    if !is_apart(&site) {
+        return Ok(String::from_str(alloc, "NotApart")?);
+    }
+    let choice = resolve(alloc, table, env, &site)?;
+    choice_words(alloc, table, choice)
+}
+
+/// The first word, and what follows it.
+fn first_word(words: &str) -> (&str, &str) {
+    let words = words.trim();
+    match words.split_once(' ') {
+        Some(pair) => pair,
+        None => (words, ""),
+    }
+}
+
+/// A call of these members, with its explicit type arguments, its arguments and its target between colons.
+fn site_of(
+    alloc: Global,
+    scope: &Scope,
+    words: &str,
+    members: Items<MethodView>,
+) -> Read<CallSite> {
+    let mut parts = words.split(':');
+    let explicit = types_in(alloc, scope, parts.next().unwrap_or(""))?;
+    let args = types_in(alloc, scope, parts.next().unwrap_or(""))?;
+    let mut target = types_in(alloc, scope, parts.next().unwrap_or(""))?;
+    Ok(CallSite {
         members,
         explicit,
         args,
         target: target.pop(),
+    })
+}
+
+/// The member of a type that a call of a name means in a body, where the type, which is captured, and the name stand before the call's explicit type arguments.
+pub fn meant_of(
+    alloc: Global,
+    scope: &Scope,
+    table: &Table,
+    env: &mut Env,
+    call: &str,
+) -> Read<String> {
+    let (word, rest) = first_word(call);
+    let (name, words) = first_word(rest);
+    let ty = read_type(alloc, scope, word)?;
+    let name = Text::copied(alloc, name)?;
+    let index = method_index(alloc, table)?;
+    let found = members(alloc, table, &index, &ty, &name)?;
+    let site = site_of(alloc, scope, words, found)?;
+    let site = apart_site(alloc, table, &ty, site)?;
+    let choice = resolve(alloc, table, env, &site)?;
+    told_words(alloc, scope, table, choice)
+}
+
+/// The constructor of a class that a creation means in a body: of a class type, or of a class alone where the creation has a diamond.
+pub fn created(
+    alloc: Global,
+    scope: &Scope,
+    table: &Table,
+    env: &mut Env,
+    call: &str,
+) -> Read<String> {
+    let (word, words) = first_word(call);
+    let site = match word.strip_suffix("<>") {
+        Some(name) => diamond_site(alloc, scope, table, name, words)?,
+        None => creation_site(alloc, scope, table, word, words)?,
     };
     let choice = resolve(alloc, table, env, &site)?;
-    choice_words(alloc, table, choice)
+    told_words(alloc, scope, table, choice)
+}
+
+fn diamond_site(
+    alloc: Global,
+    scope: &Scope,
+    table: &Table,
+    name: &str,
+    words: &str,
+) -> Read<CallSite> {
+    let class = class_of_name(scope, name)?;
+    let mut views = Items::new(alloc);
+    let ids = constructor_ids(alloc, table, class)?;
+    for m in ids.slice() {
+        views.push(diamond_view(alloc, table, class, *m)?)?;
+    }
+    let site = site_of(alloc, scope, words, views)?;
+    Ok(renamed_site(alloc, table, site)?)
+}
+
+fn creation_site(
+    alloc: Global,
+    scope: &Scope,
+    table: &Table,
+    word: &str,
+    words: &str,
+) -> Read<CallSite> {
+    let ty = read_type(alloc, scope, word)?;
+    let Some(class) = class_of(&ty) else {
+        return Err(Stop::Refused(Unreadable));
+    };
+    let mut views = Items::new(alloc);
+    let ids = constructor_ids(alloc, table, class)?;
+    for m in ids.slice() {
+        if let Some(view) = view_of_method(alloc, table, &ty, *m)? {
+            views.push(view)?;
+        }
+    }
+    let site = site_of(alloc, scope, words, views)?;
+    Ok(apart_site(alloc, table, &ty, site)?)
+}
+
+fn put_types(alloc: Global, out: &mut String, table: &Table, types: &[Ty]) -> Read<()> {
+    for ty in types {
+        out.push_str(" ")?;
+        put_type(alloc, out, table, ty)?;
+    }
+    Ok(())
+}
+
+/// The same with the label of the member, and all that is told of it: behind bars the types to which the arguments go, the result as it is kept, and the thrown types.
+fn told_words(alloc: Global, scope: &Scope, table: &Table, choice: Choice) -> Read<String> {
+    let Choice::Chosen(chosen) = choice else {
+        return choice_words(alloc, table, choice);
+    };
+    let label = scope.label(chosen.member.id);
+    let word = phase_word(chosen.phase);
+    let mut out = format!(in alloc; "Chosen {label} {word}")?;
+    put_types(alloc, &mut out, table, chosen.type_args.slice())?;
+    out.push_str(" : ")?;
+    put_result(alloc, &mut out, table, chosen.result.as_ref())?;
+    out.push_str(if chosen.unchecked { " unchecked" } else { "" })?;
+    out.push_str(" |")?;
+    put_types(alloc, &mut out, table, chosen.formals.slice())?;
+    out.push_str(" | ")?;
+    put_result(alloc, &mut out, table, chosen.kept.as_ref())?;
+    out.push_str(" |")?;
+    put_types(alloc, &mut out, table, chosen.thrown.slice())?;
+    Ok(out)
 }
 
 fn phase_word(phase: Phase) -> &'static str {
@@ -66,24 +204,14 @@ fn phase_word(phase: Phase) -> &'static str {
 /// `Chosen`, the number of the member, the phase, its type arguments, and behind a colon its result, with ` unchecked` where a conversion is; or why there is none.
 fn choice_words(alloc: Global, table: &Table, choice: Choice) -> Read<String> {
     match choice {
-        Choice::Chosen {
-            member,
-            phase,
-            type_args,
-            params: _,
-            result: returned,
-            unchecked,
-        } => {
-            let number = member.0;
-            let word = phase_word(phase);
+        Choice::Chosen(chosen) => {
+            let number = chosen.member.id.0;
+            let word = phase_word(chosen.phase);
             let mut out = format!(in alloc; "Chosen {number} {word}")?;
-            for arg in type_args.slice() {
-                out.push_str(" ")?;
-                put_type(alloc, &mut out, table, arg)?;
-            }
+            put_types(alloc, &mut out, table, chosen.type_args.slice())?;
             out.push_str(" : ")?;
-            put_result(alloc, &mut out, table, returned.as_ref())?;
-            out.push_str(if unchecked { " unchecked" } else { "" })?;
+            put_result(alloc, &mut out, table, chosen.result.as_ref())?;
+            out.push_str(if chosen.unchecked { " unchecked" } else { "" })?;
             Ok(out)
         }
         Choice::NoMember => Ok(String::from_str(alloc, "NoMember")?),

@@ -13,7 +13,7 @@
 //! superclass comes first, and is Object for an interface. A final class is one that none extends. A variable is one of a
 //! method. A method has a label that questions name it by, stands behind its class, and takes as many arguments as it has
 //! parameters, or with `variable` for `fixed` any number; of its modifiers public, protected, private, abstract and static
-//! are known. Each line after them asks:
+//! are known, and `constructor` makes it one. Behind a word `throws` stand the types that it throws. Each line after them asks:
 //!
 //!     below TYPE TYPE        contained ARGUMENT ARGUMENT      view TYPE CLASS
 //!     capture TYPE           glb TYPE ..                      erasure TYPE
@@ -24,6 +24,8 @@
 //!     invoke TYPE TYPE       cast TYPE TYPE
 //!     infer PHASE VARIABLE .. : RESULT PARAMETER .. : ARGUMENT .. : TARGET
 //!     call EXPLICIT .. : ARGUMENT .. : TARGET | MEMBER | ..
+//!     means TYPE NAME EXPLICIT .. : ARGUMENT .. : TARGET
+//!     creates TYPE EXPLICIT .. : ARGUMENT .. : TARGET
 //!     members TYPE NAME      overrides LABEL LABEL            hides LABEL LABEL
 //!     select CLASS LABEL
 //!
@@ -31,7 +33,9 @@
 //! capture of this table made, and `null` the null type. A phase is `subtyping`, `invocation` or `variable`, a result a type
 //! or `void`; a target may be left out. The type arguments that a call writes stand before its arguments. A member is `fixed`
 //! or `variable`, as it takes as many arguments as parameters or any number, then `VARIABLE .. : RESULT PARAMETER ..`; its
-//! number is counted from 0. The members of a type are told by their labels, type parameters, results and parameters.
+//! number is counted from 0. The members of a type are told by their labels, type parameters, results and parameters. A call
+//! `means` a member of a type by its name, and one that `creates` a constructor, of a class behind which `<>` stands by a
+//! diamond: behind bars stand the types to which the arguments go, the result that isn't erased, and the thrown types.
 #![tactic(auto)]
 
 mod asking;

@@ -18,6 +18,7 @@ enum Part {
     Variable,
     Result,
     Parameter,
+    Thrown,
 }
 
 /// Adds the method of a head line.
@@ -66,10 +67,19 @@ fn put_word(
             Ok(Part::Parameter)
         }
         Part::Parameter => {
+            if word == "throws" {
+                return Ok(Part::Thrown);
+            }
             let ty = read_type(alloc, scope, word)?;
             method.params.types.push(ty)?;
             method.params.places.push(nowhere(alloc))?;
             Ok(Part::Parameter)
+        }
+        Part::Thrown => {
+            let ty = read_type(alloc, scope, word)?;
+            method.thrown.types.push(ty)?;
+            method.thrown.places.push(nowhere(alloc))?;
+            Ok(Part::Thrown)
         }
     }
 }
@@ -81,6 +91,7 @@ fn put_modifier(method: &mut MethodDecl, word: &str) -> Read<Part> {
         "private" => method.modifiers.access = Access::Private,
         "abstract" => method.modifiers.is_abstract = true,
         "static" => method.modifiers.is_static = true,
+        "constructor" => method.kind = MethodKind::Constructor,
         "fixed" => return Ok(Part::Variable),
         "variable" => {
             method.is_variable_arity = true;

@@ -1,4 +1,3 @@
 pub mod Named
 pub mod Lengths
-pub mod Faults
 pub mod Composed

@@ -1,5 +1,5 @@
 -- What is asked of the answers: for each parameter in order that no two unrelated classes meet in it, whether it is below each of its bounds, and then whether it is well
--- formed. The first question that isn't proved decides.
+-- formed (JLS 4.5), which is a judgement with three answers. The first question that isn't proved decides.
 use Rattle.std.specs.Prelude.{ℕ, ◌+◌, Option, Some, None, List, [], ◌∷◌, ◌++◌, drop, map, cond}
 use Rattle.jc_types.specs.declared.conversion.Phase.{Phase}
 use Rattle.jc_types.specs.declared.environment.Bounds.{Bounds}
@@ -7,12 +7,10 @@ use Rattle.jc_types.specs.declared.form.Ty.{Ty}
 use Rattle.jc_types.specs.declared.ids.VarId.{VarId}
 use Rattle.jc_types.specs.declared.table.Table.{Table}
 use Rattle.jc_types.specs.Substitution.{subst}
-use Rattle.jc_judge.specs.declared.faults.TypeFault.{TypeFault}
-use Rattle.jc_judge.specs.declared.faults.TypeFault.TheVariants as fault
 use Rattle.jc_judge.specs.declared.question.Answer.{Answer}
 use Rattle.jc_judge.specs.declared.question.Answer.TheVariants.{Yes, No, Deep}
 use Rattle.jc_judge.specs.Deciding.{answer_of}
-use Rattle.jc_judge.specs.Forming.{first_fault, type_faults}
+use Rattle.jc_judge.specs.Forming.{formed_answer}
 use Rattle.jc_overriding.specs.declared.view.MethodView.{MethodView}
 use Rattle.jc_constraints.specs.declared.standing.Implied.{Implied}
 use Rattle.jc_infer.specs.declared.outcome.Inference.{Inference}
@@ -32,15 +30,11 @@ abbrev pub within : Table → List Bounds → Ty → List Ty → Answer
 within T env t [] = Yes
 within T env t (b ∷ bs) = and_then (answer_of T 64 env t b) (within T env t bs)
 
--- an ill-formed answer makes the method not applicable; one of which that can't be told makes the outcome Deep
-abbrev pub refused_as : ℕ → TypeFault → Inference
-refused_as i fault.Deep = outcome.Deep
-refused_as i _ = outcome.NotApplicable (why.Ill i)
-
--- what a fault of the i-th answer comes to
-abbrev pub refused : ℕ → Option TypeFault → Option Inference
-refused i None = None
-refused i (Some f) = Some (refused_as i f)
+-- what the judgement on the i-th answer comes to: one that is refuted makes the method not applicable, and one that can't be told makes the outcome Deep
+abbrev pub unless_formed : Answer → ℕ → Option Inference
+unless_formed Yes i = None
+unless_formed No i = Some (outcome.NotApplicable (why.Ill i))
+unless_formed Deep i = Some outcome.Deep
 
 -- a bound that isn't proved decides, before anything further
 abbrev pub behind_bounds : Answer → ℕ → Option Inference → Option Inference
@@ -52,7 +46,7 @@ behind_bounds Deep i more = Some outcome.Deep
 abbrev pub one_asked : Table → List Bounds → List Implied → List VarId → List Ty → ℕ → Parameter → Option Inference
 one_asked T env later vars answers i p =
     cond (meets T later p) (Some (outcome.NotApplicable (why.Ill i)))
-    (behind_bounds (within T env (answer T later p) (map (subst vars answers) p.bounds)) i (refused i (first_fault (type_faults T env (answer T later p)))))
+    (behind_bounds (within T env (answer T later p) (map (subst vars answers) p.bounds)) i (unless_formed (formed_answer T 64 env (answer T later p)) i))
 
 -- the first outcome, if there is one
 abbrev pub or_more : Option Inference → Inference → Inference

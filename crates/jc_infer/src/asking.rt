@@ -1,16 +1,16 @@
 //! The questions on the answers.
 ghost use Rattle.std.specs.Prelude.{◌≡◌, ◌+◌, ◌≤◌, ◌^◌, IfOk, length};
 ghost use Rattle.jc_infer.specs.Steps.{answer, meets};
-ghost use Rattle.jc_judge.specs.Forming.{first_fault, type_faults};
-ghost use Rattle.jc_infer.specs.Asked.{all_asked, one_asked, refused, within};
+ghost use Rattle.jc_judge.specs.Forming.{formed_answer};
+ghost use Rattle.jc_infer.specs.Asked.{all_asked, one_asked, unless_formed, within};
 
 use crate::answering::{answer, meets};
 use crate::outcome::{Inference, Parameter, Why};
 use jc_constraints::Implied;
-use jc_rules::{Items, Stop, WantOfMemory};
+use jc_rules::{Items, WantOfMemory};
 use jc_sub::below;
 use jc_types::{Env, Table, Ty, VarId, is_row, substitute_all};
-use jc_wellformed::{Answer, TypeFault, check_type};
+use jc_wellformed::{Answer, well_formed};
 use std::alloc::Global;
 
 /// Whether a type is below each of these bounds: the first answer that isn't Yes.
@@ -34,8 +34,7 @@ fn within(
     Ok(Answer::Yes)
 }
 
-// What the well-formedness of the i-th answer comes to: None where it is proved.
-#[tactic(auto, using(crate::proofs::Faults::the_fault))]
+// What the judgement on the i-th answer comes to: None where it is well formed.
 fn ill_at(
     alloc: Global,
     table: &Table,
@@ -43,15 +42,14 @@ fn ill_at(
     i: u64,
     t: &Ty,
 ) -> Result<Option<Inference>, WantOfMemory>
-    ensures { IfOk result (λ r. r ≡ refused i (first_fault (type_faults table.now env.now.bounds t.now))) }
+    ensures { IfOk result (λ r. r ≡ unless_formed (formed_answer table.now 64 env.now.bounds t.now) i) }
 {
-    match check_type(alloc, table, env, t) {
-        Ok(()) => Ok(None),
-        Err(Stop::Refused(TypeFault::Deep)) => Ok(Some(Inference::Deep)),
-        Err(Stop::Refused(_)) => Ok(Some(Inference::NotApplicable {
+    match well_formed(alloc, table, env, t)? {
+        Answer::Yes => Ok(None),
+        Answer::No => Ok(Some(Inference::NotApplicable {
             why: Why::Ill { i },
         })),
-        Err(Stop::WantOfMemory) => Err(WantOfMemory),
+        Answer::Deep => Ok(Some(Inference::Deep)),
     }
 }
 

@@ -13,5 +13,6 @@ mod stretching;
 
 pub use giving::given;
 pub use inferring::infer;
+pub use naming::names;
 pub use outcome::{Inference, Parameter, Why};
 pub use stretching::formals;

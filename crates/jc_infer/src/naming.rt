@@ -5,6 +5,7 @@ ghost use Rattle.jc_infer.specs.Naming.{any_true, names, names_in_arg};
 use jc_constraints::is_unknown;
 use jc_types::{Arg, Ty, VarId};
 
+/// Whether a type names one of these type variables, at any depth. Bounds of captured variables aren't looked into.
 #[cycle(names)]
 #[tactic(auto, using(crate::proofs::Named::named))]
 pub fn names(vars: &[VarId], t: &Ty) -> bool

@@ -4,10 +4,10 @@ mod Arguments
 mod Beneath
 mod Joined
 mod Layers
-mod Homs
-mod Viewed
-mod Unique
-mod Closing
-mod Held
+pub mod Homs
+pub mod Viewed
+pub mod Unique
+pub mod Closing
+pub mod Held
 mod Seen
 mod Fitting

@@ -1,4 +1,4 @@
 pub mod Short
 pub mod Beating
 pub mod Listed
-pub mod Chosen
+pub mod Decides

@@ -79,16 +79,20 @@ type_arguments T env site phase m = type_arguments_of T env site phase m m.vars 
 
 -- ---- applicable members
 
--- the outcome with these type arguments, by whether the arguments fit
-abbrev pub applied_by : List Ty → Fit → Applied
-applied_by by (fit.Fits unchecked) = applied.Applies by unchecked
-applied_by by fit.Fails = applied.Fails
-applied_by by fit.Deep = applied.Deep
+-- the outcome with these type arguments and types of parameters, by whether the arguments fit
+abbrev pub applied_by : List Ty → List Ty → Fit → Applied
+applied_by by to (fit.Fits unchecked) = applied.Applies by to unchecked
+applied_by by to fit.Fails = applied.Fails
+applied_by by to fit.Deep = applied.Deep
+
+-- the types to which so many arguments go in a phase, with types for the type parameters (JLS 15.12.2.2 to 15.12.2.4)
+abbrev pub formals_with : Phase → MethodView → List Ty → ℕ → List Ty
+formals_with phase m by n = map (subst m.vars by) (formals phase m.params n)
 
 -- the arguments, by what stands for the type parameters
 abbrev pub applied_with : Table → List Bounds → CallSite → Phase → MethodView → Inference → Applied
 applied_with T env site phase m (inference.Inferred by) =
-    applied_by by (fits T env phase site.args (map (subst m.vars by) (formals phase m.params (length site.args))))
+    applied_by by (formals_with phase m by (length site.args)) (fits T env phase site.args (formals_with phase m by (length site.args)))
 applied_with T env site phase m (inference.NotApplicable why) = applied.Fails
 applied_with T env site phase m inference.Deep = applied.Deep
 
@@ -97,9 +101,9 @@ abbrev pub applicable : Table → List Bounds → CallSite → Phase → MethodV
 applicable T env site phase m =
     cond (takes phase m (length site.args) && counts m.vars site.explicit) (applied_with T env site phase m (type_arguments T env site phase m)) applied.Fails
 
--- an applicable member, with its type arguments and whether an unchecked conversion was needed
-abbrev pub candidate : MethodView → List Ty → Bool → Candidate
-candidate m by unchecked = record { member = m; type_args = by; unchecked = unchecked }
+-- an applicable member, with its type arguments, the types to which the arguments go, and whether an unchecked conversion was needed
+abbrev pub candidate : MethodView → List Ty → List Ty → Bool → Candidate
+candidate m by to unchecked = record { member = m; type_args = by; formals = to; unchecked = unchecked }
 
 -- a candidate before the further ones, if these are known
 abbrev pub put : Candidate → Option (List Candidate) → Option (List Candidate)
@@ -108,7 +112,7 @@ put c (Some cs) = Some (c ∷ cs)
 
 -- .. by whether the member is applicable
 abbrev pub gathered_by : MethodView → Applied → Option (List Candidate) → Option (List Candidate)
-gathered_by m (applied.Applies by unchecked) further = put (candidate m by unchecked) further
+gathered_by m (applied.Applies by to unchecked) further = put (candidate m by to unchecked) further
 gathered_by m applied.Fails further = further
 gathered_by m applied.Deep further = None
 

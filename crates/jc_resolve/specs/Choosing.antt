@@ -21,22 +21,36 @@ use Rattle.jc_infer.specs.Asked.{and_then}
 use Rattle.jc_resolve.specs.declared.site.CallSite.{CallSite}
 use Rattle.jc_resolve.specs.declared.applied.Candidate.{Candidate}
 use Rattle.jc_resolve.specs.declared.choice.Choice.{Choice}
+use Rattle.jc_resolve.specs.declared.choice.Chosen.{Chosen}
 use Rattle.jc_resolve.specs.declared.choice.Choice.TheVariants as choice
 use Rattle.jc_resolve.specs.Applying.{gathered}
 use Rattle.jc_resolve.specs.Specific.{maximal}
 
 -- ---- the chosen member
 
--- the result of a call that an unchecked conversion made applicable is erased (JLS 15.12.2.6)
+-- the result and the thrown types of a call that an unchecked conversion made applicable are erased (JLS 15.12.2.6)
 abbrev pub result_type : Table → List Bounds → MethodView → List Ty → Bool → Ty → Ty
 result_type T env m by true t = erased_within T env m t
 result_type T env m by false t = subst m.vars by t
 
--- a candidate as the choice, with its parameters and its result as the call has them
+-- a candidate with its parameters, its result and its thrown types as the call has them
+abbrev pub told : Table → List Bounds → Phase → Candidate → Chosen
+told T env phase c =
+    record {
+      member = c.member;
+      phase = phase;
+      type_args = c.type_args;
+      params = map (subst c.member.vars c.type_args) c.member.params;
+      formals = c.formals;
+      kept = option_map (subst c.member.vars c.type_args) c.member.result;
+      result = option_map (result_type T env c.member c.type_args c.unchecked) c.member.result;
+      thrown = map (result_type T env c.member c.type_args c.unchecked) c.member.thrown;
+      unchecked = c.unchecked;
+    }
+
+-- .. as the choice
 abbrev pub chosen : Table → List Bounds → Phase → Candidate → Choice
-chosen T env phase c =
-    choice.Chosen c.member.id phase c.type_args (map (subst c.member.vars c.type_args) c.member.params)
-    (option_map (result_type T env c.member c.type_args c.unchecked) c.member.result) c.unchecked
+chosen T env phase c = choice.Chosen (told T env phase c)
 
 -- the first two of several candidates; fewer than two mean that none is applicable
 abbrev pub ambiguous : List Candidate → Choice

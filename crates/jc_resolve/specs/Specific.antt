@@ -1,11 +1,10 @@
 -- Which of several applicable members is the most specific one (JLS 15.12.2.5).
-use Rattle.std.specs.Prelude.{ℕ, ◌==◌, max, cond, Option, Some, None, List, [], ◌∷◌, length, map}
+use Rattle.std.specs.Prelude.{ℕ, ◌==◌, max, cond, Option, Some, None, List, [], ◌∷◌, length}
 use Rattle.jc_types.specs.declared.conversion.Phase.{Phase}
 use Rattle.jc_types.specs.declared.environment.Bounds.{Bounds}
 use Rattle.jc_types.specs.declared.form.Ty.{Ty}
 use Rattle.jc_types.specs.declared.ids.VarId.{VarId}
 use Rattle.jc_types.specs.declared.table.Table.{Table}
-use Rattle.jc_types.specs.Substitution.{subst}
 use Rattle.jc_judge.specs.declared.question.Answer.{Answer}
 use Rattle.jc_judge.specs.declared.question.Answer.TheVariants.{Yes, No, Deep}
 use Rattle.jc_judge.specs.Deciding.{answer_of}
@@ -15,7 +14,7 @@ use Rattle.jc_infer.specs.declared.outcome.Inference.TheVariants as inference
 use Rattle.jc_infer.specs.Asked.{and_then, inferred}
 use Rattle.jc_infer.specs.Formals.{formals}
 use Rattle.jc_resolve.specs.declared.applied.Candidate.{Candidate}
-use Rattle.jc_resolve.specs.Applying.{put}
+use Rattle.jc_resolve.specs.Applying.{formals_with, put}
 use Rattle.jc_resolve.specs.Parameters.{standing_in, with_parameters}
 
 -- each type is below the one at its place: the first question that isn't proved decides
@@ -38,7 +37,7 @@ compared_by T env phase b params = compared_by_of T env phase b params b.vars
 
 -- parameters of another member are below b's, with these type arguments; No where inference fails
 abbrev pub compared_with : Table → List Bounds → Phase → MethodView → List Ty → Inference → Answer
-compared_with T env phase b params (inference.Inferred by) = all_below T env params (map (subst b.vars by) (formals phase b.params (length params)))
+compared_with T env phase b params (inference.Inferred by) = all_below T env params (formals_with phase b by (length params))
 compared_with T env phase b params (inference.NotApplicable why) = No
 compared_with T env phase b params inference.Deep = Deep
 

@@ -12,21 +12,23 @@ pub enum Fit {
     Deep,
 }
 
-/// Whether a member is applicable, with what stands for its type parameters.
+/// Whether a member is applicable, with what stands for its type parameters and the types to which the arguments go.
 #[derive(Drop)]
 pub enum Applied {
     Applies {
         type_args: Items<Ty>,
+        formals: Items<Ty>,
         unchecked: bool,
     },
     Fails,
     Deep,
 }
 
-/// A member that is applicable.
+/// A member that is applicable, with the type of the parameter to which each argument goes.
 #[derive(Drop)]
 pub struct Candidate {
     pub member: MethodView,
     pub type_args: Items<Ty>,
+    pub formals: Items<Ty>,
     pub unchecked: bool,
 }

@@ -3,7 +3,7 @@ ghost use Rattle.std.specs.Prelude.{◌≡◌, IfOk, List, Option, length, map, 
 ghost use Rattle.jc_resolve.specs.declared.applied.Candidate.{Candidate};
 ghost use Rattle.jc_infer.specs.declared.outcome.Inference.TheVariants as inference;
 ghost use Rattle.jc_types.specs.Substitution.{subst};
-ghost use Rattle.jc_resolve.specs.Applying.{applicable, applied_by, applied_with, before, before_if, by_subtyping, candidate, converted, counts, fits, gathered, gathered_by, takes, type_arguments};
+ghost use Rattle.jc_resolve.specs.Applying.{applicable, applied_by, applied_with, before, before_if, by_subtyping, candidate, converted, counts, fits, formals_with, gathered, gathered_by, takes, type_arguments};
 
 use crate::applied::{Applied, Candidate, Fit};
 use crate::copying::copy_view;
@@ -131,12 +131,13 @@ fn type_arguments(
     }
 }
 
-fn applied_by(by: Items<Ty>, fit: Fit) -> Applied
-    ensures { result ≡ applied_by by fit }
+fn applied_by(by: Items<Ty>, formals: Items<Ty>, fit: Fit) -> Applied
+    ensures { result ≡ applied_by by formals fit }
 {
     match fit {
         Fit::Fits { unchecked } => Applied::Applies {
             type_args: by,
+            formals,
             unchecked,
         },
         Fit::Fails => Applied::Fails,
@@ -159,6 +160,20 @@ pub fn put_all(
     substitute_all(alloc, types, vars, &by[..most], is_row(vars))
 }
 
+/// The types to which so many arguments go in a phase, with types for the type parameters.
+pub fn formals_with(
+    alloc: Global,
+    phase: Phase,
+    m: &MethodView,
+    by: &[Ty],
+    count: usize,
+) -> Result<Items<Ty>, WantOfMemory>
+    ensures { IfOk result (λ r. r ≡ formals_with phase m.now by.now count) }
+{
+    let formals = formals(alloc, phase, m.params.slice(), count)?;
+    put_all(alloc, formals.slice(), m.vars.slice(), by)
+}
+
 // The questions on the arguments.
 fn applied_with(
     alloc: Global,
@@ -172,10 +187,9 @@ fn applied_with(
     ensures { IfOk result (λ r. r ≡ applied_with table.now env.now.bounds site.now phase m.now (inference.Inferred by)) }
 {
     let args = site.args.slice();
-    let formals = formals(alloc, phase, m.params.slice(), args.len())?;
-    let params = put_all(alloc, formals.slice(), m.vars.slice(), by.slice())?;
-    let fit = fits(alloc, table, env, phase, args, params.slice())?;
-    Ok(applied_by(by, fit))
+    let formals = formals_with(alloc, phase, m, by.slice(), args.len())?;
+    let fit = fits(alloc, table, env, phase, args, formals.slice())?;
+    Ok(applied_by(by, formals, fit))
 }
 
 // Whether a member is applicable in a phase.
@@ -204,14 +218,16 @@ fn candidate(
     alloc: Global,
     m: &MethodView,
     type_args: Items<Ty>,
+    formals: Items<Ty>,
     unchecked: bool,
 ) -> Result<Candidate, WantOfMemory>
-    ensures { IfOk result (λ c. c ≡ candidate m.now type_args unchecked) }
+    ensures { IfOk result (λ c. c ≡ candidate m.now type_args formals unchecked) }
 {
     let member = copy_view(alloc, m)?;
     Ok(Candidate {
         member,
         type_args,
+        formals,
         unchecked,
     })
 }
@@ -232,9 +248,10 @@ fn add(
     match applied(alloc, table, env, site, phase, m)? {
         Applied::Applies {
             type_args,
+            formals,
             unchecked,
         } => {
-            let found = candidate(alloc, m, type_args, unchecked)?;
+            let found = candidate(alloc, m, type_args, formals, unchecked)?;
             list.push(found)?;
             Ok(true)
         }

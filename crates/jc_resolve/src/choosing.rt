@@ -1,22 +1,23 @@
 //! The most specific one of applicable members (JLS 15.12.2.5, 15.12.2.6).
-ghost use Rattle.std.specs.Prelude.{◌≡◌, IfOk};
+ghost use Rattle.std.specs.Prelude.{◌≡◌, IfOk, map};
 ghost use Rattle.jc_types.specs.Substitution.{subst};
 ghost use Rattle.std.specs.Option.{option_map};
-ghost use Rattle.jc_resolve.specs.Choosing.{ambiguous, bodies, by_body, by_result, chosen, chosen_among, result_type};
+ghost use Rattle.jc_resolve.specs.Choosing.{ambiguous, bodies, by_body, by_result, chosen, chosen_among, result_type, told};
 
 use crate::applied::Candidate;
 use crate::applying::put_all;
-use crate::choice::Choice;
+use crate::choice::{Choice, Chosen};
+use crate::copying::copy_view;
 use crate::sorting::{all_equivalent, bodies, first_with_body, fits_all};
 use jc_judge::Answer;
 use jc_members::erased_within;
-use jc_rules::WantOfMemory;
+use jc_rules::{Items, WantOfMemory};
 use jc_types::{Env, Phase, Table, Ty, VarId, copy_types, substitute};
 use std::alloc::Global;
 
-// A type with type arguments for type parameters, each for each.
+/// A type with type arguments for type parameters, each for each.
 #[tactic(auto, using(jc_members::proofs::Short::subst_short))]
-fn put(alloc: Global, t: &Ty, vars: &[VarId], by: &[Ty]) -> Result<Ty, WantOfMemory>
+pub fn put(alloc: Global, t: &Ty, vars: &[VarId], by: &[Ty]) -> Result<Ty, WantOfMemory>
     ensures { IfOk result (λ r. r ≡ subst vars.now by.now t.now) }
 {
     let most = vars.len().min(by.len());
@@ -56,6 +57,67 @@ fn result_of(
     }
 }
 
+// The result with the type arguments, which is not erased.
+fn kept_of(alloc: Global, c: &Candidate) -> Result<Option<Ty>, WantOfMemory>
+    ensures { IfOk result (λ r. r ≡ option_map (subst c.now.member.vars c.now.type_args) c.now.member.result) }
+{
+    match &c.member.result {
+        None => Ok(None),
+        Some(t) => {
+            let t = put(alloc, t, c.member.vars.slice(), c.type_args.slice())?;
+            Ok(Some(t))
+        }
+    }
+}
+
+// The thrown types with the type arguments for the type parameters, or erased.
+fn thrown_of(
+    alloc: Global,
+    table: &Table,
+    env: &Env,
+    c: &Candidate,
+) -> Result<Items<Ty>, WantOfMemory>
+    ensures { IfOk result (λ r. r ≡ map (result_type table.now env.now.bounds c.now.member c.now.type_args c.now.unchecked) c.now.member.thrown) }
+{
+    let mut list = Items::new(alloc);
+    let mut rest = c.member.thrown.slice();
+    while let [t, more @ ..] = rest {
+        list.push(result_type(alloc, table, env, c, t)?)?;
+        rest = more;
+    }
+    Ok(list)
+}
+
+fn told(
+    alloc: Global,
+    table: &Table,
+    env: &Env,
+    phase: Phase,
+    c: &Candidate,
+) -> Result<Chosen, WantOfMemory>
+    ensures { IfOk result (λ r. r ≡ told table.now env.now.bounds phase c.now) }
+{
+    let by = c.type_args.slice();
+    let member = copy_view(alloc, &c.member)?;
+    let type_args = copy_types(alloc, by)?;
+    let params = put_all(alloc, c.member.params.slice(), c.member.vars.slice(), by)?;
+    let formals = copy_types(alloc, c.formals.slice())?;
+    let kept = kept_of(alloc, c)?;
+    let result = result_of(alloc, table, env, c)?;
+    let thrown = thrown_of(alloc, table, env, c)?;
+    Ok(Chosen {
+        member,
+        phase,
+        type_args,
+        params,
+        formals,
+        kept,
+        result,
+        thrown,
+        unchecked: c.unchecked,
+    })
+}
+
 /// The choice of a candidate.
 pub fn chosen(
     alloc: Global,
@@ -66,19 +128,8 @@ pub fn chosen(
 ) -> Result<Choice, WantOfMemory>
     ensures { IfOk result (λ r. r ≡ chosen table.now env.now.bounds phase c.now) }
 {
-    let member = &c.member;
-    let by = c.type_args.slice();
-    let params = put_all(alloc, member.params.slice(), member.vars.slice(), by)?;
-    let result = result_of(alloc, table, env, c)?;
-    let type_args = copy_types(alloc, by)?;
-    Ok(Choice::Chosen {
-        member: member.id,
-        phase,
-        type_args,
-        params,
-        result,
-        unchecked: c.unchecked,
-    })
+    let told = told(alloc, table, env, phase, c)?;
+    Ok(Choice::Chosen(told))
 }
 
 // Of several candidates the first two are named.

@@ -66,9 +66,11 @@ pub fn copy_candidate(alloc: Global, c: &Candidate) -> Result<Candidate, WantOfM
 {
     let member = copy_view(alloc, &c.member)?;
     let type_args = copy_types(alloc, c.type_args.slice())?;
+    let formals = copy_types(alloc, c.formals.slice())?;
     Ok(Candidate {
         member,
         type_args,
+        formals,
         unchecked: c.unchecked,
     })
 }

@@ -1,10 +1,10 @@
 //! A member's own type parameters as types, with the bounds that its view gives them (JLS 4.5.2).
-ghost use Rattle.std.specs.Prelude.{◌≡◌, ◌++◌, IfOk};
+ghost use Rattle.std.specs.Prelude.{◌≡◌, ◌≤◌, IfOk, length, take};
 ghost use Rattle.jc_resolve.specs.Parameters.{bounded_by, stand_ins};
 
 use crate::applying::put_all;
 use jc_rules::{Items, WantOfMemory};
-use jc_types::{Bounds, CaptureId, Env, Ty, VarId, copy_bounds};
+use jc_types::{Bounds, CaptureId, Ty, VarId};
 use std::alloc::Global;
 
 /// Fresh variables that stand for type parameters, numbered from `first` on.
@@ -25,7 +25,8 @@ pub fn stand_ins(alloc: Global, first: u64, vars: &[VarId]) -> Result<Items<Ty>,
     Ok(list)
 }
 
-fn bounded_by(
+/// Each of these lists as upper bounds, with types for the type parameters.
+pub fn bounded_by(
     alloc: Global,
     vars: &[VarId],
     by: &[Ty],
@@ -45,30 +46,12 @@ fn bounded_by(
     Ok(list)
 }
 
-fn copy_env(alloc: Global, env: &[Bounds]) -> Result<Items<Bounds>, WantOfMemory>
-    ensures { IfOk result (λ r. r ≡ env.now) }
+/// Back to a length.
+pub fn shrink(bounds: &mut Items<Bounds>, to: usize)
+    requires { to ≤ length bounds.old }
+    ensures { bounds.new ≡ take to bounds.old }
 {
-    let mut list = Items::new(alloc);
-    let mut rest = env;
-    while let [bounds, more @ ..] = rest {
-        list.push(copy_bounds(alloc, bounds)?)?;
-        rest = more;
+    while bounds.len() > to {
+        let _last = bounds.pop();
     }
-    Ok(list)
-}
-
-/// An environment in which type parameters with such bounds stand behind others, as the variables that are given.
-pub fn with_bounds(
-    alloc: Global,
-    env: &Env,
-    vars: &[VarId],
-    by: &[Ty],
-    bounds: &[Items<Ty>],
-) -> Result<Env, WantOfMemory>
-    ensures { IfOk result (λ r. r.bounds ≡ env.now.bounds ++ bounded_by vars.now by.now bounds.now) }
-{
-    let mut all = copy_env(alloc, env.bounds.slice())?;
-    let own = bounded_by(alloc, vars, by, bounds)?;
-    all.append(own)?;
-    Ok(Env { bounds: all })
 }

@@ -7,9 +7,9 @@ ghost use Rattle.jc_resolve.specs.Parameters.{standing_in, with_parameters};
 ghost use Rattle.jc_resolve.specs.Specific.{all_below, beaten, compared, compared_by, compared_with, either, maximal, more_specific, put_unless, strictly};
 
 use crate::applied::Candidate;
-use crate::applying::put_all;
+use crate::applying::{formals_with, put_all};
 use crate::copying::copy_candidate;
-use crate::parameters::{stand_ins, with_bounds};
+use crate::parameters::{bounded_by, shrink, stand_ins};
 use jc_infer::{Inference, formals, infer};
 use jc_judge::Answer;
 use jc_members::MethodView;
@@ -77,8 +77,7 @@ fn compared_with(
 ) -> Result<Answer, WantOfMemory>
     ensures { IfOk result (λ a. a ≡ compared_with table.now env.now.bounds phase b.now params.now (inference.Inferred by.now)) }
 {
-    let formals = formals(alloc, phase, b.params.slice(), params.len())?;
-    let wanted = put_all(alloc, formals.slice(), b.vars.slice(), by)?;
+    let wanted = formals_with(alloc, phase, b, by, params.len())?;
     all_below(alloc, table, env, params, wanted.slice())
 }
 
@@ -102,35 +101,42 @@ fn compared(
     }
 }
 
-// The same of parameters of a member with type parameters.
+// The same of parameters of a member with type parameters, which stand behind the captured variables as long as they are asked.
+#[tactic(auto, using(crate::proofs::Short::back_to))]
 fn compared_generic(
     alloc: Global,
     table: &Table,
-    env: &Env,
+    env: &mut Env,
     phase: Phase,
     a: &MethodView,
     b: &MethodView,
     params: &[Ty],
 ) -> Result<Answer, WantOfMemory>
-    ensures { IfOk result (λ r. r ≡ compared table.now (with_parameters env.now.bounds a.now) phase b.now (standing_in env.now.bounds a.now params.now)) }
+    ensures answer { IfOk result (λ r. r ≡ compared table.now (with_parameters env.old.bounds a.now) phase b.now (standing_in env.old.bounds a.now params.now)) }
+    ensures env { env.new.bounds ≡ env.old.bounds }
 {
     let vars = a.vars.slice();
-    let by = stand_ins(alloc, env.bounds.len() as u64, vars)?;
-    let within = with_bounds(alloc, env, vars, by.slice(), a.bounds.slice())?;
+    let kept = env.bounds.len();
+    let by = stand_ins(alloc, kept as u64, vars)?;
+    let own = bounded_by(alloc, vars, by.slice(), a.bounds.slice())?;
     let params = put_all(alloc, params, vars, by.slice())?;
-    compared(alloc, table, &within, phase, b, params.slice())
+    env.bounds.append(own)?;
+    let answer = compared(alloc, table, env, phase, b, params.slice());
+    shrink(&mut env.bounds, kept);
+    answer
 }
 
 // Whether a is more specific than b.
 fn more_specific(
     alloc: Global,
     table: &Table,
-    env: &Env,
+    env: &mut Env,
     phase: Phase,
     a: &MethodView,
     b: &MethodView,
 ) -> Result<Answer, WantOfMemory>
-    ensures { IfOk result (λ r. r ≡ more_specific table.now env.now.bounds phase a.now b.now) }
+    ensures answer { IfOk result (λ r. r ≡ more_specific table.now env.old.bounds phase a.now b.now) }
+    ensures env { env.new.bounds ≡ env.old.bounds }
 {
     let count = a.params.slice().len().max(b.params.slice().len());
     let params = formals(alloc, phase, a.params.slice(), count)?;
@@ -144,12 +150,13 @@ fn more_specific(
 fn strictly(
     alloc: Global,
     table: &Table,
-    env: &Env,
+    env: &mut Env,
     phase: Phase,
     a: &MethodView,
     b: &MethodView,
 ) -> Result<Answer, WantOfMemory>
-    ensures { IfOk result (λ r. r ≡ strictly table.now env.now.bounds phase a.now b.now) }
+    ensures answer { IfOk result (λ r. r ≡ strictly table.now env.old.bounds phase a.now b.now) }
+    ensures env { env.new.bounds ≡ env.old.bounds }
 {
     if a.id.0 == b.id.0 {
         return Ok(Answer::No);
@@ -184,12 +191,13 @@ fn either(a: Answer, b: Answer) -> Answer
 fn beaten(
     alloc: Global,
     table: &Table,
-    env: &Env,
+    env: &mut Env,
     phase: Phase,
     b: &MethodView,
     candidates: &[Candidate],
 ) -> Result<Answer, WantOfMemory>
-    ensures { IfOk result (λ r. r ≡ beaten table.now env.now.bounds phase b.now candidates.now) }
+    ensures answer { IfOk result (λ r. r ≡ beaten table.now env.old.bounds phase b.now candidates.now) }
+    ensures env { env.new.bounds ≡ env.old.bounds }
 {
     let mut found = Answer::No;
     let mut rest = candidates;
@@ -206,13 +214,14 @@ fn beaten(
 fn add_unless_beaten(
     alloc: Global,
     table: &Table,
-    env: &Env,
+    env: &mut Env,
     phase: Phase,
     all: &[Candidate],
     c: &Candidate,
     list: &mut Items<Candidate>,
 ) -> Result<bool, WantOfMemory>
-    ensures { IfOk result (λ known. (more : Option (List Candidate)) → before_if known list.new more ≡ before list.old (put_unless (beaten table.now env.now.bounds phase c.now.member all.now) c.now more)) }
+    ensures answer { IfOk result (λ known. (more : Option (List Candidate)) → before_if known list.new more ≡ before list.old (put_unless (beaten table.now env.old.bounds phase c.now.member all.now) c.now more)) }
+    ensures env { env.new.bounds ≡ env.old.bounds }
 {
     match beaten(alloc, table, env, phase, &c.member, all)? {
         Answer::Yes => Ok(true),
@@ -230,11 +239,12 @@ fn add_unless_beaten(
 pub fn maximal(
     alloc: Global,
     table: &Table,
-    env: &Env,
+    env: &mut Env,
     phase: Phase,
     all: &[Candidate],
 ) -> Result<Option<Items<Candidate>>, WantOfMemory>
-    ensures { IfOk result (λ r. r ≡ maximal table.now env.now.bounds phase all.now all.now) }
+    ensures answer { IfOk result (λ r. r ≡ maximal table.now env.old.bounds phase all.now all.now) }
+    ensures env { env.new.bounds ≡ env.old.bounds }
 {
     let mut list = Items::new(alloc);
     let mut rest = all;

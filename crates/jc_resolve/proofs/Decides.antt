@@ -5,7 +5,6 @@ use Rattle.jc_types.specs.declared.conversion.Phase.{Phase}
 use Rattle.jc_types.specs.declared.conversion.Phase.TheVariants.{Subtyping, Invocation, VariableArity}
 use Rattle.jc_types.specs.declared.environment.Bounds.{Bounds}
 use Rattle.jc_types.specs.declared.form.Ty.{Ty}
-use Rattle.jc_types.specs.declared.ids.MethodId.{MethodId}
 use Rattle.jc_types.specs.declared.table.Table.{Table}
 use Rattle.jc_types.specs.Accessors.{has_body}
 use Rattle.jc_judge.specs.declared.question.Answer.{Answer}
@@ -15,24 +14,25 @@ use Rattle.jc_resolve.specs.declared.applied.Applied.{Applied}
 use Rattle.jc_resolve.specs.declared.applied.Applied.TheVariants as applied_as
 use Rattle.jc_resolve.specs.declared.applied.Candidate.{Candidate}
 use Rattle.jc_resolve.specs.declared.choice.Choice.{Choice}
+use Rattle.jc_resolve.specs.declared.choice.Chosen.{Chosen}
 use Rattle.jc_resolve.specs.declared.choice.Choice.TheVariants as choice
 use Rattle.jc_resolve.specs.declared.site.CallSite.{CallSite}
 use Rattle.jc_resolve.specs.Applying.{applicable, candidate, gathered, gathered_by, put}
 use Rattle.jc_resolve.specs.Specific.{beaten, maximal, put_unless}
-use Rattle.jc_resolve.specs.Choosing.{all_equivalent, all_equivalent_to, ambiguous, bodies, by_body, by_result, chosen, chosen_among, chosen_if, chosen_or_ambiguous, decided, equivalent, first_with_body, fits_all, in_phase, most_specific, or_all, or_further, resolved, unless_none}
+use Rattle.jc_resolve.specs.Choosing.{all_equivalent, all_equivalent_to, ambiguous, bodies, by_body, by_result, chosen, chosen_among, chosen_if, chosen_or_ambiguous, decided, equivalent, first_with_body, fits_all, in_phase, most_specific, or_all, or_further, resolved, told, unless_none}
 use Rattle.jc_resolve.specs.Laws.{AreEquivalent, IsAmong, IsApplicable, StandsBeside, another, itself}
 
 -- ---- the gathered candidates
 
 abbrev Holds : Table → List Bounds → CallSite → Phase → List MethodView → Candidate → Type 0
-Holds T env site phase ms c = IsAmong ms c.member × (applicable T env site phase c.member ≡ applied_as.Applies c.type_args c.unchecked)
+Holds T env site phase ms c = IsAmong ms c.member × (applicable T env site phase c.member ≡ applied_as.Applies c.type_args c.formals c.unchecked)
 
 module _ (T : Table) (env : List Bounds) (site : CallSite) (phase : Phase) where
   further : (m : MethodView) (ms : List MethodView) (c : Candidate) → Holds T env site phase ms c → Holds T env site phase (m ∷ ms) c
   further m ms c h = (inr h.0, h.1)
 
-  first : (m : MethodView) (ms : List MethodView) (by : List Ty) (u : Bool) (c : Candidate) → applicable T env site phase m ≡ applied_as.Applies by u → c ≡ candidate m by u → Holds T env site phase (m ∷ ms) c
-  first m ms by u c h e = subst (Holds T env site phase (m ∷ ms)) (sym e) (inl refl, h)
+  first : (m : MethodView) (ms : List MethodView) (by to : List Ty) (u : Bool) (c : Candidate) → applicable T env site phase m ≡ applied_as.Applies by to u → c ≡ candidate m by to u → Holds T env site phase (m ∷ ms) c
+  first m ms by to u c h e = subst (Holds T env site phase (m ∷ ms)) (sym e) (inl refl, h)
 
   -- what holds of the candidates of further members
   abbrev Further : List MethodView → Type 0
@@ -41,19 +41,19 @@ module _ (T : Table) (env : List Bounds) (site : CallSite) (phase : Phase) where
   same : (l r : List Candidate) → Some l ≡ Some r → l ≡ r
   same l r e = cc
 
-  by_place : (m : MethodView) (ms : List MethodView) (ds : List Candidate) (by : List Ty) (u : Bool) → Further ms → applicable T env site phase m ≡ applied_as.Applies by u → gathered T env site phase ms ≡ Some ds
-      → (c : Candidate) → IsAmong (candidate m by u ∷ ds) c → Holds T env site phase (m ∷ ms) c
-  by_place m ms ds by u ih h g c (inl e) = first m ms by u c h e
-  by_place m ms ds by u ih h g c (inr k) = further m ms c (ih ds g c k)
+  by_place : (m : MethodView) (ms : List MethodView) (ds : List Candidate) (by to : List Ty) (u : Bool) → Further ms → applicable T env site phase m ≡ applied_as.Applies by to u → gathered T env site phase ms ≡ Some ds
+      → (c : Candidate) → IsAmong (candidate m by to u ∷ ds) c → Holds T env site phase (m ∷ ms) c
+  by_place m ms ds by to u ih h g c (inl e) = first m ms by to u c h e
+  by_place m ms ds by to u ih h g c (inr k) = further m ms c (ih ds g c k)
 
-  by_rest : (m : MethodView) (ms : List MethodView) (cs : List Candidate) (by : List Ty) (u : Bool) → Further ms → applicable T env site phase m ≡ applied_as.Applies by u → (g : Option (List Candidate)) → gathered T env site phase ms ≡ g
-      → put (candidate m by u) g ≡ Some cs → (c : Candidate) → IsAmong cs c → Holds T env site phase (m ∷ ms) c
-  by_rest m ms cs by u ih h None g e c among = absurd cc
-  by_rest m ms cs by u ih h (Some ds) g e c among = by_place m ms ds by u ih h g c (subst (λ (l : List Candidate). IsAmong l c) (sym (same (candidate m by u ∷ ds) cs e)) among)
+  by_rest : (m : MethodView) (ms : List MethodView) (cs : List Candidate) (by to : List Ty) (u : Bool) → Further ms → applicable T env site phase m ≡ applied_as.Applies by to u → (g : Option (List Candidate)) → gathered T env site phase ms ≡ g
+      → put (candidate m by to u) g ≡ Some cs → (c : Candidate) → IsAmong cs c → Holds T env site phase (m ∷ ms) c
+  by_rest m ms cs by to u ih h None g e c among = absurd cc
+  by_rest m ms cs by to u ih h (Some ds) g e c among = by_place m ms ds by to u ih h g c (subst (λ (l : List Candidate). IsAmong l c) (sym (same (candidate m by to u ∷ ds) cs e)) among)
 
   by_answer : (m : MethodView) (ms : List MethodView) (cs : List Candidate) → Further ms → (a : Applied) → applicable T env site phase m ≡ a → gathered_by m a (gathered T env site phase ms) ≡ Some cs → (c : Candidate) → IsAmong cs c
       → Holds T env site phase (m ∷ ms) c
-  by_answer m ms cs ih (applied_as.Applies by u) h e c among = by_rest m ms cs by u ih h (gathered T env site phase ms) refl e c among
+  by_answer m ms cs ih (applied_as.Applies by to u) h e c among = by_rest m ms cs by to u ih h (gathered T env site phase ms) refl e c among
   by_answer m ms cs ih applied_as.Fails h e c among = further m ms c (ih cs e c among)
   by_answer m ms cs ih applied_as.Deep h e c among = absurd cc
 
@@ -64,7 +64,7 @@ module _ (T : Table) (env : List Bounds) (site : CallSite) (phase : Phase) where
 -- ---- where a choice comes from
 
 abbrev is_chosen : Choice → Bool
-is_chosen (choice.Chosen m phase by params r u) = true
+is_chosen (choice.Chosen c) = true
 is_chosen _ = false
 
 ambiguous_is_none : (cs : List Candidate) → is_chosen (ambiguous cs) ≡ false
@@ -254,20 +254,23 @@ module _ (T : Table) (env : List Bounds) (site : CallSite) where
           by_further Subtyping (in_phase T env site Subtyping) middle x refl e (λ e. by_further Invocation (in_phase T env site Invocation) last x refl e
           (λ e. by_further VariableArity (in_phase T env site VariableArity) choice.NoneApplicable x refl e (λ e. absurd (not_chosen x choice.NoneApplicable refl e t))))
 
-  module _ (phase : Phase) (m : MethodId) (by params : List Ty) (r : Option Ty) (u : Bool) where
+  module _ (c : Chosen) where
     abbrev x : Choice
-    x = choice.Chosen m phase by params r u
+    x = choice.Chosen c
 
     record Known : Type 0 where
       candidates : List Candidate
-      gathers : gathered T env site phase site.members ≡ Some candidates
-      decides : Decides T env phase candidates x
+      gathers : gathered T env site c.phase site.members ≡ Some candidates
+      decides : Decides T env c.phase candidates x
+
+    same_told : (a b : Chosen) → choice.Chosen a ≡ choice.Chosen b → a ≡ b
+    same_told a b e = cc
 
     known : resolved T env site ≡ x → Known
     known e = by_phase (in_some_phase x e refl)
       where
-        same_phase : (p : Phase) (c : Candidate) → chosen T env p c ≡ x → p ≡ phase
-        same_phase p c e = cc
+        same_phase : (p : Phase) (d : Candidate) → chosen T env p d ≡ x → p ≡ c.phase
+        same_phase p d e = ap (λ (a : Chosen). a.phase) (same_told (told T env p d) c e)
 
         by_phase : Found x → Known
         by_phase f =
@@ -279,32 +282,30 @@ module _ (T : Table) (env : List Bounds) (site : CallSite) where
               decides = subst (λ (q : Phase). Decides T env q (h.0) x) p (h.2);
             }
 
-    pub chosen_applies : resolved T env site ≡ x → IsApplicable T env site phase m by u
+    -- what is told of a candidate has its parts
+    of_told : (d : Candidate) → IsAmong site.members d.member → applicable T env site c.phase d.member ≡ applied_as.Applies d.type_args d.formals d.unchecked → IsApplicable T env site (told T env c.phase d)
+    of_told d among applies = record { among = among; applies = applies; parts = refl }
+
+    pub chosen_applies : resolved T env site ≡ x → IsApplicable T env site c
     chosen_applies e =
         let k = known e in
-        let c = k.decides.from.0 in
-        let holds = gathered_holds T env site phase site.members k.candidates k.gathers c (k.decides.from.1) in
-        record { member = c.member; among = holds.0; is = is c (k.decides.from.2); applies = holds.1 ∙ parts c (k.decides.from.2) }
-      where
-        is : (c : Candidate) → chosen T env phase c ≡ x → c.member.id ≡ m
-        is c e = cc
+        let d = k.decides.from.0 in
+        let holds = gathered_holds T env site c.phase site.members k.candidates k.gathers d (k.decides.from.1) in
+        subst (λ (a : Chosen). IsApplicable T env site a) (same_told (told T env c.phase d) c (k.decides.from.2)) (of_told d (holds.0) (holds.1))
 
-        parts : (c : Candidate) → chosen T env phase c ≡ x → applied_as.Applies c.type_args c.unchecked ≡ applied_as.Applies by u
-        parts c e = cc
-
-    pub none_left_out : resolved T env site ≡ x → (cs : List Candidate) → gathered T env site phase site.members ≡ Some cs → (c : Candidate) → IsAmong cs c → beaten T env phase c.member cs ≡ No → StandsBeside T cs m c
-    none_left_out e cs g c k n =
+    pub none_left_out : resolved T env site ≡ x → (cs : List Candidate) → gathered T env site c.phase site.members ≡ Some cs → (d : Candidate) → IsAmong cs d → beaten T env c.phase d.member cs ≡ No → StandsBeside T cs c.member.id d
+    none_left_out e cs g d k n =
         let known = known e in
         let same : known.candidates ≡ cs = same_lists known.candidates cs (sym known.gathers ∙ g) in
-        let decides : Decides T env phase cs x = subst (λ (l : List Candidate). Decides T env phase l x) same known.decides in
-        by_other decides (decides.others c k n)
+        let decides : Decides T env c.phase cs x = subst (λ (l : List Candidate). Decides T env c.phase l x) same known.decides in
+        by_other decides (decides.others d k n)
       where
         same_lists : (l r : List Candidate) → Some l ≡ Some r → l ≡ r
         same_lists l r e = cc
 
-        is : (c : Candidate) → chosen T env phase c ≡ x → c.member.id ≡ m
-        is c e = cc
+        is : (a : Candidate) → chosen T env c.phase a ≡ x → a.member.id ≡ c.member.id
+        is a e = ap (λ (b : Chosen). b.member.id) (same_told (told T env c.phase a) c e)
 
-        by_other : (h : Decides T env phase cs x) → (c ≡ h.from.0) ⊎ AreEquivalent T c.member (h.from.0).member → StandsBeside T cs m c
-        by_other h (inl q) = itself (ap (λ (d : Candidate). d.member.id) q ∙ is (h.from.0) (h.from.2))
+        by_other : (h : Decides T env c.phase cs x) → (d ≡ h.from.0) ⊎ AreEquivalent T d.member (h.from.0).member → StandsBeside T cs c.member.id d
+        by_other h (inl q) = itself (ap (λ (a : Candidate). a.member.id) q ∙ is (h.from.0) (h.from.2))
         by_other h (inr q) = another (h.from.0) (h.from.1) (is (h.from.0) (h.from.2)) q

@@ -1,0 +1,4 @@
+pub mod Forms
+pub mod Greatest
+pub mod Below
+pub mod Apart
