@@ -1,13 +1,13 @@
 -- The bridge methods of a class: so calls by name and descriptor (JVMS 6.5, invokevirtual) lead to the bodies that overriding gives (JLS 8.4.8, 15.12.4.4),
 -- where these have other descriptors (JLS 15.12.4.5).
-use Rattle.std.specs.Prelude.{ℕ, ◌+◌, ◌==◌, Bool, true, false, not, ◌&&◌, ◌||◌, List, [], ◌∷◌, ◌++◌, Option, Some, None}
+use Rattle.std.specs.Prelude.{ℕ, zero, suc, ◌==◌, Bool, true, false, not, cond, ◌&&◌, ◌||◌, List, [], ◌∷◌, ◌++◌, length, Option, Some, None}
 use Rattle.std.specs.List.{list_any}
-use Rattle.jc_types.specs.declared.declarations.MethodDecl.{MethodDecl}
 use Rattle.jc_types.specs.declared.ids.ClassId.{ClassId}
 use Rattle.jc_types.specs.declared.ids.MethodId.{MethodId}
 use Rattle.jc_types.specs.declared.table.Table.{Table}
-use Rattle.jc_types.specs.Accessors.{is_interface}
+use Rattle.jc_types.specs.Accessors.{is_interface, method_name_of}
 use Rattle.jc_overriding.specs.Overriding.{is_above, owner, same_class, select, superclass}
+use Rattle.jc_members.specs.Named.{all_named}
 use Rattle.jc_bridges_spec.specs.declared.bridge.Bridge.{Bridge}
 use Rattle.jc_bridges_spec.specs.Descriptors.{is_called_as, is_selectable, same_descriptor}
 
@@ -29,15 +29,15 @@ goes_across T k m own (Some old) = not (same_descriptor T m old) && goes_on T k 
 abbrev pub leads_by : Table → ClassId → ClassId → MethodId → MethodId → MethodId → Bool
 leads_by T k c m own n = is_selectable T n && is_called_as T n m && is_at T c n && goes_across T k m own (select T c n)
 
--- .. for one of these methods, counted from i
-abbrev pub leads_from : Table → ClassId → ClassId → MethodId → MethodId → ℕ → List MethodDecl → Bool
-leads_from T k c m own i [] = false
-leads_from T k c m own i (d ∷ ds) = leads_by T k c m own (record { 0 = i }) || leads_from T k c m own (i + 1) ds
+-- .. for one of these methods
+abbrev pub leads_among : Table → ClassId → ClassId → MethodId → MethodId → List MethodId → Bool
+leads_among T k c m own [] = false
+leads_among T k c m own (n ∷ ns) = leads_by T k c m own n || leads_among T k c m own ns
 
 -- the bridges that class k inherits already lead m's name and descriptor to `own`
 abbrev pub leads_in : Table → ClassId → MethodId → MethodId → Option ClassId → Bool
 leads_in T k m own None = false
-leads_in T k m own (Some c) = leads_from T k c m own 0 T.methods
+leads_in T k m own (Some c) = leads_among T k c m own (all_named T (method_name_of T m))
 
 -- the body that class k has for m has another descriptor, and nothing that k inherits leads to it
 abbrev pub is_led_astray : Table → ClassId → MethodId → Option MethodId → Bool
@@ -59,22 +59,18 @@ with_bridge_to m bs (Some own) = bs ++ record { called = m; own = own } ∷ []
 
 -- these bridges, and one for m, where it wants one and none of these has its name and descriptor
 abbrev pub with_bridge : Table → ClassId → List Bridge → MethodId → List Bridge
-with_bridge T k bs m = by (wants_bridge T k m && not (is_bridged T m bs))
-  where
-    by : Bool → List Bridge
-    by true = with_bridge_to m bs (select T k m)
-    by false = bs
+with_bridge T k bs m = cond (wants_bridge T k m && not (is_bridged T m bs)) (with_bridge_to m bs (select T k m)) bs
 
--- behind these bridges those for these methods, counted from i
-abbrev pub bridges_from : Table → ClassId → List Bridge → ℕ → List MethodDecl → List Bridge
-bridges_from T k bs i [] = bs
-bridges_from T k bs i (d ∷ ds) = bridges_from T k (with_bridge T k bs (record { 0 = i })) (i + 1) ds
+-- the bridges of class k for the first n methods of the table
+abbrev pub bridges_for : Table → ClassId → ℕ → List Bridge
+bridges_for T k zero = []
+bridges_for T k (suc n) = with_bridge T k (bridges_for T k n) (record { 0 = n })
 
 -- The bridges of a class, in the order of the methods that they stand for in the table: one for each name and descriptor of a method above the class whose body
 -- there has another descriptor, where no bridge of a class above leads to that body. An interface has none: its methods have no bodies
 abbrev pub bridges_if : Table → ClassId → Bool → List Bridge
 bridges_if T k true = []
-bridges_if T k false = bridges_from T k [] 0 T.methods
+bridges_if T k false = bridges_for T k (length T.methods)
 
 unfoldable pub bridges : Table → ClassId → List Bridge
 bridges T k = bridges_if T k (is_interface T k)
