@@ -10,7 +10,7 @@ use crate::naming::push_named;
 use crate::walk::{KindAt, Walk};
 use jc_rules::{Place, Stop, WantOfMemory};
 use jc_sub::capture;
-use jc_typed::{ExprForm, ExprNode, OperandNode};
+use jc_typed::{ExprForm, ExprNode, OperandNode, form_below, same_form};
 use jc_types::{Table, Ty, sooner};
 use std::alloc::Global;
 
@@ -61,6 +61,8 @@ pub fn captured(
     ensures within { IfOk result (λ at. at < length walk.new.nodes) }
     ensures grows { Grows walk.old.nodes walk.new.nodes }
 {
+    same_form();
+    form_below();
     match capturing(alloc, table, walk, place, ty)? {
         None => walk.nodes.push_operand(OperandNode::Missing),
         Some(kind) => {

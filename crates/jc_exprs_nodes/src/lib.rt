@@ -12,6 +12,6 @@ pub use breaking::{broken, refusal};
 pub use kinds::{captured, capturing};
 pub use parts::part;
 pub use stepping::{
-    Judging, Led, push_led, push_read_guard, push_upwards, push_use_guard, stepped,
+    Judging, Led, converted, push_led, push_read_guard, push_upwards, push_use_guard, stepped,
 };
 pub use walk::{KindAt, Part, Walk};

@@ -5,7 +5,7 @@ ghost use Rattle.jc_types.specs.declared.conversion.Step.TheVariants as turn;
 ghost use Rattle.jc_types.specs.declared.form.Ty.{out-Ty};
 ghost use Rattle.std.specs.Prelude.{◌∷◌, []};
 ghost use Rattle.jc_convert.specs.Converting.{unboxed};
-ghost use Rattle.jc_typed.specs.Parts.{BelowStep, Grows, expr_of, operand_of, parts, step_over, steps_of};
+ghost use Rattle.jc_typed.specs.Parts.{BelowStep, Grows, expr_of, operand_of, parts, step_over, steps_of, type_of};
 ghost use Rattle.jc_exprs_nodes_spec.specs.Typeds.{is_erased_below, led, or_int, primitive_at, read_guard, turned, turned_to, upwards, use_guard};
 ghost use Rattle.jc_typed.specs.Trees.{operand};
 ghost use Rattle.jc_types.specs.declared.form.Ty.TheVariants.{Prim};
@@ -291,4 +291,26 @@ pub fn stepped(nodes: &mut Nodes, part: Part, steps: u32) -> Result<u32, WantOfM
         of: part.of,
         steps,
     })
+}
+
+/// A typed part, converted.
+#[tactic(auto, using(jc_typed::proofs::Growing::growing))]
+pub fn converted(
+    alloc: Global,
+    nodes: &mut Nodes,
+    judging: &Judging,
+    part: Part,
+    conversion: &Conversion,
+) -> Result<u32, WantOfMemory>
+    requires of { part.of < length nodes.old }
+    requires ty { part.ty < length nodes.old }
+    requires lead { part.lead < length nodes.old }
+    ensures value { IfOk result (λ at. operand_of nodes.new at ≡ operand part.start (expr_of nodes.old part.of) (steps_of nodes.old part.lead ++ led judging.now.table.now judging.now.env.now.bounds conversion.now.unchecked (type_of nodes.old part.ty) conversion.now.steps)) }
+    ensures within { IfOk result (λ at. at < length nodes.new) }
+    ensures grows { Grows nodes.old nodes.new }
+{
+    let from = copy_type(alloc, nodes.ty(part.ty))?;
+    let turns = conversion.steps.slice();
+    let steps = push_led(alloc, nodes, judging, part.lead, conversion.unchecked, &from, turns)?;
+    stepped(nodes, part, steps)
 }
