@@ -1,4 +1,0 @@
-pub mod Walking
-mod Named
-mod Counted
-mod Leading
