@@ -1,11 +1,10 @@
 -- How a walk goes through the parts of a node.
-use Rattle.std.proofs.Common.{◌≡◌, refl, ap, sym, ◌∙◌, List, ◌∷◌, ◌++◌, Option, Some, None}
+use Rattle.std.proofs.Common.{◌≡◌, refl, ap, ◌∙◌, List, ◌∷◌, ◌++◌, Option, Some}
 use Rattle.jc_rules.specs.declared.rule.Refusal.{Refusal}
 use Rattle.jc_types.specs.declared.environment.Bounds.{Bounds}
-use Rattle.jc_types.specs.Breaks.{IsOf, LeastOf, least}
+use Rattle.jc_types.specs.Breaks.{least}
 use Rattle.jc_types.proofs.Least.{least_append, least_of}
-use Rattle.jc_exprs_nodes_spec.specs.Told.{Told, Fine, Broken, Out, Run, Ran, Standing, standing, typed, breaks, ran, ran_of, fine, pair, triple, both, three, after, onward}
-use Rattle.jc_exprs_nodes_spec.specs.Typeds.{Typed}
+use Rattle.jc_exprs_nodes_spec.specs.Told.{Told, Fine, Broken, Run, Standing, standing, typed, breaks, ran, ran_of, fine, pair, triple, both, three, after, onward}
 use Rattle.jc_exprs_nodes_spec.specs.Gates.{stopped, gated, gated_two, gated_three, OnePart, TwoParts, ThreeParts, FoundIsLeast}
 
 -- a node without parts

@@ -28,7 +28,7 @@ use Rattle.jc_running.specs.declared.seen.Check.{Check}
 use Rattle.jc_running.specs.declared.seen.Check.TheVariants as check
 use Rattle.jc_typed.specs.declared.lists.Capture.{Capture}
 use Rattle.jc_typed.specs.Trees.{Step, Widen, Narrow, BoxUp, Unbox, Up, Test, Expr, expr, Operand, operand, Operands, NoOperands, MoreOperands, Form, Fixed, Call, Named}
-use Rattle.jc_exprs_nodes_spec.specs.Told.{Fine, Broken, Out, Run, fine, onward, by_rule, breaking, provided}
+use Rattle.jc_exprs_nodes_spec.specs.Told.{Fine, Broken, Out, Run, fine, onward, breaking}
 
 -- An expression that has a typing: `start` is its first token, and `place` the first one inside of the parentheses round it; `ty` is its type, and
 -- `captures` are the variables of its capture. `lead` is what its value goes through wherever it stands, but in a statement of its own.

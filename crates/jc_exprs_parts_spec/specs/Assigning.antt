@@ -1,5 +1,5 @@
 -- Variables that are assigned, and assignments (JLS 15.14.2, 15.14.3, 15.15.1, 15.15.2, 15.26).
-use Rattle.std.specs.Prelude.{ℕ, ◌==◌, not, Bool, true, false, List, [], ◌∷◌, ◌++◌, Option, Some, None, if◌then◌else◌}
+use Rattle.std.specs.Prelude.{◌==◌, not, Bool, List, [], ◌∷◌, ◌++◌, Option, Some, None, if◌then◌else◌}
 use Rattle.jc_rules.specs.declared.rule.Place.{Place}
 use Rattle.jc_rules.specs.declared.rule.Refusal.{Refusal}
 use Rattle.jc_tree.specs.declared.expression.BinaryOp.{BinaryOp}
@@ -19,7 +19,7 @@ use Rattle.jc_convert.specs.Converting.{assignment, invocation}
 use Rattle.jc_typed.specs.declared.expressions.Joint.{Joint}
 use Rattle.jc_typed.specs.declared.expressions.Joint.TheVariants as joint
 use Rattle.jc_typed.specs.Trees.{Step, Narrow, BoxUp, Variable, Assign, Compound, Change}
-use Rattle.jc_exprs_nodes_spec.specs.Told.{Run, fine, by_rule, breaking, provided, unless}
+use Rattle.jc_exprs_nodes_spec.specs.Told.{Run, fine, by_rule, provided, unless}
 use Rattle.jc_exprs_nodes_spec.specs.Typeds.{Typed, type_of, constant_of, node, captured, converted, stepped, steps_by, read_guard, use_guard, unconverted}
 use Rattle.jc_exprs_parts_spec.specs.Operators.{Takes, Verdict, Taken, Refused, Unknown, taken, promoted}
 use Rattle.jc_exprs_parts_spec.specs.Chains.{steps_to}

@@ -1,5 +1,5 @@
 -- Chains of binary operators, from left to right (JLS 15.7.3, 15.17 to 15.24), and of prefix operators (JLS 15.15.3 to 15.15.6).
-use Rattle.std.specs.Prelude.{ℕ, ◌||◌, not, Bool, true, false, List, [], ◌∷◌, ◌++◌, length, Option, Some, None, if◌then◌else◌}
+use Rattle.std.specs.Prelude.{ℕ, ◌||◌, Bool, true, false, List, [], ◌∷◌, ◌++◌, Option, Some, None, if◌then◌else◌}
 use Rattle.jc_rules.specs.declared.rule.Place.{Place}
 use Rattle.jc_rules.specs.declared.rule.Refusal.{Refusal}
 use Rattle.jc_tree.specs.declared.expression.BinaryOp.{BinaryOp}
@@ -17,15 +17,14 @@ use Rattle.jc_types.specs.Erasing.{erasure}
 use Rattle.jc_types.specs.Reifying.{reifiable}
 use Rattle.jc_types.specs.Sameness.{same}
 use Rattle.jc_judge.specs.Kinds.{is_primitive}
-use Rattle.jc_convert.specs.declared.answer.Converts.{Converts}
 use Rattle.jc_convert.specs.Casting.{cast}
 use Rattle.jc_convert.specs.Converting.{invocation}
 use Rattle.jc_folding.specs.Folding.{fold}
 use Rattle.jc_typed.specs.declared.expressions.Joint.{Joint}
 use Rattle.jc_typed.specs.declared.expressions.Joint.TheVariants as joint
-use Rattle.jc_typed.specs.Trees.{Step, Operand, operand, Operands, NoOperands, MoreOperands, Links, NoLinks, MoreLinks, Form, Chain, AllOf, AnyOf, InstanceOf, Prefix}
-use Rattle.jc_exprs_nodes_spec.specs.Told.{Told, Fine, Broken, Out, Run, fine, by_rule, breaking, unless, provided, Spanned}
-use Rattle.jc_exprs_nodes_spec.specs.Typeds.{Typed, Known, tree, type_of, node, fixed, known_of, plain, stepped, steps_by, one_operand, unconverted}
+use Rattle.jc_typed.specs.Trees.{Step, Operand, Operands, MoreOperands, Links, NoLinks, MoreLinks, Form, Chain, AllOf, AnyOf, InstanceOf, Prefix}
+use Rattle.jc_exprs_nodes_spec.specs.Told.{Told, Fine, Broken, Run, fine, breaking, unless, provided, Spanned}
+use Rattle.jc_exprs_nodes_spec.specs.Typeds.{Typed, Known, type_of, node, fixed, known_of, plain, stepped, steps_by, one_operand, unconverted}
 use Rattle.jc_exprs_parts_spec.specs.Operators.{Takes, Verdict, Taken, Refused, Unknown, taken, as_primitive, prefix_on, prefix_taken}
 use Rattle.jc_exprs_parts_spec.specs.Constants.{prefixed_constant}
 

@@ -1,11 +1,10 @@
 -- Constant expressions (JLS 15.28), and the values of fields that are constant variables (JLS 4.12.4). What an operator gives of constants is what
 -- it gives of their values in a running program.
-use Rattle.std.specs.Prelude.{ℕ, zero, suc, ◌==◌, ◌||◌, ◌&&◌, Bool, true, false, ℤ, pos, List, [], ◌∷◌, length, map, Option, Some, None, if◌then◌else◌}
-use Rattle.jc_rules.specs.declared.rule.Place.{Place}
+use Rattle.std.specs.Prelude.{ℕ, zero, suc, ◌==◌, ◌||◌, ◌&&◌, Bool, true, false, ℤ, pos, List, [], ◌∷◌, length, Option, Some, None, if◌then◌else◌}
 use Rattle.jc_types.specs.declared.constant.Constant.{Constant}
 use Rattle.jc_types.specs.declared.constant.Constant.TheVariants.{Whole, Text}
 use Rattle.jc_types.specs.declared.constant.ConstantExpr.{ConstantExpr, ConstantExpr-F, fold-ConstantExpr}
-use Rattle.jc_types.specs.declared.constant.ConstantPart.{ConstantPart, ConstantPart-F}
+use Rattle.jc_types.specs.declared.constant.ConstantPart.{ConstantPart-F}
 use Rattle.jc_types.specs.declared.constant.ConstantType.{ConstantType}
 use Rattle.jc_types.specs.declared.constant.ConstantType.TheVariants as to
 use Rattle.jc_types.specs.declared.constant.Op.{Op}
@@ -13,11 +12,10 @@ use Rattle.jc_types.specs.declared.declarations.FieldDecl.{FieldDecl}
 use Rattle.jc_types.specs.declared.declarations.FieldValue.{FieldValue}
 use Rattle.jc_types.specs.declared.declarations.FieldValue.TheVariants as value
 use Rattle.jc_types.specs.declared.form.Primitive.{Primitive}
-use Rattle.jc_types.specs.declared.form.Primitive.TheVariants.{Boolean, Byte, Short, Char, Int, Long}
+use Rattle.jc_types.specs.declared.form.Primitive.TheVariants.{Boolean, Byte, Short, Int}
 use Rattle.jc_types.specs.declared.form.Ty.{Ty, Ty-F, out-Ty}
 use Rattle.jc_types.specs.declared.form.Ty.TheVariants.{Prim}
 use Rattle.jc_types.specs.declared.ids.ClassId.{ClassId}
-use Rattle.jc_types.specs.declared.ids.FieldId.{FieldId}
 use Rattle.jc_types.specs.declared.table.Table.{Table}
 use Rattle.jc_types.specs.Sameness.{prim_number}
 use Rattle.jc_judge.specs.Kinds.{Layer, is_boolean}

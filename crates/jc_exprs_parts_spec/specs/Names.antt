@@ -21,9 +21,9 @@ use Rattle.jc_convert.specs.declared.answer.Converts.{Converts}
 use Rattle.jc_convert.specs.Converting.{invocation}
 use Rattle.jc_typed.specs.Trees.{Operand, Operands, NoOperands, Variable, LocalVariable, StaticVariable, FieldVariable, ElementVariable, Fixed, Local, This, StaticField, Field, Element, Length}
 use Rattle.jc_exprs_nodes_spec.specs.Told.{Run, fine, by_rule, breaking, onward, provided, unless}
-use Rattle.jc_exprs_nodes_spec.specs.Typeds.{Typed, Known, Settled, node, fixed, type_of, captured, plain, converted, stepped, one_operand, read_guard, use_guard, unconverted, settled}
+use Rattle.jc_exprs_nodes_spec.specs.Typeds.{Typed, Settled, node, fixed, type_of, captured, plain, converted, stepped, one_operand, read_guard, use_guard, unconverted, settled}
 use Rattle.jc_exprs_parts_spec.specs.Fields.{class_fields, declared_field, field_class, field_erasure, field_in, fields_named, is_raw_as, is_static_field, may_name_field}
-use Rattle.jc_exprs_parts_spec.specs.Senses.{Sense, OfField, OfClass, OfPackage, OfNothing, simple_sense, next_sense, may_name_class}
+use Rattle.jc_exprs_parts_spec.specs.Senses.{Sense, OfField, OfClass, OfNothing, simple_sense, next_sense, may_name_class}
 use Rattle.jc_exprs_parts_spec.specs.Worlds.{World, Here, Instance, Static, Early, LocalIn, Initialising, constant_field, local_named, named_class, this_type}
 use Rattle.jc_exprs_parts_spec.specs.Assigning.{Target}
 

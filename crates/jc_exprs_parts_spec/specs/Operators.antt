@@ -1,12 +1,12 @@
 -- What each operator does to operands of some types (JLS 15.14, 15.15, 15.17 to 15.24): the types that they are converted to, and its result.
-use Rattle.std.specs.Prelude.{ℕ, ◌||◌, ◌&&◌, Bool, true, false, List, [], ◌∷◌, Option, Some, None, if◌then◌else◌, codes}
+use Rattle.std.specs.Prelude.{◌||◌, ◌&&◌, Bool, List, [], Option, Some, None, if◌then◌else◌, codes}
 use Rattle.jc_tree.specs.declared.expression.BinaryOp.{BinaryOp}
 use Rattle.jc_tree.specs.declared.expression.BinaryOp.TheVariants as binary
 use Rattle.jc_types.specs.declared.constant.Op.{Op}
 use Rattle.jc_types.specs.declared.constant.Op.TheVariants as op
 use Rattle.jc_types.specs.declared.environment.Bounds.{Bounds}
 use Rattle.jc_types.specs.declared.form.Primitive.{Primitive}
-use Rattle.jc_types.specs.declared.form.Primitive.TheVariants.{Boolean, Byte, Short, Char, Int, Long}
+use Rattle.jc_types.specs.declared.form.Primitive.TheVariants.{Boolean, Char, Int, Long}
 use Rattle.jc_types.specs.declared.form.Ty.{Ty, Ty-F, out-Ty}
 use Rattle.jc_types.specs.declared.form.Ty.TheVariants.{Prim, Class}
 use Rattle.jc_types.specs.declared.table.Table.{Table}

@@ -1,12 +1,11 @@
 -- What a name means that isn't a local: a field, a class, or the beginning of a package's name (JLS 6.5.2, 6.5.6).
 use Rattle.std.specs.Prelude.{ℕ, Bool, true, false, List, [], ◌∷◌, ◌++◌, Option, Some, None, codes}
-use Rattle.jc_types.specs.declared.form.Ty.{Ty}
 use Rattle.jc_types.specs.declared.ids.ClassId.{ClassId}
 use Rattle.jc_types.specs.declared.ids.FieldId.{FieldId}
 use Rattle.jc_types.specs.declared.table.Table.{Table}
 use Rattle.jc_types.specs.Names.{named}
 use Rattle.jc_declares.specs.Heads.{types_of_package}
-use Rattle.jc_declares.specs.Looking.{Look, Meaning, AClass, AVariable, body_asker, is_accessible, member}
+use Rattle.jc_declares.specs.Looking.{Look, AClass, AVariable, body_asker, is_accessible, member}
 use Rattle.jc_declares.specs.Making.{class_id}
 use Rattle.jc_exprs_parts_spec.specs.Fields.{class_fields}
 use Rattle.jc_exprs_parts_spec.specs.Worlds.{World, reading, round}

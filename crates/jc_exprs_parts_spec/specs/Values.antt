@@ -1,5 +1,5 @@
 -- Creations of arrays, array initialisers, casts and conditionals (JLS 10.6, 15.10, 15.16, 15.25), over parts that have typings.
-use Rattle.std.specs.Prelude.{◌+◌, ◌&&◌, not, Bool, true, false, List, [], ◌∷◌, ◌++◌, length, map, Option, Some, None, if◌then◌else◌}
+use Rattle.std.specs.Prelude.{◌+◌, ◌&&◌, not, Bool, true, false, List, [], ◌∷◌, ◌++◌, map, Option, Some, None, if◌then◌else◌}
 use Rattle.jc_rules.specs.declared.rule.Place.{Place}
 use Rattle.jc_rules.specs.declared.rule.Refusal.{Refusal}
 use Rattle.jc_types.specs.declared.constant.Constant.{Constant}

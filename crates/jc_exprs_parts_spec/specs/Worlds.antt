@@ -1,5 +1,5 @@
 -- What a place in a body stands in: the program's declarations, its class, the locals in scope, and whether there is an instance (JLS 6.3, 8.1.3, 8.8.7.1).
-use Rattle.std.specs.Prelude.{ℕ, ◌==◌, ◌||◌, Bool, true, false, List, [], ◌∷◌, Option, Some, None, slice_get, if◌then◌else◌}
+use Rattle.std.specs.Prelude.{ℕ, ◌||◌, Bool, true, false, List, [], ◌∷◌, Option, Some, None, slice_get, if◌then◌else◌}
 use Rattle.std.specs.Str.{bytes_eq}
 use Rattle.jc_rules.specs.declared.rule.Place.{Place}
 use Rattle.jc_tree.specs.declared.types.BaseTree.{BaseTree}

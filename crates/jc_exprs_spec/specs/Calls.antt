@@ -1,5 +1,5 @@
 -- Calls of methods (JLS 15.12), and what they share with creations: arguments, and the member that is chosen.
-use Rattle.std.specs.Prelude.{ℕ, ◌==◌, ◌||◌, ◌&&◌, not, Bool, true, false, List, [], ◌∷◌, ◌++◌, length, map, filter, drop, Option, Some, None, is_none, if◌then◌else◌}
+use Rattle.std.specs.Prelude.{ℕ, ◌||◌, ◌&&◌, not, Bool, true, false, List, [], ◌∷◌, ◌++◌, map, drop, Option, Some, None, if◌then◌else◌}
 use Rattle.jc_rules.specs.declared.rule.Place.{Place}
 use Rattle.jc_rules.specs.declared.rule.Refusal.{Refusal}
 use Rattle.jc_tree.specs.declared.types.TypeArg.{TypeArg}
@@ -9,7 +9,7 @@ use Rattle.jc_types.specs.declared.declarations.Access.{Access}
 use Rattle.jc_types.specs.declared.declarations.Access.TheVariants as access
 use Rattle.jc_types.specs.declared.environment.Bounds.{Bounds}
 use Rattle.jc_types.specs.declared.erased.Erased.{Erased}
-use Rattle.jc_types.specs.declared.form.Arg.{Arg, Arg-F, out-Arg}
+use Rattle.jc_types.specs.declared.form.Arg.{Arg-F, out-Arg}
 use Rattle.jc_types.specs.declared.form.Ty.{Ty}
 use Rattle.jc_types.specs.declared.form.Ty.TheVariants.{NullTy}
 use Rattle.jc_types.specs.declared.ids.ClassId.{ClassId}
@@ -36,8 +36,8 @@ use Rattle.jc_typed.specs.Trees.{Step, Up, Operand, operand, Operands, NoOperand
 use Rattle.jc_exprs_nodes_spec.specs.Told.{Run, fine, by_rule, breaking, onward, provided, unless}
 use Rattle.jc_exprs_nodes_spec.specs.Typeds.{Typed, Settled, node, type_of, tree, captured, plain, stepped, one_operand, steps_by, read_guard, use_guard, settled}
 use Rattle.jc_exprs_parts_spec.specs.Fields.{is_raw_as, may_name_method}
-use Rattle.jc_exprs_parts_spec.specs.Senses.{Sense, OfField, OfClass, OfPackage, OfNothing}
-use Rattle.jc_exprs_parts_spec.specs.Worlds.{World, Here, Instance, Static, Early, named_class, round, this_type, written_arg}
+use Rattle.jc_exprs_parts_spec.specs.Senses.{OfClass}
+use Rattle.jc_exprs_parts_spec.specs.Worlds.{World, named_class, round, this_type, written_arg}
 use Rattle.jc_exprs_parts_spec.specs.Names.{Meaning, Value, Other, class_erased, instance_breaks, super_type, this_at}
 
 -- ---- explicit type arguments (JLS 15.12): types, no wildcards and no primitive types (623)

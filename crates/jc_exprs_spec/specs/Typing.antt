@@ -1,5 +1,5 @@
 -- The typing of an expression in a body, or the rules that are broken in it (JLS 15): one row for each form.
-use Rattle.std.specs.Prelude.{ℕ, ◌+◌, not, nat_lt, nat_le, Bool, true, false, ℤ, pos, List, [], ◌∷◌, ◌++◌, length, map, Option, Some, None, if◌then◌else◌}
+use Rattle.std.specs.Prelude.{ℕ, ◌+◌, not, nat_lt, nat_le, Bool, true, false, ℤ, pos, List, [], ◌∷◌, length, map, Option, Some, None}
 use Rattle.std.specs.Int.{w32, w64, cast_signed}
 use Rattle.jc_rules.specs.declared.rule.Place.{Place}
 use Rattle.jc_rules.specs.declared.rule.Refusal.{Refusal}
@@ -19,8 +19,6 @@ use Rattle.jc_tree.specs.declared.expression.PostfixOp.TheVariants as postfix
 use Rattle.jc_tree.specs.declared.expression.PrefixOp.{PrefixOp}
 use Rattle.jc_tree.specs.declared.expression.PrefixSign.{PrefixSign}
 use Rattle.jc_tree.specs.declared.expression.PrefixSign.TheVariants as sign
-use Rattle.jc_tree.specs.declared.name.Ident.{Ident}
-use Rattle.jc_tree.specs.declared.types.TypeArg.{TypeArg}
 use Rattle.jc_tree.specs.declared.types.TypeTree.{TypeTree}
 use Rattle.jc_types.specs.declared.constant.Constant.{Constant}
 use Rattle.jc_types.specs.declared.constant.Constant.TheVariants as constant
@@ -36,8 +34,8 @@ use Rattle.jc_types.specs.Breaks.{IsOf}
 use Rattle.jc_overriding.specs.Viewing.{with_dims}
 use Rattle.jc_typed.specs.Trees.{Operand as Operated, NoOperands, ArrayOf, Null, StmtForm, Construct}
 use Rattle.jc_resolve.specs.declared.choice.Chosen.{Chosen}
-use Rattle.jc_exprs_nodes_spec.specs.Told.{Run, fine, by_rule, breaks, both, feeding, onward, every, provided, unless, Spanned, spanned}
-use Rattle.jc_exprs_nodes_spec.specs.Typeds.{Typed, node, fixed, is_void, operands_of, plain, Known}
+use Rattle.jc_exprs_nodes_spec.specs.Told.{Run, fine, by_rule, breaks, both, feeding, onward, every, provided, unless, spanned}
+use Rattle.jc_exprs_nodes_spec.specs.Typeds.{Typed, node, fixed, is_void, operands_of, plain}
 use Rattle.jc_exprs_parts_spec.specs.Operators.{string_type}
 use Rattle.jc_exprs_parts_spec.specs.Chains.{Joined, Whole, whole, joining, tested, Signed, Unsigned, signed, signing}
 use Rattle.jc_exprs_parts_spec.specs.Assigning.{Target, changed, compound, stored}

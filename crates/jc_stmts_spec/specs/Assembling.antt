@@ -1,9 +1,9 @@
 -- The typed statements of a body, made of the parsed ones and the answers to their items, which are taken in order (JLS 14). Nothing is asked here.
-use Rattle.std.specs.Prelude.{ℕ, ◌+◌, Bool, true, false, ℤ, List, [], ◌∷◌, ◌++◌, map, Option, Some, None}
+use Rattle.std.specs.Prelude.{ℕ, ◌+◌, Bool, true, false, List, [], ◌∷◌, ◌++◌, map, Option, Some, None}
 use Rattle.jc_rules.specs.declared.rule.Place.{Place}
 use Rattle.jc_tree.specs.declared.expression.Expr.{Expr as Parsed}
 use Rattle.jc_tree.specs.declared.expression.Init.{Init}
-use Rattle.jc_tree.specs.declared.statement.Clause.{Clause, Clause-F, fold-Clause}
+use Rattle.jc_tree.specs.declared.statement.Clause.{Clause-F}
 use Rattle.jc_tree.specs.declared.statement.ClauseHead.{ClauseHead}
 use Rattle.jc_tree.specs.declared.statement.ClauseHead.TheVariants as head
 use Rattle.jc_tree.specs.declared.statement.ForHead.{ForHead}
@@ -15,13 +15,12 @@ use Rattle.jc_tree.specs.declared.statement.Stmt.{Stmt as Source, Stmt-F, fold-S
 use Rattle.jc_tree.specs.declared.statement.Var.{Var}
 use Rattle.jc_tree.specs.Offsets.{first_offset_of_expr, first_offset_of_locals}
 use Rattle.jc_types.specs.declared.form.Ty.{Ty}
-use Rattle.jc_types.specs.declared.form.Ty.TheVariants.{NullTy}
 use Rattle.jc_typed.specs.Bulk.{capped}
 use Rattle.jc_typed.specs.Copies.{copies_of}
 use Rattle.jc_typed.specs.Trees.{Operand, NoOperand, Operands, NoOperands, MoreOperands, Declared, NoDeclared, MoreDeclared, Case, Stmt, stmt, StmtForm, Empty, Block, Locals, Effect, If, Labelled, While, Do, For, ForArray, ForIterable, Switch, Return, Break, Continue, Throw, Try, Stmts, NoStmts, MoreStmts, Arms, NoArms, MoreArms, Catches, NoCatches, MoreCatches}
 use Rattle.jc_exprs_nodes_spec.specs.Typeds.{one_operand}
 use Rattle.jc_stmts_spec.specs.Courses.{Answer, AnOperand, ALocal, AKey, AnEach, SomeTypes, Elements}
-use Rattle.jc_stmts_spec.specs.Plans.{Jumps, Round, OfLoop, OfSwitch, OfLabel, inside, break_target, continue_target, planned, Planned}
+use Rattle.jc_stmts_spec.specs.Plans.{Jumps, OfLoop, OfSwitch, OfLabel, inside, break_target, continue_target}
 
 -- ---- answers that are left
 

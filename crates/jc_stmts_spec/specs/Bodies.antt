@@ -1,10 +1,9 @@
 -- The bodies of a program: of each method that has a block, of each constructor and of each static initialiser (JLS 8.3.2, 8.4.7, 8.6, 8.7, 8.8.7, 8.8.9, 12.4.2, 12.5).
-use Rattle.std.specs.Prelude.{ℕ, ◌==◌, ◌||◌, ◌&&◌, not, Bool, true, false, List, [], ◌∷◌, ◌++◌, map, Option, Some, None, is_some, slice_get, if◌then◌else◌}
+use Rattle.std.specs.Prelude.{ℕ, ◌||◌, ◌&&◌, not, Bool, true, false, List, [], ◌∷◌, ◌++◌, map, Option, Some, None, if◌then◌else◌}
 use Rattle.jc_tree.specs.declared.expression.Expr.{Expr}
 use Rattle.jc_tree.specs.declared.expression.Init.{Init}
-use Rattle.jc_tree.specs.declared.statement.Clause.{Clause, Clause-F}
+use Rattle.jc_tree.specs.declared.statement.Clause.{Clause}
 use Rattle.jc_tree.specs.declared.statement.Declaration.{Declaration, Declaration-F, para-Declaration}
-use Rattle.jc_tree.specs.declared.statement.LocalVars.{LocalVars}
 use Rattle.jc_tree.specs.declared.statement.Member.{Member, Member-F, out-Member}
 use Rattle.jc_tree.specs.declared.statement.Stmt.{Stmt, Stmt-F, out-Stmt}
 use Rattle.jc_tree.specs.declared.statement.TopLevel.{TopLevel}

@@ -1,21 +1,18 @@
 -- The items of a body, gone through from left to right: the locals in scope, the captured variables, the broken rules, and an answer for each item that asks for one
 -- (JLS 6.3, 14).
-use Rattle.std.specs.Prelude.{ℕ, ◌+◌, ◌==◌, ◌||◌, ◌&&◌, not, Bool, true, false, ℤ, pos, List, [], ◌∷◌, ◌++◌, length, map, take, Option, Some, None, is_none, if◌then◌else◌, codes}
+use Rattle.std.specs.Prelude.{ℕ, ◌+◌, ◌||◌, ◌&&◌, not, Bool, true, false, ℤ, pos, List, [], ◌∷◌, ◌++◌, length, map, take, Option, Some, None, is_none, if◌then◌else◌, codes}
 use Rattle.std.specs.Str.{bytes_eq}
 use Rattle.jc_rules.specs.declared.rule.Place.{Place}
 use Rattle.jc_rules.specs.declared.rule.Refusal.{Refusal}
 use Rattle.jc_tree.specs.declared.expression.Expr.{Expr}
-use Rattle.jc_tree.specs.declared.expression.Init.{Init}
-use Rattle.jc_tree.specs.declared.name.Ident.{Ident}
 use Rattle.jc_tree.specs.declared.types.ClassTree.{ClassTree}
 use Rattle.jc_types.specs.declared.constant.Constant.{Constant}
 use Rattle.jc_types.specs.declared.constant.Constant.TheVariants.{Whole, Text}
 use Rattle.jc_types.specs.declared.environment.Bounds.{Bounds}
-use Rattle.jc_types.specs.declared.erased.Erased.{Erased}
 use Rattle.jc_types.specs.declared.form.Arg.{Arg}
 use Rattle.jc_types.specs.declared.form.Primitive.{Primitive}
-use Rattle.jc_types.specs.declared.form.Primitive.TheVariants.{Boolean, Long}
-use Rattle.jc_types.specs.declared.form.Ty.{Ty, Ty-F, out-Ty}
+use Rattle.jc_types.specs.declared.form.Primitive.TheVariants.{Boolean}
+use Rattle.jc_types.specs.declared.form.Ty.{Ty}
 use Rattle.jc_types.specs.declared.form.Ty.TheVariants.{Class, NullTy, Prim}
 use Rattle.jc_types.specs.declared.table.Table.{Table}
 use Rattle.jc_types.specs.Accessors.{class_named}
@@ -25,7 +22,7 @@ use Rattle.jc_types.specs.Reifying.{arguments}
 use Rattle.jc_judge.specs.declared.question.Answer.{Answer as Asked}
 use Rattle.jc_judge.specs.declared.question.Answer.TheVariants as asked
 use Rattle.jc_judge.specs.Deciding.{answer_of}
-use Rattle.jc_judge.specs.Kinds.{Layer, class_of, is_boolean, is_long, is_primitive}
+use Rattle.jc_judge.specs.Kinds.{class_of, is_boolean, is_long, is_primitive}
 use Rattle.jc_judge.specs.Views.{exacts, view}
 use Rattle.jc_heaps.specs.Numbers.{int_eq}
 use Rattle.jc_lub.specs.Lubs.{lub}
@@ -37,7 +34,7 @@ use Rattle.jc_convert.specs.Converting.{assignment, invocation}
 use Rattle.jc_typed.specs.declared.lists.Capture.{Capture}
 use Rattle.jc_typed.specs.declared.program.Local.{Local}
 use Rattle.jc_typed.specs.Trees.{Expr as Tree, NoExpr, expr, Step, Unbox, Operand, NoOperand, operand, Named}
-use Rattle.jc_exprs_nodes_spec.specs.Told.{Told, Fine, Broken, Out, Run, fine, by_rule, breaking, breaks, typed, both, onward, provided, unless}
+use Rattle.jc_exprs_nodes_spec.specs.Told.{Told, Fine, Broken, Out, Run, fine, by_rule, breaking, breaks, typed, onward, provided, unless}
 use Rattle.jc_exprs_nodes_spec.specs.Typeds.{Typed, Known, Kind, Settled, capturing, settled, type_of, known_of, known_in, constant_of, plain, bare, stepped, converted, steps_by, read_guard, use_guard, unconverted}
 use Rattle.jc_exprs_parts_spec.specs.Assigning.{exact_primitive}
 use Rattle.jc_exprs_parts_spec.specs.Constants.{constant_as}

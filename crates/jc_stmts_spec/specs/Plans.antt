@@ -1,6 +1,6 @@
 -- A body as a flat list, in the order of the source: which locals come into scope and leave it, which expressions are asked and what for, and the rules that are
 -- broken whatever the types are (JLS 6.3, 14). No type is asked for it.
-use Rattle.std.specs.Prelude.{ℕ, ◌==◌, ◌||◌, ◌&&◌, not, Bool, true, false, List, [], ◌∷◌, ◌++◌, map, Option, Some, None, is_none, if◌then◌else◌}
+use Rattle.std.specs.Prelude.{ℕ, ◌||◌, Bool, true, false, List, [], ◌∷◌, ◌++◌, map, Option, Some, None, is_none, if◌then◌else◌}
 use Rattle.std.specs.Str.{bytes_eq}
 use Rattle.jc_tree.specs.declared.expression.Expr.{Expr}
 use Rattle.jc_tree.specs.declared.expression.Init.{Init}
@@ -8,14 +8,11 @@ use Rattle.jc_tree.specs.declared.name.Ident.{Ident}
 use Rattle.jc_tree.specs.declared.statement.Clause.{Clause, Clause-F, fold-Clause}
 use Rattle.jc_tree.specs.declared.statement.ClauseHead.{ClauseHead}
 use Rattle.jc_tree.specs.declared.statement.ClauseHead.TheVariants as head
-use Rattle.jc_tree.specs.declared.statement.Declaration.{Declaration, Declaration-F}
 use Rattle.jc_tree.specs.declared.statement.ForHead.{ForHead}
 use Rattle.jc_tree.specs.declared.statement.ForHead.TheVariants as for_head
 use Rattle.jc_tree.specs.declared.statement.ForInit.{ForInit}
 use Rattle.jc_tree.specs.declared.statement.ForInit.TheVariants as for_init
 use Rattle.jc_tree.specs.declared.statement.LocalVars.{LocalVars}
-use Rattle.jc_tree.specs.declared.statement.Member.{Member, Member-F}
-use Rattle.jc_tree.specs.declared.statement.Modifier.{Modifier}
 use Rattle.jc_tree.specs.declared.statement.ModifierWord.TheVariants as word_of
 use Rattle.jc_tree.specs.declared.statement.Stmt.{Stmt, Stmt-F, fold-Stmt}
 use Rattle.jc_tree.specs.declared.statement.Var.{Var}

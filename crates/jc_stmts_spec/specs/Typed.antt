@@ -1,18 +1,14 @@
 -- The typing of a body, and the rules that are broken in it (JLS 8.8.7.1, 14, 15).
-use Rattle.std.specs.Prelude.{◌≡◌, ℕ, zero, suc, ◌+◌, ◌==◌, ◌||◌, ◌&&◌, not, Bool, true, false, List, [], ◌∷◌, ◌++◌, length, map, Option, Some, None, slice_get, if◌then◌else◌, codes}
+use Rattle.std.specs.Prelude.{◌≡◌, ℕ, zero, suc, ◌+◌, ◌==◌, ◌||◌, Bool, true, false, List, [], ◌∷◌, ◌++◌, length, Option, Some, None, slice_get, if◌then◌else◌, codes}
 use Rattle.jc_rules.specs.declared.rule.Place.{Place}
 use Rattle.jc_rules.specs.declared.rule.Refusal.{Refusal}
-use Rattle.jc_tree.specs.declared.expression.Init.{Init}
 use Rattle.jc_tree.specs.declared.expression.Expr.{Expr as Parsed}
 use Rattle.jc_tree.specs.declared.statement.Stmt.{Stmt as Source}
-use Rattle.jc_types.specs.declared.constant.Constant.{Constant}
 use Rattle.jc_types.specs.declared.declarations.ClassDecl.{ClassDecl}
 use Rattle.jc_types.specs.declared.declarations.FieldDecl.{FieldDecl}
 use Rattle.jc_types.specs.declared.declarations.MethodDecl.{MethodDecl}
 use Rattle.jc_types.specs.declared.declarations.ParamName.{ParamName}
-use Rattle.jc_types.specs.declared.environment.Bounds.{Bounds}
 use Rattle.jc_types.specs.declared.form.Ty.{Ty}
-use Rattle.jc_types.specs.declared.form.Ty.TheVariants.{NullTy}
 use Rattle.jc_types.specs.declared.ids.ClassId.{ClassId}
 use Rattle.jc_types.specs.declared.ids.FieldId.{FieldId}
 use Rattle.jc_types.specs.declared.ids.MethodId.{MethodId}
@@ -20,7 +16,7 @@ use Rattle.jc_types.specs.declared.table.Table.{Table}
 use Rattle.jc_types.specs.Accessors.{method_place_of, params_of, result_of}
 use Rattle.jc_types.specs.Breaks.{IsOf}
 use Rattle.jc_overriding.specs.Viewing.{is_static, own_type}
-use Rattle.jc_overriding.specs.Overriding.{overrides, owner}
+use Rattle.jc_overriding.specs.Overriding.{owner}
 use Rattle.jc_declares.specs.declared.heads.Heads.{Heads}
 use Rattle.jc_declares.specs.HeadBreaks.{class_file}
 use Rattle.jc_declares.specs.Looking.{Knowledge}
@@ -31,9 +27,9 @@ use Rattle.jc_typed.specs.declared.program.TypedMethod.{TypedMethod}
 use Rattle.jc_typed.specs.Parts.{nowhere, stmt_of, stmts_of}
 use Rattle.jc_typed.specs.Trees.{Operand, NoOperand, Stmt, stmt, StmtForm, Block, Construct, Empty, Initialise, Stmts, NoStmts, MoreStmts}
 use Rattle.jc_bridges_spec.specs.Entering.{entry_checks}
-use Rattle.jc_exprs_nodes_spec.specs.Told.{Told, Fine, Broken, Out, Run, breaking, breaks, by_rule, fine, typed}
+use Rattle.jc_exprs_nodes_spec.specs.Told.{Told, Fine, Broken, Out, Run, breaking, breaks, by_rule, fine}
 use Rattle.jc_exprs_parts_spec.specs.Constants.{constants_of}
-use Rattle.jc_exprs_parts_spec.specs.Fields.{declared_field, is_static_field}
+use Rattle.jc_exprs_parts_spec.specs.Fields.{declared_field}
 use Rattle.jc_exprs_parts_spec.specs.Names.{super_type}
 use Rattle.jc_exprs_spec.specs.Typing.{constructed, initialised}
 use Rattle.jc_exprs_parts_spec.specs.Worlds.{World, Here, Instance, Static, Early, Initialising, LocalIn, this_type}
