@@ -1,0 +1,9 @@
+pub mod Worlds
+pub mod Fields
+pub mod Senses
+pub mod Operators
+pub mod Constants
+pub mod Chains
+pub mod Assigning
+pub mod Names
+pub mod Values
