@@ -289,8 +289,9 @@ abbrev pub HasStmts : List Node → Option Body → Whole → Type 0
 HasStmts nodes None w = ⊥
 HasStmts nodes (Some b) w = (stmts_of nodes b.call ≡ w.call) × (stmts_of nodes b.initialisers ≡ w.initialisers) × (stmt_of nodes b.rest ≡ w.rest)
 
--- this is the typing of a body in which no rule is broken
-pub record IsBody (T : Table) (H : Heads) (K : Knowledge) (b : MethodBody) (m : TypedMethod) : Type 0 where
+-- no rule is broken in the body, and this is its typing
+pub record IsBody (T : Table) (H : Heads) (K : Knowledge) (calls : List MethodBody) (b : MethodBody) (m : TypedMethod) : Type 0 where
+  pub unbroken : body_breaks T H K calls b ≡ []
   pub id : m.id ≡ b.method
   pub locals : m.locals ≡ (whole T H K b).course.all
   pub captured : m.captured.bounds ≡ (whole T H K b).course.env
