@@ -25,13 +25,14 @@
 //!     infer PHASE VARIABLE .. : RESULT PARAMETER .. : ARGUMENT .. : TARGET
 //!     call EXPLICIT .. : ARGUMENT .. : TARGET | MEMBER | ..
 //!     members TYPE NAME      overrides LABEL LABEL            hides LABEL LABEL
-//!     select CLASS LABEL
+//!     select CLASS LABEL     bridges CLASS
 //!
 //! Types have no spaces. `+T` is `? extends T`, `-T` is `? super T`, `{A&B}` an intersection, `#0` the first variable that a
 //! capture of this table made, and `null` the null type. A phase is `subtyping`, `invocation` or `variable`, a result a type
 //! or `void`; a target may be left out. The type arguments that a call writes stand before its arguments. A member is `fixed`
 //! or `variable`, as it takes as many arguments as parameters or any number, then `VARIABLE .. : RESULT PARAMETER ..`; its
-//! number is counted from 0. The members of a type are told by their labels, type parameters, results and parameters.
+//! number is counted from 0. The members of a type are told by their labels, type parameters, results and parameters, and the
+//! bridges of a class by the labels of the methods that they stand for and call.
 #![tactic(auto)]
 
 mod asking;
