@@ -1,7 +1,7 @@
 //! Questions about the types of a table, and their answers in words.
 use crate::calling::{created, meant, meant_of};
 use crate::conversions::{constant_of, conversion_words};
-use crate::having::{hiding_words, member_words, override_words, selected_words};
+use crate::having::{bridge_words, hiding_words, member_words, override_words, selected_words};
 use crate::heads::{class_of_name, scope_of, table_of};
 use crate::inferring::inferred;
 use crate::names::Scope;
@@ -82,6 +82,7 @@ impl Asker {
             "overrides" => override_words(alloc, &self.scope, &self.table, first, second),
             "hides" => hiding_words(alloc, &self.scope, &self.table, first, second),
             "select" => selected_words(alloc, &self.scope, &self.table, first, second),
+            "bridges" => bridge_words(alloc, &self.scope, &self.table, first),
             _ => Err(Stop::Refused(Unreadable)),
         }
     }

@@ -1,10 +1,11 @@
-//! The methods that a type has, which override which, and the bodies that classes have, in words.
+//! The methods that a type has, which override which, the bodies that classes have, and their bridges, in words.
 use crate::Read;
 use crate::heads::class_of_name;
 use crate::methods::method_of_label;
 use crate::names::Scope;
 use crate::types::read_type;
 use crate::words::{put_result, put_type, put_variable, yes_or_no};
+use jc_bridges::bridges;
 use jc_members::{MethodView, hides, members, method_index, overrides, select};
 use jc_rules::Text;
 use jc_types::Table;
@@ -98,4 +99,22 @@ pub fn selected_words(
         None => "none",
     };
     Ok(String::from_str(alloc, word)?)
+}
+
+/// The bridges of a class, each by the label of the method whose name and descriptor it has and that of the one that it calls, or `none`.
+pub fn bridge_words(alloc: Global, scope: &Scope, table: &Table, class: &str) -> Read<String> {
+    let k = class_of_name(scope, class)?;
+    let index = method_index(alloc, table)?;
+    let found = bridges(alloc, table, &index, k)?;
+    let mut out = String::new(alloc);
+    for (i, bridge) in found.slice().iter().enumerate() {
+        out.push_str(if i == 0 { "" } else { " | " })?;
+        out.push_str(scope.label(bridge.called))?;
+        out.push_str(" ")?;
+        out.push_str(scope.label(bridge.own))?;
+    }
+    if found.is_empty() {
+        out.push_str("none")?;
+    }
+    Ok(out)
 }

@@ -27,13 +27,14 @@
 //!     means TYPE NAME EXPLICIT .. : ARGUMENT .. : TARGET
 //!     creates TYPE EXPLICIT .. : ARGUMENT .. : TARGET
 //!     members TYPE NAME      overrides LABEL LABEL            hides LABEL LABEL
-//!     select CLASS LABEL
+//!     select CLASS LABEL     bridges CLASS
 //!
 //! Types have no spaces. `+T` is `? extends T`, `-T` is `? super T`, `{A&B}` an intersection, `#0` the first variable that a
 //! capture of this table made, and `null` the null type. A phase is `subtyping`, `invocation` or `variable`, a result a type
 //! or `void`; a target may be left out. The type arguments that a call writes stand before its arguments. A member is `fixed`
 //! or `variable`, as it takes as many arguments as parameters or any number, then `VARIABLE .. : RESULT PARAMETER ..`; its
-//! number is counted from 0. The members of a type are told by their labels, type parameters, results and parameters. A call
+//! number is counted from 0. The members of a type are told by their labels, type parameters, results and parameters, and the
+//! bridges of a class by the labels of the methods that they stand for and call. A call
 //! `means` a member of a type by its name, and one that `creates` a constructor, of a class behind which `<>` stands by a
 //! diamond: behind bars stand the types to which the arguments go, the result that isn't erased, and the thrown types.
 #![tactic(auto)]
