@@ -78,7 +78,10 @@ unfoldable pub left : ℕ → Bool → Flow → Flow
 left t falls s = record {
   live = falls || is_among t s.ways.breaks;
   ways = record { breaks = without t s.ways.breaks; continues = without t s.ways.continues; thrown = s.ways.thrown };
-  assigned = s.assigned; exact = s.exact; broken = s.broken }
+  assigned = s.assigned;
+  exact = s.exact;
+  broken = s.broken;
+}
 
 -- behind a labelled statement, a `do` whose test may fail or not, and a switch to whose end control may come from its selector
 abbrev pub label_end : ℕ → Flow → Flow
