@@ -1,5 +1,5 @@
 -- Reachability and exceptions of a method as a whole.
-use Rattle.std.specs.Prelude.{ℕ, Bool, true, false, not, ◌&&◌, List, [], ◌∷◌, Option, Some, None, is_some, if◌then◌else◌}
+use Rattle.std.specs.Prelude.{ℕ, Bool, true, false, not, ◌&&◌, List, [], ◌∷◌, ◌++◌, Option, Some, None, is_some, if◌then◌else◌}
 use Rattle.jc_rules.specs.declared.rule.Place.{Place}
 use Rattle.jc_rules.specs.declared.rule.Refusal.{Refusal}
 use Rattle.jc_types.specs.declared.form.Ty.{Ty}
@@ -16,7 +16,7 @@ use Rattle.jc_typed.specs.Parts.{nowhere, stmt_of, stmts_of}
 use Rattle.jc_flow_spec.specs.declared.flow.Flow.{Flow}
 use Rattle.jc_flow_spec.specs.declared.flow.Thrown.{Thrown}
 use Rattle.jc_flow_spec.specs.Throwing.{is_undeclared}
-use Rattle.jc_flow_spec.specs.States.{with_live, no_ways, breaks_if}
+use Rattle.jc_flow_spec.specs.States.{with_live, no_ways, break_of, breaks_if}
 use Rattle.jc_flow_spec.specs.Statements.{stmt_flow, stmts_flow}
 
 -- where control comes in
@@ -37,9 +37,9 @@ abbrev pub completes_at : Place → Flow → Flow
 completes_at p s = breaks_if (not s.live) 708 p s
 
 -- each type that is thrown out of the method and needs a clause: 703 where it is thrown
-abbrev pub uncaught_flow : Table → List Bounds → List Ty → List Thrown → Flow → Flow
-uncaught_flow T env declared [] s = s
-uncaught_flow T env declared (x ∷ xs) s = uncaught_flow T env declared xs (breaks_if (is_undeclared T env declared x.ty) 703 x.place s)
+abbrev pub uncaught_breaks : Table → List Bounds → List Ty → List Thrown → List Refusal
+uncaught_breaks T env declared [] = []
+uncaught_breaks T env declared (x ∷ xs) = break_of (is_undeclared T env declared x.ty) 703 x.place ++ uncaught_breaks T env declared xs
 
 module _ (T : Table) (env : List Bounds) (assigned : List ℕ) where
   abbrev pub initialisers_flow : Stmts → Flow → Flow
@@ -60,15 +60,15 @@ assigned_in T m b = (body_flow T m.captured.bounds [] m.nodes b).assigned
 unfoldable pub end_of : Table → TypedMethod → Body → Flow
 end_of T m b = body_flow T m.captured.bounds (assigned_in T m b) m.nodes b
 
--- at the end of the body of a method with this result and these declared exceptions: 702 and 703
-abbrev pub ended_flow : Table → List Bounds → MethodId → Flow → Flow
-ended_flow T env id s =
-    uncaught_flow T env (thrown_of T id) s.ways.thrown (breaks_if (is_some (result_of T id) && s.live) 702 (place_or_none (method_place_of T id)) s)
+-- with the end of the body of a method that has a result, 702, and what it throws but doesn't declare
+abbrev pub ended_breaks : Table → List Bounds → MethodId → Flow → List Refusal
+ended_breaks T env id s =
+    s.broken ++ break_of (is_some (result_of T id) && s.live) 702 (place_or_none (method_place_of T id)) ++ uncaught_breaks T env (thrown_of T id) s.ways.thrown
 
 -- all breaks of the rules 701 to 704 and 708 in a method; one without a body has none
 abbrev pub flow_breaks_in : Table → TypedMethod → Option Body → List Refusal
 flow_breaks_in T m None = []
-flow_breaks_in T m (Some b) = (ended_flow T m.captured.bounds m.id (end_of T m b)).broken
+flow_breaks_in T m (Some b) = ended_breaks T m.captured.bounds m.id (end_of T m b)
 
 abbrev pub flow_breaks : Table → TypedMethod → List Refusal
 flow_breaks T m = flow_breaks_in T m m.body

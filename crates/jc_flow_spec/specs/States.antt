@@ -27,6 +27,11 @@ no_ways = record { breaks = []; continues = []; thrown = [] }
 unfoldable pub breaks_rule : ℕ → Place → Flow → Flow
 breaks_rule rule p s = record { live = s.live; ways = s.ways; assigned = s.assigned; exact = s.exact; broken = s.broken ++ record { rule = rule; place = p; have = 0 } ∷ [] }
 
+-- the same as a list of one break, or of none
+abbrev pub break_of : Bool → ℕ → Place → List Refusal
+break_of true rule p = record { rule = rule; place = p; have = 0 } ∷ []
+break_of false rule p = []
+
 abbrev pub breaks_if : Bool → ℕ → Place → Flow → Flow
 breaks_if true rule p s = breaks_rule rule p s
 breaks_if false rule p s = s
