@@ -63,9 +63,9 @@ abbrev pub used_if : Bool → Place → Known → Known
 used_if true p s = used p s
 used_if false p s = s
 
-abbrev pub written_if : Bool → (Mark → Bool) → Place → Known → Known
-written_if true refused p s = written refused p s
-written_if false refused p s = s
+abbrev pub written_if : Bool → Bool → Place → Known → Known
+written_if true is_final p s = written is_final p s
+written_if false is_final p s = s
 
 -- the branches of `b ? x : y`, the second begun in the state that the first leaves
 abbrev pub chosen_from : (Known → Known) → Mark → Known → Known
@@ -107,7 +107,7 @@ abbrev pub fixed_split : Constant → Known → Split
 fixed_split value s = if is_number 1 value then never_no s else if is_number 0 value then never_yes s else alike s
 
 -- `foreign` tells of a field whether it is final and isn't one that the body may assign by this name
-module _ (var : Tracked) (refused : Mark → Bool) (foreign : Bool → FieldId → Bool) where
+module _ (var : Tracked) (is_final : Bool) (foreign : Bool → FieldId → Bool) where
   -- a field is assigned: V itself, or a final field that may not be assigned here
   abbrev pub is_refused : Tracked → Bool → FieldId → Bool
   is_refused v.Foreign named f = foreign named f
@@ -115,11 +115,11 @@ module _ (var : Tracked) (refused : Mark → Bool) (foreign : Bool → FieldId �
   is_refused (v.Own g) named f = false
 
   abbrev pub field_written : Bool → FieldId → Place → Known → Known
-  field_written named f p s = written_if (is_own named f var || is_refused var named f) refused p s
+  field_written named f p s = written_if (is_own named f var || is_refused var named f) is_final p s
 
   -- a variable is assigned, whose parts were evaluated before
   abbrev pub variable_written : Place → Variable → Known → Known
-  variable_written p (LocalVariable place n) s = written_if (is_local n var) refused p s
+  variable_written p (LocalVariable place n) s = written_if (is_local n var) is_final p s
   variable_written p (StaticVariable place before f is_simple) s = field_written is_simple f p s
   variable_written p (FieldVariable place of_it f is_raw) s = field_written (is_this of_it) f p s
   variable_written p (ElementVariable place array index) s = s

@@ -27,19 +27,20 @@ meet a b = record { set = a.set && b.set; unset = a.unset && b.unset }
 abbrev pub over : Mark → Mark → Mark
 over last came = record { set = came.set || last.set; unset = came.unset && last.unset }
 
--- what a walk knows: the variable's mark, whether it was assigned since the begin of the innermost `try`, where jumps left, and the
--- broken rules
+-- what a walk knows: the variable's mark, whether it was assigned since the begin of the innermost `try`, whether it has its value from
+-- where it is declared, where jumps left, and the broken rules
 pub record Known : Type 0 where
   pub now : Mark
   pub wrote : Bool
+  pub fixed : Bool
   pub exits : List Exit
   pub broken : List Refusal
 
 unfoldable pub with_now : Mark → Known → Known
-with_now m s = record { now = m; wrote = s.wrote; exits = s.exits; broken = s.broken }
+with_now m s = record { now = m; wrote = s.wrote; fixed = s.fixed; exits = s.exits; broken = s.broken }
 
 unfoldable pub with_exits : List Exit → Known → Known
-with_exits xs s = record { now = s.now; wrote = s.wrote; exits = xs; broken = s.broken }
+with_exits xs s = record { now = s.now; wrote = s.wrote; fixed = s.fixed; exits = xs; broken = s.broken }
 
 -- what comes together with another mark
 abbrev pub met : Mark → Known → Known
@@ -51,26 +52,21 @@ broken_if false rule p bs = bs
 
 -- the value of the variable is used: 705 where it isn't definitely assigned (JLS 16)
 unfoldable pub used : Place → Known → Known
-used p s = record { now = s.now; wrote = s.wrote; exits = s.exits; broken = broken_if (not s.now.set) 705 p s.broken }
+used p s = record { now = s.now; wrote = s.wrote; fixed = s.fixed; exits = s.exits; broken = broken_if (not s.now.set) 705 p s.broken }
 
--- where an assignment breaks 706, by what is known: nowhere, of a final variable where it isn't definitely unassigned, and always, of
--- a final parameter and of a final field that may not be assigned there (JLS 4.12.4, 8.3.1.2)
-abbrev pub nowhere_final : Mark → Bool
-nowhere_final m = false
-
-abbrev pub blank_final : Mark → Bool
-blank_final m = not m.unset
-
-abbrev pub always_final : Mark → Bool
-always_final m = true
-
--- the variable is assigned
-unfoldable pub written : (Mark → Bool) → Place → Known → Known
-written refused p s = record { now = gone; wrote = true; exits = s.exits; broken = broken_if (refused s.now) 706 p s.broken }
+-- the variable is assigned: 706 where it is final and has its value from where it is declared, or isn't definitely unassigned
+-- (JLS 4.12.4, 8.3.1.2, 16)
+unfoldable pub written : Bool → Place → Known → Known
+written is_final p s = record { now = gone; wrote = true; fixed = s.fixed; exits = s.exits; broken = broken_if (is_final && (s.fixed || not s.now.unset)) 706 p s.broken }
 
 -- the variable is declared, with an initialiser that was evaluated or without one (JLS 16.2.4)
 unfoldable pub declared : Bool → Known → Known
-declared has_value s = with_now (if has_value then gone else fresh) s
+declared has_value s = record { now = if has_value then gone else fresh; wrote = s.wrote; fixed = has_value; exits = s.exits; broken = s.broken }
+
+-- the variable gets a value that no assignment gives it: that of an enhanced `for`, and the parameter of a clause, which may not be
+-- assigned where it has several alternatives (JLS 14.14.2, 14.20)
+unfoldable pub given : Bool → Known → Known
+given fixed s = record { now = gone; wrote = s.wrote; fixed = fixed; exits = s.exits; broken = s.broken }
 
 -- of two jumps whether they go the same way
 abbrev pub same_jump : Jump → Jump → Bool

@@ -24,7 +24,7 @@ use Rattle.jc_assign_spec.specs.declared.marks.Mark.{Mark}
 use Rattle.jc_assign_spec.specs.declared.marks.Jump.TheVariants as jump
 use Rattle.jc_assign_spec.specs.declared.marks.Variable.{Variable as Tracked}
 use Rattle.jc_assign_spec.specs.declared.marks.Variable.TheVariants as v
-use Rattle.jc_assign_spec.specs.Marks.{Known, fresh, gone, landed, broken_if, nowhere_final, blank_final, always_final}
+use Rattle.jc_assign_spec.specs.Marks.{Known, fresh, gone, landed, broken_if}
 use Rattle.jc_assign_spec.specs.Statements.{stmt_known, stmts_known}
 
 -- a field has an initialiser among these statements
@@ -91,13 +91,13 @@ delegates T m (MoreStmts before (stmt p form)) = form_delegates T m form
 
 -- where the walk of a variable begins: parameters are assigned, other locals aren't, nor are the blank fields, unless another
 -- constructor has run
-abbrev pub begins : Mark → Known
-begins m = record { now = m; wrote = false; exits = []; broken = [] }
+abbrev pub begins : Bool → Mark → Known
+begins fixed m = record { now = m; wrote = false; fixed = fixed; exits = []; broken = [] }
 
 -- the walk over the parts of a body, and where all ways that leave it come together
-abbrev pub parts_known : Tracked → (Mark → Bool) → (Bool → FieldId → Bool) → Stmts → Stmts → Stmt → Known → Known
-parts_known var refused foreign call inits rest s =
-    landed jump.Return (stmt_known var refused foreign rest (stmts_known var refused foreign inits (stmts_known var refused foreign call s)))
+abbrev pub parts_known : Tracked → Bool → (Bool → FieldId → Bool) → Stmts → Stmts → Stmt → Known → Known
+parts_known var is_final foreign call inits rest s =
+    landed jump.Return (stmt_known var is_final foreign rest (stmts_known var is_final foreign inits (stmts_known var is_final foreign call s)))
 
 -- a field is among these
 abbrev pub has_field : FieldId → List FieldId → Bool
@@ -123,30 +123,24 @@ abbrev pub left_blank : Mark → List Place → List Refusal
 left_blank m [] = []
 left_blank m (p ∷ ps) = broken_if (not m.set) 707 p []
 
--- a local variable, final or not, that is a parameter or none
-abbrev pub refused_by : Bool → Bool → Mark → Bool
-refused_by false is_parameter = nowhere_final
-refused_by true false = blank_final
-refused_by true true = always_final
-
 module _ (T : Table) (own : List FieldId) (call inits : Stmts) (rest : Stmt) where
-  abbrev walk_of : Tracked → (Mark → Bool) → Mark → Known
-  walk_of var refused m = parts_known var refused (foreign_to T own) call inits rest (begins m)
+  abbrev walk_of : Tracked → Bool → Bool → Mark → Known
+  walk_of var is_final fixed m = parts_known var is_final (foreign_to T own) call inits rest (begins fixed m)
 
   -- all breaks at each local variable, counted from n, and at each blank field
   abbrev pub locals_broken : ℕ → ℕ → List Local → List Refusal
   locals_broken given n [] = []
-  locals_broken given n (l ∷ ls) = (walk_of (v.Local n) (refused_by l.is_final (nat_lt n given)) (if nat_lt n given then gone else fresh)).broken ++ locals_broken given (suc n) ls
+  locals_broken given n (l ∷ ls) = (walk_of (v.Local n) l.is_final (nat_lt n given) (if nat_lt n given then gone else fresh)).broken ++ locals_broken given (suc n) ls
 
   abbrev pub field_broken : FieldId → Known → List Refusal
   field_broken f s = s.broken ++ left_blank s.now (field_place (slice_get T.fields f.0))
 
   abbrev pub fields_broken : Mark → List FieldId → List Refusal
   fields_broken m [] = []
-  fields_broken m (f ∷ fs) = field_broken f (walk_of (v.Own f) blank_final m) ++ fields_broken m fs
+  fields_broken m (f ∷ fs) = field_broken f (walk_of (v.Own f) true false m) ++ fields_broken m fs
 
   abbrev pub all_broken : ℕ → Mark → List Local → List Refusal
-  all_broken given m locals = locals_broken given 0 locals ++ fields_broken m own ++ (walk_of v.Foreign always_final gone).broken
+  all_broken given m locals = locals_broken given 0 locals ++ fields_broken m own ++ (walk_of v.Foreign true true gone).broken
 
 -- all breaks of the rules 705 to 707 in a method; one without a body has none
 abbrev pub assigned_breaks_by : Table → TypedMethod → Stmts → Stmts → Stmt → List Refusal

@@ -3,6 +3,7 @@ use Rattle.std.specs.Prelude.{ℕ, suc, ◌==◌, Bool, true, false, not, ◌&&�
 use Rattle.std.specs.List.{list_any}
 use Rattle.jc_rules.specs.declared.rule.Place.{Place}
 use Rattle.jc_types.specs.declared.ids.FieldId.{FieldId}
+use Rattle.jc_types.specs.declared.form.Ty.{Ty}
 use Rattle.jc_typed.specs.Trees.{Case, Operand, Operands, NoOperands, MoreOperands, Declared, NoDeclared, MoreDeclared, Stmt, stmt, StmtForm, Empty, Block, Locals, Effect, If, Labelled, While, Do, For, ForArray, ForIterable, Switch, Return, Break, Continue, Throw, Try, Construct, Initialise, Stmts, NoStmts, MoreStmts, Arms, NoArms, MoreArms, Catches, NoCatches, MoreCatches}
 use Rattle.jc_flow_spec.specs.Statements.{has_default, is_labelled, stmt_count}
 use Rattle.jc_assign_spec.specs.declared.marks.Mark.{Mark}
@@ -10,13 +11,24 @@ use Rattle.jc_assign_spec.specs.declared.marks.Jump.TheVariants as jump
 use Rattle.jc_assign_spec.specs.declared.marks.Exit.{Exit}
 use Rattle.jc_assign_spec.specs.declared.marks.Variable.{Variable as Tracked}
 use Rattle.jc_assign_spec.specs.declared.marks.Variable.TheVariants as v
-use Rattle.jc_assign_spec.specs.Marks.{Known, Split, free, fresh, gone, meet, met, over, declared, with_now, with_exits, jumps, landed, cut, joined, alike, written}
+use Rattle.jc_assign_spec.specs.Marks.{Known, Split, free, fresh, gone, meet, met, over, declared, given, with_now, with_exits, jumps, landed, cut, joined, alike, written}
 use Rattle.jc_assign_spec.specs.Expressions.{expr_known, operand_known, operands_known, operand_split, is_local, is_own, named_used}
 
 -- V is a local variable that is declared here
 abbrev pub declared_if : Bool → Bool → Known → Known
 declared_if true has_value s = declared has_value s
 declared_if false has_value s = s
+
+-- V gets a value without an assignment
+abbrev pub given_if : Bool → Bool → Known → Known
+given_if true fixed s = given fixed s
+given_if false fixed s = s
+
+-- several alternatives
+abbrev pub are_several : List Ty → Bool
+are_several [] = false
+are_several (t ∷ []) = false
+are_several (t ∷ u ∷ more) = true
 
 -- there is an initialiser
 abbrev pub has_value : Operands → Bool
@@ -38,10 +50,10 @@ entry_of m wrote = record { set = m.set; unset = m.unset && not wrote }
 
 -- a part whose assignments are told apart
 abbrev pub unwritten : Known → Known
-unwritten s = record { now = s.now; wrote = false; exits = s.exits; broken = s.broken }
+unwritten s = record { now = s.now; wrote = false; fixed = s.fixed; exits = s.exits; broken = s.broken }
 
 abbrev pub also_wrote : Bool → Known → Known
-also_wrote before s = record { now = s.now; wrote = before || s.wrote; exits = s.exits; broken = s.broken }
+also_wrote before s = record { now = s.now; wrote = before || s.wrote; fixed = s.fixed; exits = s.exits; broken = s.broken }
 
 -- jumps that go through a block behind `finally`, which ends with this mark
 abbrev pub exits_over : Mark → List Exit → List Exit
@@ -85,15 +97,15 @@ at_label entry labelled s = if labelled then met entry s else s
 abbrev pub behind_switch : Mark → Bool → Known → Known
 behind_switch entry passes s = if passes then met entry s else s
 
-module _ (var : Tracked) (refused : Mark → Bool) (foreign : Bool → FieldId → Bool) where
+module _ (var : Tracked) (is_final : Bool) (foreign : Bool → FieldId → Bool) where
   abbrev known_of : Operand → Known → Known
-  known_of o s = operand_known var refused foreign o s
+  known_of o s = operand_known var is_final foreign o s
 
   abbrev knowns_of : Operands → Known → Known
-  knowns_of os s = operands_known var refused foreign os s
+  knowns_of os s = operands_known var is_final foreign os s
 
   abbrev split_of : Operand → Known → Split
-  split_of o s = operand_split var refused foreign o s
+  split_of o s = operand_split var is_final foreign o s
 
   -- declared variables, from the first one on
   abbrev pub declared_known : Declared → Known → Known
@@ -132,7 +144,7 @@ module _ (var : Tracked) (refused : Mark → Bool) (foreign : Bool → FieldId �
 
   -- an enhanced `for` (JLS 16.2.12): its test has no value, and its variable is assigned at each turn
   abbrev pub each_of : ℕ → ℕ → (Known → Known) → Known → Known
-  each_of t n body s = loop_of t alike (λ b. body (declared_if (is_local n var) true b)) (λ u. u) s
+  each_of t n body s = loop_of t alike (λ b. body (given_if (is_local n var) false b)) (λ u. u) s
 
   -- the arms of an `if` from the first one on: `trues` holds behind the earlier branches, and the state where all tests so far failed
   pub record Arm : Type 0 where
@@ -152,8 +164,8 @@ module _ (var : Tracked) (refused : Mark → Bool) (foreign : Bool → FieldId �
   arms_end other a = met a.trues (other a.falses)
 
   -- a clause: V holds there as before the clauses (JLS 16.2.15)
-  abbrev pub clause_of : Mark → ℕ → (Known → Known) → Known → Known
-  clause_of entry n block s = met s.now (block (declared_if (is_local n var) true (with_now entry s)))
+  abbrev pub clause_of : Mark → ℕ → Bool → (Known → Known) → Known → Known
+  clause_of entry n several block s = met s.now (block (given_if (is_local n var) several (with_now entry s)))
 
   -- the block behind `finally`; `m` is what held before the `try`, and the exits are those of before it
   abbrev pub finally_end : Bool → List Exit → Known → Known → Known
@@ -223,7 +235,7 @@ module _ (var : Tracked) (refused : Mark → Bool) (foreign : Bool → FieldId �
 
     pub catches_known : Mark → Catches → Known → Known
     catches_known entry NoCatches s = s
-    catches_known entry (MoreCatches before place n types body) s = clause_of entry n (stmt_known body) (catches_known entry before s)
+    catches_known entry (MoreCatches before place n types body) s = clause_of entry n (are_several types) (stmt_known body) (catches_known entry before s)
 
     pub finally_known : Mark → Bool → List Exit → Stmts → Known → Known
     finally_known m wrote outer NoStmts b = closed wrote outer b
