@@ -1,0 +1,4 @@
+pub mod Marks
+pub mod Expressions
+pub mod Statements
+pub mod Methods

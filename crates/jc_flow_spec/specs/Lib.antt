@@ -1,0 +1,5 @@
+pub mod Throwing
+pub mod States
+pub mod Expressions
+pub mod Statements
+pub mod Methods

@@ -1,0 +1,8 @@
+class A {
+    void m() {
+        while (true) {
+            try { break; } finally { while (true) { } }
+        }
+        m();
+    }
+}

@@ -1,0 +1,7 @@
+class A {
+    void m() {
+        final int x;
+        if (false) { x = 1; }
+        x = 2;
+    }
+}

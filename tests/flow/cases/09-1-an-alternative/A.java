@@ -1,0 +1,11 @@
+class X extends Exception { }
+class Y extends X { }
+class Z extends Exception { }
+class A {
+    void f() throws X { }
+    void m() {
+        try {
+            f();
+        } catch (X | Z e) { }
+    }
+}

@@ -1,0 +1,6 @@
+class A {
+    void m(int i) {
+        for (;; i++) { break; }
+        throw null;
+    }
+}

@@ -1,0 +1,7 @@
+class A {
+    final int f;
+    A(boolean b) {
+        if (b) return;
+        f = 1;
+    }
+}

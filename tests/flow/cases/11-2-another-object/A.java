@@ -1,0 +1,7 @@
+class A {
+    final int f;
+    A(A o) {
+        f = 1;
+        o.f = 2;
+    }
+}

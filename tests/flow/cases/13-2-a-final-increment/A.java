@@ -1,0 +1,6 @@
+class A {
+    void m() {
+        final int x;
+        x += 1;
+    }
+}

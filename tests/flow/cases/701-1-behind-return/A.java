@@ -1,0 +1,6 @@
+class A {
+    void m() {
+        return;
+        int x = 1;
+    }
+}

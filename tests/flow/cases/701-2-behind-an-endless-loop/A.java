@@ -1,0 +1,6 @@
+class A {
+    void m() {
+        while (true) { }
+        m();
+    }
+}

@@ -1,0 +1,5 @@
+class A {
+    int m(boolean b) {
+        if (b) return 1;
+    }
+}

@@ -1,0 +1,8 @@
+class X extends Exception { }
+class Y extends X { }
+class Z extends Exception { }
+class A {
+    void m() {
+        throw new X();
+    }
+}

@@ -1,0 +1,6 @@
+class A {
+    int m() {
+        int x;
+        return x;
+    }
+}

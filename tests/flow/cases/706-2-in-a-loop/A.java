@@ -1,0 +1,8 @@
+class A {
+    void m(boolean b) {
+        final int x;
+        while (b) {
+            x = 1;
+        }
+    }
+}

@@ -1,0 +1,6 @@
+class A {
+    final int f;
+    A(boolean b) {
+        if (b) f = 1;
+    }
+}

@@ -1,0 +1,6 @@
+class A {
+    static final int F;
+    static {
+        int x = 1;
+    }
+}

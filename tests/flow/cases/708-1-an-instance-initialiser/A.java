@@ -1,0 +1,5 @@
+class A {
+    {
+        throw new RuntimeException();
+    }
+}
