@@ -23,7 +23,7 @@ use Rattle.jc_name_rules.specs.Singles.{AreSingles, AreOfUnits, AllSingles, othe
 use Rattle.jc_name_rules.proofs.Singled.{other_single_told}
 
 -- those of a list that pass, with their names, counted from i
-pub marked : {X : Type 0} → (X → Bool) → (X → List ℕ) → ℕ → List X → Named
+unfoldable pub marked : {X : Type 0} → (X → Bool) → (X → List ℕ) → ℕ → List X → Named
 marked test name i [] = []
 marked test name i (x ∷ xs) = cond (test x) ((name x, i) ∷ []) [] ++ marked test name (suc i) xs
 

@@ -24,29 +24,22 @@ use Rattle.jc_name_rules.proofs.Firsts.{first_of, marked}
 
 -- ---- superinterfaces
 
+either : (c : Bool) (a b : Refusal) (bs : List Refusal) → ((x : Refusal) → least (Some x) bs ≡ None → ⊥) → least (if c then Some b else Some a) bs ≡ None → ⊥
+either true a b bs f e = f b e
+either false a b bs f e = f a e
+
 -- what is found first stays found
 stays_some : (a : Refusal) (bs : List Refusal) → least (Some a) bs ≡ None → ⊥
 stays_some a [] e = absurd (let z : ⊥ = cc in z)
-stays_some a (b ∷ bs) e = by (before b a) e
-  where
-    by : (c : Bool) → least (if c then Some b else Some a) bs ≡ None → ⊥
-    by true f = stays_some b bs f
-    by false f = stays_some a bs f
+stays_some a (b ∷ bs) e = either (before b a) a b bs (λ x. stays_some x bs) e
 
--- names that break no rule have no least break, and others have one
+-- names without a least break break no rule
 pub sound_told : (w : Wrote) (file : ℕ) → least None (in_file file w.broken) ≡ None → sound_type w ≡ Some w.ty
 sound_told w file e = by w.broken e
   where
     by : (bs : List Broken) → least None (in_file file bs) ≡ None → cond (is_empty bs) (Some w.ty) None ≡ Some w.ty
     by [] e = refl
     by (b ∷ bs) e = absurd (stays_some (record { rule = b.rule; place = record { file = file; at = b.at }; have = 0 }) (in_file file bs) e)
-
-pub unsound_told : (w : Wrote) (file : ℕ) (a : Refusal) → least None (in_file file w.broken) ≡ Some a → sound_type w ≡ None
-unsound_told w file a e = by w.broken e
-  where
-    by : (bs : List Broken) → least None (in_file file bs) ≡ Some a → cond (is_empty bs) (Some w.ty) None ≡ None
-    by [] e = absurd (let z : ⊥ = cc in z)
-    by (b ∷ bs) e = refl
 
 module _ (H : Heads) (K : Knowledge) (r : Reading) (file : ℕ) where
   pub repeated_turn : (found next : Option Refusal) (before after : List Ty) (xs : List ClassTree) (i : ℕ) (t : ClassTree) (o : Option Ty) (repeated : Bool) → i < length xs → t ≡ get_or xs i t
