@@ -1,0 +1,5 @@
+pub mod Seen
+mod Lines
+mod Going
+mod Swapping
+mod Numbering
