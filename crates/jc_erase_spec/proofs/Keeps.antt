@@ -1,5 +1,7 @@
 -- Objects, strings and exceptions are made alike in typed and in erased runs, and native methods act alike.
-use Rattle.std.proofs.Common.{◌≡◌, ℕ, List, [], refl, ap, ◌∙◌, subst, Option, Some, None, map, ◌<◌, arith}
+use Rattle.std.proofs.Common.{◌≡◌, ℕ, List, [], ◌∷◌, refl, ap, ◌∙◌, subst, Option, Some, None, map, ◌<◌, arith}
+use Rattle.std.specs.Prelude.{ℤ, ◌%◌}
+use Rattle.std.specs.Int.{w32, cast_unsigned}
 use Rattle.jc_types.specs.declared.form.Ty.{Ty, Ty-F, out-Ty, map-Ty, fold_out-Ty}
 use Rattle.jc_types.specs.declared.form.Arg.{Arg}
 use Rattle.jc_types.specs.declared.ids.VarId.{VarId}
@@ -15,17 +17,22 @@ use Rattle.jc_types.specs.Arrays.{array_over, array_over_at}
 use Rattle.jc_types.specs.Erasing.{erasure, erased_within, erased_by, erased_step, capped, plain, raised}
 use Rattle.jc_running.specs.declared.value.Value.{Value}
 use Rattle.jc_running.specs.declared.value.Value.TheVariants.{Whole, Long, Address, Null}
-use Rattle.jc_running.specs.Outcomes.{give, throw, wrong, bind}
+use Rattle.jc_running.specs.Shows.{with_byte, with_taken}
+use Rattle.jc_running.specs.Outcomes.{give, throw, wrong, bind, spend}
 use Rattle.jc_heaps.specs.declared.state.Object.{Object}
-use Rattle.jc_heaps.specs.States.{object_at, set_part}
-use Rattle.jc_heaps.specs.Erases.{Erases, erase_object}
+use Rattle.jc_heaps.specs.Numbers.{whole_of}
+use Rattle.jc_heaps.specs.States.{some_or_wrong, change, local, object_at, set_part}
+use Rattle.jc_heaps.specs.Erases.{ErasedState, Erases, erase_object, erase_state}
 use Rattle.jc_heaps.specs.Layout.{new_fields, slot_of}
-use Rattle.jc_heaps.specs.Making.{make, make_plain, raise, address_of, set_chars, make_string, char_value}
+use Rattle.jc_heaps.specs.Making.{make, make_plain, raise, address_of, set_chars, make_string, char_value, units_of_text, put_byte, taken_from, take_byte, exit_with}
 use Rattle.jc_heaps.proofs.Erases as x
 use Rattle.jc_typed.specs.declared.program.Known.{Known}
 use Rattle.jc_meaning.specs.declared.frame.Frame.{Frame}
 use Rattle.jc_meaning.specs.declared.frame.Read.{Read}
-use Rattle.jc_meaning.specs.Kept.{TypedRun, typed_keeping}
+use Rattle.jc_meaning.specs.declared.target.Native.{Native}
+use Rattle.jc_meaning.specs.declared.target.Native.TheVariants.{HashCode, ClassName, Put, ReadByte, Halt}
+use Rattle.jc_meaning.specs.Natives.{native_act, address_in, whole_in, name_of}
+use Rattle.jc_meaning.specs.Kept.{TypedState, TypedRun, typed_keeping}
 use Rattle.jc_erased.specs.Programs.{ErasedRun, erased_keeping}
 use Rattle.jc_erase_spec.proofs.Heaps as h
 
@@ -60,6 +67,12 @@ module _ (T : Table) where
   erasure_is : (t : Ty) (b : Base) (n : ℕ) → n < 256 → ((vs : VarId → Erased) (cs : CaptureId → Erased) → erased_by vs cs t ≡ record { base = b; dims = n }) → erasure T [] t ≡ record { base = b; dims = n }
   unfolding erasure erased_within
   erasure_is t b n small h = ap capped (h _ _) ∙ few_dims b n small
+
+  class_with : (k : ClassId) (args : List Arg) (vs : VarId → Erased) (cs : CaptureId → Erased) → erased_by vs cs (Class k args) ≡ plain (base.Class k)
+  class_with k args vs cs = by_layer vs cs (Class k args) (Ty-F.Class k args) (outs-Class k args)
+
+  pub plain_with : (k : ClassId) (args : List Arg) → erasure T [] (Class k args) ≡ plain (base.Class k)
+  plain_with k args = erasure_is (Class k args) (base.Class k) 0 (omega arith) (class_with k args)
 
   class_by : (k : ClassId) (vs : VarId → Erased) (cs : CaptureId → Erased) → erased_by vs cs (Class k []) ≡ plain (base.Class k)
   class_by k vs cs = by_layer vs cs (Class k []) (Ty-F.Class k []) (outs-Class k [])
@@ -113,3 +126,45 @@ module _ (T : Table) where
     makes_string units =
         andso (makes (Array (Prim Char) 0) (raised 1 (plain (base.Prim Char))) (map char_value units) plain_chars) (λ chars.
         andso (plains known.string) (λ at. sets_chars (slot_of T known.chars) at chars))
+
+    -- native methods
+    spends : {A : Type 0} {m : TypedRun A} {m' : ErasedRun A} → Alike T m m' → Alike T (spend m) (spend m')
+    spends {m = m} {m' = m'} em = record { same = x.erases_spend Ty Frame (List Read) (erasure T []) m m' em.same }
+
+    locals_alike : (n : ℕ) → Alike T (local n) (local n)
+    locals_alike n = record { same = h.erases_local Ty Frame (List Read) (erasure T []) n }
+
+    in_value : (v : Value) → Alike T (address_in v) (address_in v)
+    in_value (Address a) = gives a
+    in_value Null = wrongs
+    in_value (Whole n) = wrongs
+    in_value (Long n) = wrongs
+
+    somes : {A : Type 0} (o : Option A) → Alike T (some_or_wrong o) (some_or_wrong o)
+    somes o = record { same = h.erases_some Ty Frame (List Read) (erasure T []) o }
+
+    wholes : (n : ℕ) → Alike T (whole_in n) (whole_in n)
+    wholes n = andso (locals_alike n) (λ v. somes (whole_of v))
+
+    changes : (f : TypedState → TypedState) (f' : ErasedState → ErasedState) → ((s : TypedState) → erase_state (erasure T []) (f s) ≡ f' (erase_state (erasure T []) s)) → Alike T (change f) (change f')
+    changes f f' e = record { same = h.erases_change Ty Frame (List Read) (erasure T []) f f' e }
+
+    puts : (b : ℕ) → Alike T (put_byte b) (put_byte b)
+    puts b = spends (changes (λ s. record s { shown = with_byte b s.shown }) (λ s. record s { shown = with_byte b s.shown }) (λ s. refl))
+
+    takes_from : (bytes : List ℕ) → Alike T (taken_from bytes) (taken_from bytes)
+    takes_from [] = gives _
+    takes_from (b ∷ bs) = andso (spends (changes (λ s. record s { input = bs; shown = with_taken s.shown }) (λ s. record s { input = bs; shown = with_taken s.shown }) (λ s. refl))) (λ _. gives _)
+
+    takes : Alike T take_byte take_byte
+    takes = record { same = λ u s. (takes_from s.input).same u s }
+
+    exits : {A : Type 0} (code : ℤ) → Alike T {A = A} (exit_with code) (exit_with code)
+    exits code = spends (record { same = λ u s. refl })
+
+    pub natives : (n : Native) → Alike T (native_act (typed_keeping T) T known n) (native_act erased_keeping T known n)
+    natives HashCode = andso (locals_alike 0) (λ v. andso (in_value v) (λ a. gives _))
+    natives ClassName = andso (locals_alike 0) (λ v. andso (in_value v) (λ a. objects a (λ o. makes_string (units_of_text (name_of T (erasure T [] o.kept))))))
+    natives Put = andso (wholes 0) (λ n. andso (puts (cast_unsigned w32 n % 256)) (λ _. gives Null))
+    natives ReadByte = takes
+    natives Halt = andso (wholes 0) exits

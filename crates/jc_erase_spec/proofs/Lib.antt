@@ -2,3 +2,4 @@ pub mod Heaps
 pub mod Keeps
 pub mod Calls
 pub mod Alike
+mod Small

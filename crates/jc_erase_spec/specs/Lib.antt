@@ -1,3 +1,4 @@
 pub mod Naming
 pub mod Trees
 pub mod Meeting
+pub mod Small

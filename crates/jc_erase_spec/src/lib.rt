@@ -4,4 +4,4 @@
 
 mod laws;
 
-pub use laws::erasures_run_alike;
+pub use laws::{a_small_erasure, erasures_run_alike};

@@ -1,0 +1,4 @@
+pub mod Captured
+pub mod Leading
+pub mod Types
+pub mod Trees
