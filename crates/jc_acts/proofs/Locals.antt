@@ -1,7 +1,6 @@
 -- The types of the variables behind those that are given.
-use Rattle.std.proofs.Common.{◌≡◌, ◌∷◌, ◌≤◌, [], ℕ, zero, suc, List, length, map, drop, refl, ap, arith}
-use Rattle.jc_types.specs.declared.form.Ty.{Ty}
-use Rattle.jc_running.specs.declared.value.Value.{Value}
+use Rattle.std.proofs.Common.{◌≡◌, ◌∷◌, ◌∙◌, ◌≤◌, ◌-◌, [], ℕ, zero, suc, List, length, map, take, drop, refl, ap, arith}
+use Rattle.std.proofs.lemmas.List.{take_all, length-drop}
 use Rattle.jc_heaps.specs.Layout.{default_value}
 use Rattle.jc_typed.specs.declared.program.Local.{Local}
 use Rattle.jc_meaning.specs.Programs.{local_types}
@@ -11,8 +10,11 @@ types_behind zero ls = refl
 types_behind (suc n) [] = refl
 types_behind (suc n) (l ∷ ls) = types_behind n ls
 
-pub defaults_from : (n : ℕ) (ls : List Local) → map default_value (local_types (drop n ls)) ≡ map default_value (drop n (local_types ls))
-defaults_from n ls = ap (map default_value) (types_behind n ls)
+-- a slice has as many members as are left
+pub defaults_from : (n : ℕ) (ls : List Local) → map default_value (local_types (take (length ls - n) (drop n ls))) ≡ map default_value (drop n (local_types ls))
+defaults_from n ls =
+    let all : take (length ls - n) (drop n ls) ≡ drop n ls = take_all (length ls - n) (drop n ls) (omega (arith, length-drop n ls)) in
+    ap (λ (xs : List Local). map default_value (local_types xs)) all ∙ ap (map default_value) (types_behind n ls)
 
 pub none_left : (n : ℕ) (ls : List Local) → length ls ≤ n → [] ≡ map default_value (drop n (local_types ls))
 none_left zero [] h = refl
@@ -24,4 +26,4 @@ pub none_there : (n : ℕ) → [] ≡ map default_value (drop n [])
 none_there zero = refl
 none_there (suc n) = refl
 
-pub ruleset defaults = (defaults_from, none_left, none_there)
+pub ruleset defaults = (none_left, none_there)
