@@ -2,11 +2,11 @@ use Rattle.std.proofs.Common.{◌≡◌, ℕ, List, Option, ap, map, sym, ◌∙
 use Rattle.std.proofs.lemmas.Int.{to_z-of_z}
 use Rattle.std.specs.Int.{w32}
 use Rattle.jc_running.specs.Outcomes.{stop}
-use Rattle.jc_typed.specs.Parts.{Part, case_over}
+use Rattle.jc_typed.specs.Parts.{case_over}
 use Rattle.jc_typed.specs.Trees.{Case}
 use Rattle.jc_meaning.specs.Statements as s
 use Rattle.jc_values.specs.Idle.{idle}
-use Rattle.jc_acts.specs.Cases.{default_in, labelled}
+use Rattle.jc_acts.specs.Cases.{labelled}
 use Rattle.jc_acts.proofs.Cases.{same_default_in, same_labelled}
 use Rattle.jc_completing.proofs.acting.label_of.Goals as goal
 
