@@ -6,11 +6,11 @@ use crate::types::read_type;
 use crate::words::{put_result, put_type};
 use crate::{Read, Unreadable};
 use jc_members::{MethodView, members, method_index, view_of_method};
-use jc_resolve::{CallSite, Choice, is_apart, resolve};
+use jc_resolve::{CallSite, Choice, Chosen, is_apart, resolve};
 use jc_resolve_sites::{apart_site, constructor_ids, diamond_view, renamed_site};
 use jc_rules::{Items, Stop, Text};
 use jc_sub::class_of;
-use jc_types::{Env, MethodId, Phase, Table, Ty};
+use jc_types::{ClassId, Env, MethodId, Phase, Table, Ty};
 use std::alloc::Global;
 
 /// The member that words spell: `fixed` or `variable`, its type parameters, and behind a colon its result and its parameters. Its number is its id.
@@ -46,18 +46,56 @@ pub fn meant(
     env: &mut Env,
     call: &str,
 ) -> Read<String> {
-    let mut bars = call.split('|');
-    let head = bars.next().unwrap_or("");
-    let mut members = Items::new(alloc);
-    for (number, words) in bars.enumerate() {
-        members.push(member_of(alloc, scope, table, number as u64, words)?)?;
+    let site = written_site(alloc, scope, table, call)?;
+    match choice_of(alloc, table, env, &site)? {
+        None => Ok(String::from_str(alloc, "NotApart")?),
+        Some(choice) => choice_words(alloc, table, &choice),
     }
-    let site = site_of(alloc, scope, head, members)?;
-    if !is_apart(&site) {
-        return Ok(String::from_str(alloc, "NotApart")?);
+}
+
+/// The member of a type that a call of a name means in a body, where the type, which is captured, and the name stand before the call's explicit type arguments.
+pub fn meant_of(
+    alloc: Global,
+    scope: &Scope,
+    table: &Table,
+    env: &mut Env,
+    call: &str,
+) -> Read<String> {
+    let site = named_site(alloc, scope, table, call)?;
+    asked(alloc, scope, table, env, &site)
+}
+
+/// The constructor of a class that a creation means in a body: of a class type, or of a class alone where the creation has a diamond.
+pub fn created(
+    alloc: Global,
+    scope: &Scope,
+    table: &Table,
+    env: &mut Env,
+    call: &str,
+) -> Read<String> {
+    let site = created_site(alloc, scope, table, call)?;
+    asked(alloc, scope, table, env, &site)
+}
+
+fn choice_of(alloc: Global, table: &Table, env: &mut Env, site: &CallSite) -> Read<Option<Choice>> {
+    if !is_apart(site) {
+        return Ok(None);
     }
-    let choice = resolve(alloc, table, env, &site)?;
-    choice_words(alloc, table, choice)
+    let choice = resolve(alloc, table, env, site)?;
+    Ok(Some(choice))
+}
+
+fn asked(
+    alloc: Global,
+    scope: &Scope,
+    table: &Table,
+    env: &mut Env,
+    site: &CallSite,
+) -> Read<String> {
+    match choice_of(alloc, table, env, site)? {
+        None => Ok(String::from_str(alloc, "NotApart")?),
+        Some(choice) => told_words(alloc, scope, table, &choice),
+    }
 }
 
 /// The first word, and what follows it.
@@ -88,41 +126,37 @@ fn site_of(
     })
 }
 
-/// The member of a type that a call of a name means in a body, where the type, which is captured, and the name stand before the call's explicit type arguments.
-pub fn meant_of(
-    alloc: Global,
-    scope: &Scope,
-    table: &Table,
-    env: &mut Env,
-    call: &str,
-) -> Read<String> {
+fn written_site(alloc: Global, scope: &Scope, table: &Table, call: &str) -> Read<CallSite> {
+    let mut bars = call.split('|');
+    let head = bars.next().unwrap_or("");
+    let mut members = Items::new(alloc);
+    for (number, words) in bars.enumerate() {
+        members.push(member_of(alloc, scope, table, number as u64, words)?)?;
+    }
+    site_of(alloc, scope, head, members)
+}
+
+fn named_site(alloc: Global, scope: &Scope, table: &Table, call: &str) -> Read<CallSite> {
     let (word, rest) = first_word(call);
     let (name, words) = first_word(rest);
     let ty = read_type(alloc, scope, word)?;
-    let name = Text::copied(alloc, name)?;
-    let index = method_index(alloc, table)?;
-    let found = members(alloc, table, &index, &ty, &name)?;
+    let found = named_members(alloc, table, &ty, name)?;
     let site = site_of(alloc, scope, words, found)?;
-    let site = apart_site(alloc, table, &ty, site)?;
-    let choice = resolve(alloc, table, env, &site)?;
-    told_words(alloc, scope, table, choice)
+    Ok(apart_site(alloc, table, &ty, site)?)
 }
 
-/// The constructor of a class that a creation means in a body: of a class type, or of a class alone where the creation has a diamond.
-pub fn created(
-    alloc: Global,
-    scope: &Scope,
-    table: &Table,
-    env: &mut Env,
-    call: &str,
-) -> Read<String> {
+fn named_members(alloc: Global, table: &Table, ty: &Ty, name: &str) -> Read<Items<MethodView>> {
+    let name = Text::copied(alloc, name)?;
+    let index = method_index(alloc, table)?;
+    Ok(members(alloc, table, &index, ty, &name)?)
+}
+
+fn created_site(alloc: Global, scope: &Scope, table: &Table, call: &str) -> Read<CallSite> {
     let (word, words) = first_word(call);
-    let site = match word.strip_suffix("<>") {
-        Some(name) => diamond_site(alloc, scope, table, name, words)?,
-        None => creation_site(alloc, scope, table, word, words)?,
-    };
-    let choice = resolve(alloc, table, env, &site)?;
-    told_words(alloc, scope, table, choice)
+    match word.strip_suffix("<>") {
+        Some(name) => diamond_site(alloc, scope, table, name, words),
+        None => creation_site(alloc, scope, table, word, words),
+    }
 }
 
 fn diamond_site(
@@ -133,13 +167,18 @@ fn diamond_site(
     words: &str,
 ) -> Read<CallSite> {
     let class = class_of_name(scope, name)?;
-    let mut views = Items::new(alloc);
+    let views = diamond_views(alloc, table, class)?;
+    let site = site_of(alloc, scope, words, views)?;
+    Ok(renamed_site(alloc, table, site)?)
+}
+
+fn diamond_views(alloc: Global, table: &Table, class: ClassId) -> Read<Items<MethodView>> {
     let ids = constructor_ids(alloc, table, class)?;
+    let mut views = Items::new(alloc);
     for m in ids.slice() {
         views.push(diamond_view(alloc, table, class, *m)?)?;
     }
-    let site = site_of(alloc, scope, words, views)?;
-    Ok(renamed_site(alloc, table, site)?)
+    Ok(views)
 }
 
 fn creation_site(
@@ -150,18 +189,23 @@ fn creation_site(
     words: &str,
 ) -> Read<CallSite> {
     let ty = read_type(alloc, scope, word)?;
-    let Some(class) = class_of(&ty) else {
+    let views = constructor_views(alloc, table, &ty)?;
+    let site = site_of(alloc, scope, words, views)?;
+    Ok(apart_site(alloc, table, &ty, site)?)
+}
+
+fn constructor_views(alloc: Global, table: &Table, ty: &Ty) -> Read<Items<MethodView>> {
+    let Some(class) = class_of(ty) else {
         return Err(Stop::Refused(Unreadable));
     };
-    let mut views = Items::new(alloc);
     let ids = constructor_ids(alloc, table, class)?;
+    let mut views = Items::new(alloc);
     for m in ids.slice() {
-        if let Some(view) = view_of_method(alloc, table, &ty, *m)? {
+        if let Some(view) = view_of_method(alloc, table, ty, *m)? {
             views.push(view)?;
         }
     }
-    let site = site_of(alloc, scope, words, views)?;
-    Ok(apart_site(alloc, table, &ty, site)?)
+    Ok(views)
 }
 
 fn put_types(alloc: Global, out: &mut String, table: &Table, types: &[Ty]) -> Read<()> {
@@ -172,27 +216,6 @@ fn put_types(alloc: Global, out: &mut String, table: &Table, types: &[Ty]) -> Re
     Ok(())
 }
 
-/// The same with the label of the member, and all that is told of it: behind bars the types to which the arguments go, the result as it is kept, and the thrown types.
-fn told_words(alloc: Global, scope: &Scope, table: &Table, choice: Choice) -> Read<String> {
-    let Choice::Chosen(chosen) = choice else {
-        return choice_words(alloc, table, choice);
-    };
-    let label = scope.label(chosen.member.id);
-    let word = phase_word(chosen.phase);
-    let mut out = format!(in alloc; "Chosen {label} {word}")?;
-    put_types(alloc, &mut out, table, chosen.type_args.slice())?;
-    out.push_str(" : ")?;
-    put_result(alloc, &mut out, table, chosen.result.as_ref())?;
-    out.push_str(if chosen.unchecked { " unchecked" } else { "" })?;
-    out.push_str(" |")?;
-    put_types(alloc, &mut out, table, chosen.formals.slice())?;
-    out.push_str(" | ")?;
-    put_result(alloc, &mut out, table, chosen.kept.as_ref())?;
-    out.push_str(" |")?;
-    put_types(alloc, &mut out, table, chosen.thrown.slice())?;
-    Ok(out)
-}
-
 fn phase_word(phase: Phase) -> &'static str {
     match phase {
         Phase::Subtyping => "subtyping",
@@ -201,17 +224,45 @@ fn phase_word(phase: Phase) -> &'static str {
     }
 }
 
+/// The phase and the type arguments, and behind a colon the result, with ` unchecked` where a conversion is.
+fn put_chosen(alloc: Global, out: &mut String, table: &Table, chosen: &Chosen) -> Read<()> {
+    out.push_str(phase_word(chosen.phase))?;
+    put_types(alloc, out, table, chosen.type_args.slice())?;
+    out.push_str(" : ")?;
+    put_result(alloc, out, table, chosen.result.as_ref())?;
+    out.push_str(if chosen.unchecked { " unchecked" } else { "" })?;
+    Ok(())
+}
+
+/// Behind bars the types to which the arguments go, the result as it is kept, and the thrown types.
+fn put_more(alloc: Global, out: &mut String, table: &Table, chosen: &Chosen) -> Read<()> {
+    out.push_str(" |")?;
+    put_types(alloc, out, table, chosen.formals.slice())?;
+    out.push_str(" | ")?;
+    put_result(alloc, out, table, chosen.kept.as_ref())?;
+    out.push_str(" |")?;
+    put_types(alloc, out, table, chosen.thrown.slice())
+}
+
+/// `Chosen`, the label of the member, and all that is told of it; or why there is none.
+fn told_words(alloc: Global, scope: &Scope, table: &Table, choice: &Choice) -> Read<String> {
+    let Choice::Chosen(chosen) = choice else {
+        return choice_words(alloc, table, choice);
+    };
+    let label = scope.label(chosen.member.id);
+    let mut out = format!(in alloc; "Chosen {label} ")?;
+    put_chosen(alloc, &mut out, table, chosen)?;
+    put_more(alloc, &mut out, table, chosen)?;
+    Ok(out)
+}
+
 /// `Chosen`, the number of the member, the phase, its type arguments, and behind a colon its result, with ` unchecked` where a conversion is; or why there is none.
-fn choice_words(alloc: Global, table: &Table, choice: Choice) -> Read<String> {
+fn choice_words(alloc: Global, table: &Table, choice: &Choice) -> Read<String> {
     match choice {
         Choice::Chosen(chosen) => {
             let number = chosen.member.id.0;
-            let word = phase_word(chosen.phase);
-            let mut out = format!(in alloc; "Chosen {number} {word}")?;
-            put_types(alloc, &mut out, table, chosen.type_args.slice())?;
-            out.push_str(" : ")?;
-            put_result(alloc, &mut out, table, chosen.result.as_ref())?;
-            out.push_str(if chosen.unchecked { " unchecked" } else { "" })?;
+            let mut out = format!(in alloc; "Chosen {number} ")?;
+            put_chosen(alloc, &mut out, table, chosen)?;
             Ok(out)
         }
         Choice::NoMember => Ok(String::from_str(alloc, "NoMember")?),
