@@ -1,0 +1,7 @@
+class Box<T> { Box(T... ts) { } }
+class One extends Box {
+}
+class Two extends Box {
+    Two() {
+    }
+}

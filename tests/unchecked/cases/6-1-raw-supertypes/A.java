@@ -1,0 +1,5 @@
+interface I<T> { }
+class Box<T> { }
+class A extends Box { }
+class B extends Box<String> implements I { }
+interface J extends I { }
