@@ -1,6 +1,6 @@
 -- What typing tells of each expression and statement of a typed tree: its captured variables are the next numbers in the order of evaluation, with the bounds that capture gives, and
 -- its type is the captured one of what its form says.
-use Rattle.std.specs.Prelude.{◌≡◌, ℕ, ◌+◌, ◌||◌, Bool, true, false, List, [], ◌∷◌, length, Option, Some, None, slice_get, take, drop}
+use Rattle.std.specs.Prelude.{◌≡◌, ◌⊎◌, ℕ, ◌+◌, ◌||◌, ◌++◌, Bool, true, false, List, [], ◌∷◌, length, Option, Some, None, slice_get, take, drop}
 use Rattle.jc_types.specs.declared.environment.Bounds.{Bounds}
 use Rattle.jc_types.specs.declared.form.Ty.{Ty}
 use Rattle.jc_types.specs.declared.table.Table.{Table}
@@ -25,25 +25,48 @@ use Rattle.jc_typed.specs.Parts.{stmts_of, stmt_of}
 use Rattle.jc_meaning.specs.Kept.{arguments_in}
 use Rattle.jc_meaning.specs.Programs.{initialises, local_types}
 use Rattle.jc_exprs_exports.specs.Captured.{captures_of, count_form, count_links, count_operand, count_operands, count_variable, count_declared, count_stmt, count_stmts, count_arms, count_catches}
+use Rattle.jc_exprs_exports.specs.Formed.{FormedIs}
 use Rattle.jc_exprs_exports.specs.Leading.{Leads}
-use Rattle.jc_exprs_exports.specs.Types.{Home, FormIs, ConstructIs, OperandLeads, OperandLeadsTo, env_to, is_change}
+use Rattle.jc_exprs_exports.specs.Mention.{all_speak, bounds_speak, live_expr, nobody, speaks}
+use Rattle.jc_exprs_exports.specs.Opening.{Settled, settled}
+use Rattle.jc_exprs_exports.specs.Types.{Home, FormIs, ConstructIs, OperandLeads, IsAsked, env_to, is_change}
 
 -- the bounds of the variables of a method that are captured where there are n of them already
 abbrev pub bounds_from : Home → ℕ → ℕ → List Bounds
 bounds_from H n count = take count (drop n H.env)
 
--- the type of a node and its captured variables: those of the capture of u, which the method lists with their bounds. The type of `op=`, `++` and `--` is u itself, of which a member access
--- alone uses the captured variables
-abbrev pub type_behind : Bool → Ty → Ty → Ty
-type_behind true u captured = u
-type_behind false u captured = captured
+-- what capture makes of the type u of a form; the type of `op=`, `++` and `--` stays u itself, and is captured where a member is asked
+abbrev pub own_capture : Table → ℕ → Ty → Bool → Settled
+own_capture T n u true = record { ty = u; captures = []; fresh = [] }
+own_capture T n u false = record { ty = (capture T n u).ty; captures = captures_of T n u; fresh = (capture T n u).fresh }
 
-pub record NodeIs (H : Home) (n : ℕ) (ty : Ty) (captures : List Capture) (form : Form) : Type 0 where
+-- the variables that stand behind a node's own where a member of its operand is asked: those that the bounds of type variables make (JLS 4.4, 4.9)
+pub record AskedIs (H : Home) (n : ℕ) (ty : Ty) (ss : List Step) (captures : List Capture) (fresh : List Bounds) : Type 0 where
+  pub static : Ty
+  pub leads : Leads H.table (env_to H n) ty ss static
+  pub captured : captures ≡ (settled H.table (env_to H n) static).captures
+  pub bounds : fresh ≡ (settled H.table (env_to H n) static).fresh
+
+-- The type of a node and its captured variables, which the method lists with their bounds: those of the capture of its type, and behind them those of a member access, if its operand with
+-- the steps `ss` is asked for one
+pub record NodeIs (H : Home) (n : ℕ) (ty : Ty) (captures : List Capture) (form : Form) (ss : List Step) : Type 0 where
   pub before : Ty
   pub is_form : FormIs H n form before
-  pub own : captures ≡ captures_of H.table n before
-  pub bounds : bounds_from H n (length captures) ≡ (capture H.table n before).fresh
-  pub type : ty ≡ type_behind (is_change form) before (capture H.table n before).ty
+  pub formed : FormedIs H.table (env_to H n) form before
+  pub type : ty ≡ (own_capture H.table n before (is_change form)).ty
+  pub behind : Settled
+  pub asked :
+      ((behind.captures ≡ []) × (behind.fresh ≡ []))
+      ⊎ AskedIs H (n + length (own_capture H.table n before (is_change form)).captures) ty ss behind.captures behind.fresh
+  pub own : captures ≡ (own_capture H.table n before (is_change form)).captures ++ behind.captures
+  pub bounds : bounds_from H n (length captures) ≡ (own_capture H.table n before (is_change form)).fresh ++ behind.fresh
+
+-- the type of an expression, and the bounds of its captured variables, name live ones alone, where n captured variables are there before it
+abbrev pub NamesLive : Home → ℕ → Expr → Type 0
+NamesLive H n NoExpr = ⊥
+NamesLive H n (expr place ty captures form) =
+    (speaks (live_expr H.string n (expr place ty captures form)) ty ≡ true)
+    × (bounds_speak (live_expr H.string n (expr place ty captures form)) (bounds_from H (n + count_form form) (length captures)) ≡ true)
 
 -- the branches of a conditional, and the operands of `&&` and `||` behind the first, capture the variables that the form says
 abbrev pub first_count : Operands → ℕ
@@ -52,14 +75,15 @@ first_count (MoreOperands NoOperands last) = count_operand last
 first_count (MoreOperands (MoreOperands before middle) last) = first_count (MoreOperands before middle)
 
 abbrev mutual
-  -- n captured variables are there before it is evaluated
-  pub TellsExpr : Home → ℕ → Expr → Type 0
-  TellsExpr H n NoExpr = ⊥
-  TellsExpr H n (expr place ty captures form) = TellsForm H n form × NodeIs H (n + count_form form) ty captures form
+  -- n captured variables are there before it is evaluated, and these steps are done with its value
+  pub TellsExpr : Home → ℕ → Expr → List Step → Type 0
+  TellsExpr H n NoExpr ss = ⊥
+  TellsExpr H n (expr place ty captures form) ss =
+      TellsForm H n form × NodeIs H (n + count_form form) ty captures form ss × NamesLive H n (expr place ty captures form)
 
   pub TellsOperand : Home → ℕ → Operand → Type 0
   TellsOperand H n NoOperand = ⊥
-  TellsOperand H n (operand place of_it ss) = TellsExpr H n of_it
+  TellsOperand H n (operand place of_it ss) = TellsExpr H n of_it ss
 
   -- the parts of a form, from left to right
   pub TellsForm : Home → ℕ → Form → Type 0
@@ -133,7 +157,7 @@ element_or_object [] = Class (record { 0 = 0 }) []
 element_or_object (t ∷ ts) = t
 
 abbrev pub IterableOf : Home → ℕ → ClassId → Operand → Ty → Type 0
-IterableOf H n iterable o u = OperandLeadsTo H n (λ s. (v : Ty) × (view H.table iterable s ≡ Some v) × (u ≡ element_or_object (arguments_in (Some v)))) o
+IterableOf H n iterable o u = IsAsked H n (λ s. (v : Ty) × (view H.table iterable s ≡ Some v) × (u ≡ element_or_object (arguments_in (Some v)))) o
 
 -- each alternative of a catch clause is a class without parameters, which is below the variable's type
 abbrev pub AlternativesAre : Home → ℕ → List Ty → Option Ty → Type 0
@@ -160,7 +184,7 @@ abbrev mutual
       × TellsStmt H iterable (n + count_declared ds + count_operands before + count_operands test + count_operands update) body
   TellsStmtForm H iterable n (ForArray target of_it ty captures ss x body) =
       TellsOperand H n of_it
-      × ((u : Ty) × OperandLeadsTo H (n + count_operand of_it) (λ s. element s ≡ Some u) of_it × ElementIs H (n + count_operand of_it) u ty captures ss x)
+      × ((u : Ty) × IsAsked H (n + count_operand of_it) (λ s. element s ≡ Some u) of_it × ElementIs H (n + count_operand of_it) u ty captures ss x)
       × TellsStmt H iterable (n + count_operand of_it + length captures) body
   TellsStmtForm H iterable n (ForIterable target of_it ty captures ss x body) =
       TellsOperand H n of_it
@@ -198,7 +222,8 @@ home_of P m = record { table = P.table; string = P.known.string; env = m.capture
 abbrev pub iterable_of : TypedProgram → ClassId
 iterable_of P = or_object (method_owner_of P.table P.known.iterating.iterator)
 
--- The body of a typed method: the call of another constructor, the initialisers and the block, one behind the other. Its parameters are its first variables, behind `this`
+-- The body of a typed method: the call of another constructor, the initialisers and the block, one behind the other. Its parameters are its first variables, behind `this`, and
+-- no variable's type names a captured one
 abbrev pub TellsBody : Home → ClassId → List Node → Option Body → Type 0
 TellsBody H iterable nodes None = Unit {0}
 TellsBody H iterable nodes (Some b) =
@@ -214,6 +239,7 @@ abbrev pub is_free : Table → MethodId → Bool
 is_free T m = is_static T m || initialises (method_kind_of T m)
 
 pub record TellsMethod (P : TypedProgram) (m : TypedMethod) : Type 0 where
+  pub locals : all_speak nobody (local_types m.locals) ≡ true
   pub begins : take (length (first_locals P.table m.id (is_free P.table m.id))) (local_types m.locals) ≡ first_locals P.table m.id (is_free P.table m.id)
   pub body : TellsBody (home_of P m) (iterable_of P) m.nodes m.body
 
