@@ -1,0 +1,3 @@
+pub mod FromLast
+pub mod Labels
+pub mod Fronts
