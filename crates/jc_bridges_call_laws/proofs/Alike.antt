@@ -24,7 +24,7 @@ use Rattle.jc_judge.specs.Kinds as kinds
 use Rattle.jc_heaps.specs.Classes as heaps
 use Rattle.jc_overriding.specs.Overriding.{access_in, kind_in, superclass}
 use Rattle.jc_overriding.specs.Viewing.{static_in}
-use Rattle.jc_bridges_spec.specs.declared.bridge.Bridge.{Bridge as TableBridge}
+use Rattle.jc_bridges_spec.specs.declared.bridge.Bridge.{Bridge}
 use Rattle.jc_bridges_spec.specs.Bridging.{bridges}
 use Rattle.jc_bridges_spec.specs.Descriptors as table
 use Rattle.jc_erased.specs.declared.program.ErasedProgram.{ErasedProgram}
@@ -33,7 +33,7 @@ use Rattle.jc_erased.specs.Selecting as erased
 use Rattle.jc_bridges_laws.specs.Bodies.{IsListed}
 use Rattle.jc_bridges_laws.specs.Selecting as selecting
 use Rattle.jc_bridges_laws.proofs.Found.{bridges_right, wanted}
-use Rattle.jc_bridges_call_laws.specs.Calls.{HasBridges, as_bridge}
+use Rattle.jc_bridges_call_laws.specs.Calls.{HasBridges}
 
 -- ---- superclasses
 
@@ -160,7 +160,7 @@ module _ (E : ErasedProgram) where
   -- what a table's selection is in the program
   abbrev pub as_selected : selecting.Selected → erased.Selected
   as_selected (selecting.Written m) = erased.Written m
-  as_selected (selecting.Across b) = erased.Across (as_bridge b)
+  as_selected (selecting.Across b) = erased.Across b
 
   module _ (H : HasBridges E) where
     called_alike : (n m : MethodId) → table.is_selectable E.table n ≡ true → table.is_selectable E.table m ≡ true → erased.is_called_as E n m ≡ table.is_called_as E.table n m
@@ -191,12 +191,12 @@ module _ (E : ErasedProgram) where
         ∙ ap (λ r. if table.is_selectable E.table n && table.is_called_as E.table n m then Some (erased.Written n) else r) (methods_alike m sm ns o)
         ∙ chosen (table.is_selectable E.table n && table.is_called_as E.table n m) (selecting.Written n) (selecting.among_methods E.table m ns o)
 
-    bridges_alike : (m : MethodId) → table.is_selectable E.table m ≡ true → (bs : List TableBridge) → ((b : TableBridge) → IsListed b bs → table.is_selectable E.table b.called ≡ true)
-        → erased.among_bridges E m (map as_bridge bs) ≡ option_map as_selected (selecting.among_bridges E.table m bs)
+    bridges_alike : (m : MethodId) → table.is_selectable E.table m ≡ true → (bs : List Bridge) → ((b : Bridge) → IsListed b bs → table.is_selectable E.table b.called ≡ true)
+        → erased.among_bridges E m bs ≡ option_map as_selected (selecting.among_bridges E.table m bs)
     bridges_alike m sm [] all = refl
     bridges_alike m sm (b ∷ bs) all =
-        ap (λ c. if c then Some (erased.Across (as_bridge b)) else erased.among_bridges E m (map as_bridge bs)) (called_alike b.called m (all b (inl refl)) sm)
-        ∙ ap (λ r. if table.is_called_as E.table b.called m then Some (erased.Across (as_bridge b)) else r) (bridges_alike m sm bs (λ c l. all c (inr l)))
+        ap (λ c. if c then Some (erased.Across b) else erased.among_bridges E m bs) (called_alike b.called m (all b (inl refl)) sm)
+        ∙ ap (λ r. if table.is_called_as E.table b.called m then Some (erased.Across b) else r) (bridges_alike m sm bs (λ c l. all c (inr l)))
         ∙ chosen (table.is_called_as E.table b.called m) (selecting.Across b) (selecting.among_bridges E.table m bs)
 
     class_alike : (m : MethodId) → table.is_selectable E.table m ≡ true → (k : ClassId) → erased.in_class E m k ≡ option_map as_selected (selecting.in_class E.table m k)

@@ -18,7 +18,7 @@ use Rattle.jc_heaps.specs.Classes.{is_of, methods_class}
 use Rattle.jc_heaps.specs.Erases.{ErasedState}
 use Rattle.jc_heaps.specs.Making.{checked}
 use Rattle.jc_overriding.specs.Overriding.{superclass}
-use Rattle.jc_bridges_spec.specs.declared.bridge.Bridge.{Bridge as TableBridge}
+use Rattle.jc_bridges_spec.specs.declared.bridge.Bridge.{Bridge}
 use Rattle.jc_bridges_spec.specs.Bridging.{bridges}
 use Rattle.jc_bridges_spec.specs.Descriptors.{is_called_as, is_selectable}
 use Rattle.jc_erased.specs.declared.program.ErasedProgram.{ErasedProgram}
@@ -34,16 +34,16 @@ use Rattle.jc_bridges_call_laws.proofs.Alike.{as_selected, one_erased, selected_
 
 -- ---- a bridge leads to a method that may be selected
 
-crossed_selectable : (T : Table) → HasBodies T → (m : MethodId) (n : ℕ) (k : ClassId) (b : TableBridge) → selecting.selected_within T m n k ≡ Some (selecting.Across b) → is_selectable T b.own ≡ true
+crossed_selectable : (T : Table) → HasBodies T → (m : MethodId) (n : ℕ) (k : ClassId) (b : Bridge) → selecting.selected_within T m n k ≡ Some (selecting.Across b) → is_selectable T b.own ≡ true
 unfolding selecting.selected_within
 crossed_selectable T H m zero k b e = cc
 crossed_selectable T H m (suc n) k b e = by (λ c. crossed_selectable T H m n c b) (among T m (methods_of T k) (selecting.among_bridges T m (bridges T k)))
   where
-    own : (x : TableBridge) → IsListed x (bridges T k) → Some (selecting.Across x) ≡ Some (selecting.Across b) → is_selectable T b.own ≡ true
+    own : (x : Bridge) → IsListed x (bridges T k) → Some (selecting.Across x) ≡ Some (selecting.Across b) → is_selectable T b.own ≡ true
     own x l f =
         let is : x ≡ b = cc in
         let r = bridges_right T k x l in
-        subst (λ (y : TableBridge). is_selectable T y.own ≡ true) is ((H.itself k x.called x.own (record { virtual = bridge_virtual T k x r; body = r.1 })).virtual.selectable)
+        subst (λ (y : Bridge). is_selectable T y.own ≡ true) is ((H.itself k x.called x.own (record { virtual = bridge_virtual T k x r; body = r.1 })).virtual.selectable)
 
     up : ((c : ClassId) → selecting.selected_within T m n c ≡ Some (selecting.Across b) → is_selectable T b.own ≡ true) → selecting.in_class T m k ≡ None
         → (s : Option ClassId) → superclass T k ≡ s → is_selectable T b.own ≡ true
@@ -152,7 +152,7 @@ module _ (E : ErasedProgram) where
         ∙ behind_same (option_map (erasure E.table []) (result_of E.table own)) (own_result own) (run_method E body own (Address a ∷ args) u s))
 
     -- by way of a bridge
-    crossed : (m own : MethodId) (b : TableBridge) (args : List Value) (u : ℕ) (s : ErasedState) → is_selectable E.table m ≡ true
+    crossed : (m own : MethodId) (b : Bridge) (args : List Value) (u : ℕ) (s : ErasedState) → is_selectable E.table m ≡ true
         → selecting.selected E.table (methods_class o.kept) m ≡ Some (selecting.Across b) → is_called_as E.table b.called m ≡ true → is_called_as E.table own b.own ≡ true
         → selecting.selected E.table (methods_class o.kept) b.own ≡ Some (selecting.Written own)
         → call_named E body (suc (suc (class_count E.table))) a o m args u s

@@ -12,22 +12,16 @@ use Rattle.jc_running.specs.Outcomes.{bind}
 use Rattle.jc_heaps.specs.declared.state.Object.{Object}
 use Rattle.jc_heaps.specs.Classes.{is_of}
 use Rattle.jc_heaps.specs.Erases.{ErasedState}
-use Rattle.jc_bridges_spec.specs.declared.bridge.Bridge.{Bridge as TableBridge}
 use Rattle.jc_bridges_spec.specs.Bridging.{bridges}
 use Rattle.jc_bridges_spec.specs.Descriptors.{is_selectable}
-use Rattle.jc_erased.specs.declared.program.Bridge.{Bridge}
 use Rattle.jc_erased.specs.declared.program.ErasedProgram.{ErasedProgram}
 use Rattle.jc_erased.specs.Programs.{bridges_of, erased_type, name_of_method}
 use Rattle.jc_erased.specs.Calls.{Bodies, answered, call_named, entered_all, run_method}
 
--- a bridge, as a program has it
-abbrev pub as_bridge : TableBridge → Bridge
-as_bridge b = record { called = b.called; own = b.own }
-
 -- each class has its bridges, methods that a call may select have one name where the table has one, and each result is of its own erasure, as all types are
 -- but the null type
 pub record HasBridges (E : ErasedProgram) : Type 0 where
-  pub bridges_are : (k : ClassId) → bridges_of E k ≡ map as_bridge (bridges E.table k)
+  pub bridges_are : (k : ClassId) → bridges_of E k ≡ bridges E.table k
   pub names : (m n : MethodId) → is_selectable E.table m ≡ true → is_selectable E.table n ≡ true
       → bytes_eq (name_of_method E m) (name_of_method E n) ≡ bytes_eq (method_name_of E.table m) (method_name_of E.table n)
   pub results : (m : MethodId) (t : Ty) → result_of E.table m ≡ Some t → is_of E.table (erased_type E t) (erased_type E t) ≡ true

@@ -15,23 +15,18 @@ use Rattle.jc_typed.specs.declared.program.TypedMethod.{TypedMethod}
 use Rattle.jc_typed.specs.declared.program.TypedProgram.{TypedProgram}
 use Rattle.jc_meaning.specs.Meaning.{meaning, outcome, main_outcome, seen}
 use Rattle.jc_meaning.specs.Programs.{local_types}
-use Rattle.jc_bridges_spec.specs.declared.bridge.Bridge.{Bridge as TableBridge}
+use Rattle.jc_bridges_spec.specs.declared.bridge.Bridge.{Bridge}
 use Rattle.jc_bridges_spec.specs.Bridging.{bridges}
-use Rattle.jc_erased.specs.declared.program.Bridge.{Bridge}
 use Rattle.jc_erased.specs.declared.program.ErasedMethod.{ErasedMethod}
 use Rattle.jc_erased.specs.declared.program.ErasedProgram.{ErasedProgram}
 use Rattle.jc_erased.specs.Meaning.{meaning as erased_meaning, outcome as erased_outcome, main_outcome as erased_main_outcome, seen as erased_seen}
 use Rattle.jc_erase_spec.specs.Naming.{erased_name}
 use Rattle.jc_erase_spec.specs.Trees.{erase_nodes, erased_as_type}
 
--- the bridges of a class, as a program has them
-abbrev pub as_bridge : TableBridge → Bridge
-as_bridge b = record { called = b.called; own = b.own }
-
--- .. of each of these classes, counted from i
+-- the bridges of each of these classes, counted from i
 abbrev pub bridges_from : Table → ℕ → List ClassDecl → List (List Bridge)
 bridges_from T i [] = []
-bridges_from T i (c ∷ cs) = map as_bridge (bridges T (record { 0 = i })) ∷ bridges_from T (suc i) cs
+bridges_from T i (c ∷ cs) = bridges T (record { 0 = i }) ∷ bridges_from T (suc i) cs
 
 -- a method's captured variables
 abbrev pub env_of : TypedMethod → List Bounds

@@ -2,3 +2,4 @@ pub mod SmoothCalls
 pub mod SmoothExpressions
 pub mod SmoothStatements
 pub mod SmoothMeaning
+pub mod Unselected

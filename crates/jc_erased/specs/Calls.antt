@@ -1,5 +1,5 @@
 -- Calls of methods and constructors (JLS 15.12.4, JVMS 6.5).
-use Rattle.std.specs.Prelude.{ℕ, zero, suc, ◌+◌, Bool, true, false, List, ◌∷◌, Option, Some, None, if◌then◌else◌}
+use Rattle.std.specs.Prelude.{◌≡◌, ℕ, zero, suc, ◌+◌, Bool, true, false, List, ◌∷◌, Option, Some, None, slice_get, if◌then◌else◌}
 use Rattle.jc_types.specs.declared.ids.MethodId.{MethodId}
 use Rattle.jc_types.specs.declared.form.Ty.{Ty}
 use Rattle.jc_types.specs.declared.erased.Erased.{Erased}
@@ -11,6 +11,7 @@ use Rattle.jc_running.specs.declared.value.Completion.{Completion}
 use Rattle.jc_running.specs.declared.value.Completion.TheVariants.{Normal, Broke, Continued, Returned}
 use Rattle.jc_running.specs.Outcomes.{give, wrong, bind}
 use Rattle.jc_heaps.specs.declared.state.Object.{Object}
+use Rattle.jc_heaps.specs.Erases.{ErasedState}
 use Rattle.jc_heaps.specs.States.{object_at, in_frame}
 use Rattle.jc_heaps.specs.Classes.{is_of, same_erased, methods_class}
 use Rattle.jc_heaps.specs.Layout.{default_in}
@@ -94,3 +95,7 @@ abbrev pub call_virtual : ErasedProgram → Bodies → MethodId → Value → Li
 call_virtual P body m receiver args =
     bind (address_of erased_keeping P.table P.known receiver) (λ a.
     bind (object_at a) (λ o. call_selected P body (is_selected P (methods_class o.kept) m) a o m args))
+
+-- the object at an address is of a class that selects no body for a method
+abbrev pub IsUnselected : ErasedProgram → MethodId → ℕ → ErasedState → Type 0
+IsUnselected P m a s = (o : Object Erased) × (slice_get s.heap a ≡ Some o) × (is_selected P (methods_class o.kept) m ≡ false)

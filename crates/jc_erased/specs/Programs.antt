@@ -13,7 +13,7 @@ use Rattle.jc_heaps.specs.Making.{Keeping}
 use Rattle.jc_typed.specs.Trees.{Stmt}
 use Rattle.jc_meaning.specs.Programs.{body_of_method, locals_in, selected_of}
 use Rattle.jc_typed.specs.declared.program.TypedMethod.{TypedMethod}
-use Rattle.jc_erased.specs.declared.program.Bridge.{Bridge}
+use Rattle.jc_bridges_spec.specs.declared.bridge.Bridge.{Bridge}
 use Rattle.jc_erased.specs.declared.program.ErasedMethod.{ErasedMethod}
 use Rattle.jc_erased.specs.declared.program.ErasedProgram.{ErasedProgram}
 

@@ -12,7 +12,7 @@ use Rattle.jc_types.specs.declared.ids.ClassId.{ClassId}
 use Rattle.jc_types.specs.declared.ids.MethodId.{MethodId}
 use Rattle.jc_types.specs.Accessors.{class_count, methods_of, method_kind_of, method_modifiers_of, params_of, result_of}
 use Rattle.jc_heaps.specs.Classes.{same_erased, superclass_of}
-use Rattle.jc_erased.specs.declared.program.Bridge.{Bridge}
+use Rattle.jc_bridges_spec.specs.declared.bridge.Bridge.{Bridge}
 use Rattle.jc_erased.specs.declared.program.ErasedProgram.{ErasedProgram}
 use Rattle.jc_erased.specs.Programs.{erased_type, name_of_method, bridges_of}
 

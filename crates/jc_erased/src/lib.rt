@@ -6,5 +6,5 @@
 mod laws;
 mod program;
 
-pub use laws::{ended_erased_runs_stay, one_unit_more_of_erased};
-pub use program::{Bridge, ErasedMethod, ErasedProgram, bulk};
+pub use laws::{ended_erased_runs_stay, one_unit_more_of_erased, unselected_calls_are_wrong};
+pub use program::{ErasedMethod, ErasedProgram, bulk};

@@ -2,18 +2,10 @@
 ghost use Rattle.std.specs.Prelude.{◌≡◌};
 ghost use Rattle.jc_typed.specs.Bulk.{capped, method_bulk};
 
+use jc_bridges_spec::Bridge;
 use jc_rules::Items;
 use jc_typed::{Known, Selection, TypedMethod};
 use jc_types::{MethodId, Table};
-
-/// A method that stands in a class under the name and the erased signature of `called`, and leads to `own`: it checks its
-/// arguments where the erasures of the parameters differ, calls by the name and descriptor of `own`, and checks what that gives
-/// where its erasure isn't below that of the result of `called` (JLS 15.12.4.5, JVMS 6.5 invokevirtual).
-#[derive(Clone, Copy, Debug)]
-pub struct Bridge {
-    pub called: MethodId,
-    pub own: MethodId,
-}
 
 /// A method under the name that it has in its class file, by its UTF-16 units. Each type in `tree` is its own erasure; what its
 /// expressions capture and the type arguments of its calls say nothing.

@@ -1,6 +1,7 @@
 pub mod Captured
 pub mod Formed
 pub mod Leading
+pub mod Library
 pub mod Mention
 pub mod Opening
 pub mod Types

@@ -9,11 +9,11 @@ use Rattle.jc_types.specs.declared.ids.ClassId.{ClassId}
 use Rattle.jc_types.specs.declared.ids.MethodId.{MethodId}
 use Rattle.jc_types.specs.Accessors.{field_type_of, method_kind_of, method_owner_of, params_of, result_of}
 use Rattle.jc_types.specs.Arrays.{element}
-use Rattle.jc_judge.specs.declared.question.Answer.TheVariants.{Yes}
 use Rattle.jc_judge.specs.Capturing.{capture}
-use Rattle.jc_judge.specs.Deciding.{answer_of}
 use Rattle.jc_judge.specs.Views.{view}
 use Rattle.jc_overriding.specs.Viewing.{is_static, own_type}
+use Rattle.jc_lub.specs.Lubs.{lub}
+use Rattle.jc_repair.specs.Repairing.{repaired}
 use Rattle.jc_heaps.specs.Layout.{or_object}
 use Rattle.jc_typed.specs.declared.lists.Capture.{Capture}
 use Rattle.jc_typed.specs.declared.program.Body.{Body}
@@ -22,11 +22,13 @@ use Rattle.jc_typed.specs.declared.program.TypedProgram.{TypedProgram}
 use Rattle.jc_typed.specs.Trees.{Step, Expr, NoExpr, expr, Operand, NoOperand, operand, Form, Fixed, Null, Local, This, StaticField, Field, Element, Length, Prefix, Chain, AllOf, AnyOf, InstanceOf, Conditional, Assign, Compound, Change, Call, New, NewArray, ArrayOf, Cast, Variable, LocalVariable, StaticVariable, FieldVariable, ElementVariable, Operands, NoOperands, MoreOperands, Links, NoLinks, MoreLinks, Declared, NoDeclared, MoreDeclared, Stmt, stmt, StmtForm, Empty, Block, Locals, Effect, If, Labelled, While, Do, For, ForArray, ForIterable, Switch, Return, Break, Continue, Throw, Try, Construct, Initialise, Stmts, NoStmts, MoreStmts, Arms, NoArms, MoreArms, Catches, NoCatches, MoreCatches}
 use Rattle.jc_typed.specs.declared.nodes.Node.{Node}
 use Rattle.jc_typed.specs.Parts.{stmts_of, stmt_of}
+use Rattle.jc_unchecked_spec.specs.Warnings.{warnings}
 use Rattle.jc_meaning.specs.Kept.{arguments_in}
 use Rattle.jc_meaning.specs.Programs.{initialises, local_types}
 use Rattle.jc_exprs_exports.specs.Captured.{captures_of, count_form, count_links, count_operand, count_operands, count_variable, count_declared, count_stmt, count_stmts, count_arms, count_catches}
 use Rattle.jc_exprs_exports.specs.Formed.{FormedIs}
 use Rattle.jc_exprs_exports.specs.Leading.{Leads}
+use Rattle.jc_exprs_exports.specs.Library.{KnownIs}
 use Rattle.jc_exprs_exports.specs.Mention.{all_speak, bounds_speak, live_expr, nobody, speaks}
 use Rattle.jc_exprs_exports.specs.Opening.{Settled, settled}
 use Rattle.jc_exprs_exports.specs.Types.{Home, FormIs, ConstructIs, OperandLeads, IsAsked, env_to, is_change}
@@ -159,11 +161,18 @@ element_or_object (t ∷ ts) = t
 abbrev pub IterableOf : Home → ℕ → ClassId → Operand → Ty → Type 0
 IterableOf H n iterable o u = IsAsked H n (λ s. (v : Ty) × (view H.table iterable s ≡ Some v) × (u ≡ element_or_object (arguments_in (Some v)))) o
 
--- each alternative of a catch clause is a class without parameters, which is below the variable's type
+-- each alternative of a catch clause is a class without parameters, and the variable's type is the one alternative, or the least upper bound of all, repaired (JLS 14.20)
+abbrev pub AreClasses : List Ty → Type 0
+AreClasses [] = Unit {0}
+AreClasses (x ∷ xs) = ((k : ClassId) × (x ≡ Class k [])) × AreClasses xs
+
+abbrev pub CaughtIs : Table → List Bounds → List Ty → Option Ty → Type 0
+CaughtIs T env [] t = ⊥
+CaughtIs T env (x ∷ []) t = t ≡ Some x
+CaughtIs T env (x ∷ y ∷ xs) t = t ≡ Some (repaired T env (lub T env (x ∷ y ∷ xs)))
+
 abbrev pub AlternativesAre : Home → ℕ → List Ty → Option Ty → Type 0
-AlternativesAre H n [] t = Unit {0}
-AlternativesAre H n (x ∷ xs) None = ⊥
-AlternativesAre H n (x ∷ xs) (Some t) = ((k : ClassId) × (x ≡ Class k [])) × (answer_of H.table 64 (env_to H n) x t ≡ Yes) × AlternativesAre H n xs (Some t)
+AlternativesAre H n types t = AreClasses types × CaughtIs H.table (env_to H n) types t
 
 abbrev mutual
   pub TellsStmt : Home → ClassId → ℕ → Stmt → Type 0
@@ -197,7 +206,7 @@ abbrev mutual
   TellsStmtForm H iterable n (Throw of_it) = TellsOperand H n of_it
   TellsStmtForm H iterable n (Try body catches last copies) =
       TellsStmt H iterable n body × TellsCatches H iterable (n + count_stmt body) catches × TellsStmts H iterable (n + count_stmt body + count_catches catches) last
-  TellsStmtForm H iterable n (Construct m args phase thrown is_raw) = TellsOperands H n args × ConstructIs H (n + count_operands args) m args
+  TellsStmtForm H iterable n (Construct m args phase thrown is_raw) = TellsOperands H n args × ConstructIs H (n + count_operands args) m args phase is_raw
   TellsStmtForm H iterable n (Initialise f value) = TellsOperand H n value × LeadsTo H (n + count_operand value) (field_type_of H.table f) value
 
   pub TellsStmts : Home → ClassId → ℕ → Stmts → Type 0
@@ -248,5 +257,12 @@ abbrev pub TellsMethods : TypedProgram → List TypedMethod → Type 0
 TellsMethods P [] = Unit {0}
 TellsMethods P (m ∷ ms) = TellsMethod P m × TellsMethods P ms
 
-abbrev pub IsTyped : TypedProgram → Type 0
-IsTyped P = TellsMethods P P.methods
+-- what typing tells of a program
+pub record IsTyped (P : TypedProgram) : Type 0 where
+  pub known : KnownIs P.table P.known
+  pub methods : TellsMethods P P.methods
+
+-- No unchecked warning is told of it. So no step upwards is marked; no cast is one of which the machine can't tell that it holds; erasure changes no parameter of a member of a raw type that is
+-- called, and no type of a field of one that is assigned; no result goes unchecked into the one that it stands for; no supertype is raw; and each array of arguments is reifiable
+abbrev pub IsUnwarned : TypedProgram → Type 0
+IsUnwarned P = warnings P ≡ []
