@@ -9,7 +9,7 @@ use Rattle.jc_judge.specs.Forming.{IsWellFormed}
 use Rattle.jc_judge.specs.Trees.{Proof}
 use Rattle.jc_overriding.specs.declared.view.MethodView.{MethodView}
 use Rattle.jc_repair.specs.Repairing.{repaired}
-use Rattle.jc_typed.specs.Trees.{Form, Local, This, StaticField, Field, Conditional, Assign, Compound, Change, Call, New, NewArray, Cast, Variable, LocalVariable, StaticVariable, FieldVariable, ElementVariable}
+use Rattle.jc_typed.specs.Trees.{Form, Local, This, StaticField, Field, Assign, Compound, Change, Call, New, NewArray, Cast, Variable, LocalVariable, StaticVariable, FieldVariable, ElementVariable}
 
 -- a type that is written: no captured variable is there
 abbrev pub IsDeclared : Table → Ty → Type 0
@@ -19,26 +19,29 @@ abbrev pub DeclaredIf : Table → Option Ty → Type 0
 DeclaredIf T None = Unit {0}
 DeclaredIf T (Some t) = IsDeclared T t
 
+-- a variable's type is written, or the least upper bound of the types of a catch clause, repaired (JLS 14.20)
+abbrev pub LocalFormed : Table → Ty → Type 0
+LocalFormed T u = IsDeclared T u ⊎ ((env : List Bounds) × ((t : Ty) × (u ≡ repaired T env t)))
+
 -- .. of what an assignment changes; the type of an element is inside its array's
 abbrev pub VariableFormed : Table → Variable → Ty → Type 0
-VariableFormed T (LocalVariable place x) u = IsDeclared T u
+VariableFormed T (LocalVariable place x) u = LocalFormed T u
 VariableFormed T (StaticVariable place before f is_simple) u = DeclaredIf T (field_type_of T f)
 VariableFormed T (FieldVariable place of_it f is_raw) u = DeclaredIf T (field_type_of T f)
 VariableFormed T (ElementVariable place array index) u = Unit {0}
 
--- The type u of a form, with the bounds of the captured variables that are there. A field's and a result's type are declared ones, of which the view and the type arguments are put in. A
--- conditional's may be a least upper bound, repaired (JLS 15.25). Other forms have a type that is primitive, String or the null type, a parameter's, or inside another
+-- The type u of a form, with the bounds of the captured variables that are there. A field's and a result's type are declared ones, of which the view and the type arguments are put in; that of a
+-- creation is written, or inferred where it stands. A conditional's is that of a branch, or a least upper bound that is repaired (JLS 15.25). Other forms have a type that is primitive, String or the null type, or inside another
 abbrev pub FormedIs : Table → List Bounds → Form → Ty → Type 0
-FormedIs T env (Local x) u = IsDeclared T u
+FormedIs T env (Local x) u = LocalFormed T u
 FormedIs T env This u = IsDeclared T u
 FormedIs T env (StaticField before f is_simple) u = DeclaredIf T (field_type_of T f)
 FormedIs T env (Field of_it f) u = DeclaredIf T (field_type_of T f)
-FormedIs T env (Conditional test first second from up_to) u = IsWellFormed T 64 env u ⊎ ((t : Ty) × (u ≡ repaired T env t))
 FormedIs T env (Assign variable value store) u = VariableFormed T variable u
 FormedIs T env (Compound variable joint left right into) u = VariableFormed T variable u
 FormedIs T env (Change variable op from into is_prefix) u = VariableFormed T variable u
 FormedIs T env (Call kind receiver m types args phase thrown is_raw) u = DeclaredIf T (result_of T m)
-FormedIs T env (New m args phase thrown is_raw) u = IsWellFormed T 64 env u
+FormedIs T env (New m args phase thrown is_raw) u = IsDeclared T u ⊎ IsWellFormed T 64 env u
 FormedIs T env (NewArray lengths) u = IsDeclared T u
 FormedIs T env (Cast of_it to ss is_below) u = IsDeclared T u
 FormedIs T env _ u = Unit {0}

@@ -1,19 +1,19 @@
 -- What is known of the library by which a program runs: its classes have no parameters, and its methods have these types.
-use Rattle.std.specs.Prelude.{◌≡◌, Bool, true, false, List, [], ◌∷◌, Option, Some, None}
+use Rattle.std.specs.Prelude.{◌≡◌, Bool, true, false, List, [], ◌∷◌, codes, Option, Some}
 use Rattle.jc_types.specs.declared.form.Arg.TheVariants.{Exact}
 use Rattle.jc_types.specs.declared.form.Primitive.{Primitive}
 use Rattle.jc_types.specs.declared.form.Primitive.TheVariants.{Boolean, Byte, Char, Int, Long, Short}
 use Rattle.jc_types.specs.declared.form.Ty.{Ty}
 use Rattle.jc_types.specs.declared.form.Ty.TheVariants.{Class, Prim, Variable}
 use Rattle.jc_types.specs.declared.ids.ClassId.{ClassId}
-use Rattle.jc_types.specs.declared.ids.FieldId.{FieldId}
 use Rattle.jc_types.specs.declared.ids.MethodId.{MethodId}
 use Rattle.jc_types.specs.declared.ids.VarId.{VarId}
 use Rattle.jc_types.specs.declared.table.Table.{Table}
-use Rattle.jc_types.specs.Accessors.{field_type_of, method_owner_of, method_vars_of, params_of, result_of, vars_of}
+use Rattle.jc_types.specs.Accessors.{class_named, field_type_of, method_owner_of, method_vars_of, params_of, result_of, vars_of}
 use Rattle.jc_types.specs.Arrays.{array_over}
 use Rattle.jc_overriding.specs.Viewing.{is_static}
-use Rattle.jc_heaps.specs.Layout.{field_class, or_object}
+use Rattle.jc_boxes.specs.Boxes.{box_of}
+use Rattle.jc_heaps.specs.Layout.{field_class}
 use Rattle.jc_typed.specs.declared.program.BoxedIn.{BoxedIn}
 use Rattle.jc_typed.specs.declared.program.Boxes.{Boxes}
 use Rattle.jc_typed.specs.declared.program.Iterating.{Iterating}
@@ -33,8 +33,9 @@ pub record MethodIs (T : Table) (k : ClassId) (static : Bool) (params : List Ty)
   pub params_so : params_of T m ≡ params
   pub result_so : result_of T m ≡ result
 
--- the class of a primitive type (JLS 5.1.7, 5.1.8): `valueOf`, and the method that gives the value
+-- the class of a primitive type, by its name (JLS 5.1.7, 5.1.8): `valueOf`, and the method that gives the value
 pub record BoxIs (T : Table) (p : Primitive) (b : BoxedIn) : Type 0 where
+  pub class_so : b.class ≡ box_of T p
   pub own : IsOwn T b.class
   pub make : MethodIs T b.class true (Prim p ∷ []) (Some (Class b.class [])) b.make
   pub value : MethodIs T b.class false [] (Some (Prim p)) b.value
@@ -65,6 +66,7 @@ pub record IteratingIs (T : Table) (i : Iterating) : Type 0 where
   pub iterator : ClassId
   pub from : VarId
   pub of_it : VarId
+  pub iterable_so : iterable ≡ class_named T (codes "java.lang.Iterable")
   pub iterable_vars : vars_of T iterable ≡ from ∷ []
   pub iterator_vars : vars_of T iterator ≡ of_it ∷ []
   pub makes : MethodIs T iterable false [] (Some (Class iterator (Exact (Variable from) ∷ []))) i.iterator
@@ -85,6 +87,7 @@ pub record ThrownAre (T : Table) (t : ThrownClasses) : Type 0 where
 -- the characters of a String stand in an array of its own
 pub record KnownIs (T : Table) (k : Known) : Type 0 where
   pub object_own : IsOwn T (record { 0 = 0 })
+  pub string_so : k.string ≡ class_named T (codes "java.lang.String")
   pub string_own : IsOwn T k.string
   pub chars_of : field_class T k.chars ≡ k.string
   pub chars : field_type_of T k.chars ≡ Some (array_over 0 (Prim Char))

@@ -36,7 +36,7 @@ use Rattle.jc_typed.specs.Trees.{Step, Up, Operand, operand, Operands, NoOperand
 use Rattle.jc_exprs_nodes_spec.specs.Told.{Run, fine, by_rule, breaking, onward, provided, unless}
 use Rattle.jc_exprs_nodes_spec.specs.Typeds.{Typed, Settled, node, type_of, tree, captured, plain, stepped, one_operand, steps_by, read_guard, use_guard, settled}
 use Rattle.jc_exprs_parts_spec.specs.Fields.{is_raw_as, may_name_method}
-use Rattle.jc_exprs_parts_spec.specs.Senses.{OfClass}
+use Rattle.jc_exprs_parts_spec.specs.Senses.{Sense, OfClass}
 use Rattle.jc_exprs_parts_spec.specs.Worlds.{World, named_class, round, this_type, written_arg}
 use Rattle.jc_exprs_parts_spec.specs.Names.{Meaning, Value, Other, class_erased, instance_breaks, super_type, this_at}
 
@@ -261,12 +261,20 @@ called W place r n explicit ts target =
 
 -- ---- which class or value is searched (JLS 15.12.1)
 
+-- What stands before a point: a value, whose members are asked before the arguments have their types, as it is evaluated before them (JLS 15.7.4, 15.12.4.1); or no value
+pub data Before : Type 0 where
+  OfValue : Settled → Before
+  OfSense : Sense → Before
+
+abbrev pub asked : World → Meaning → Run Before
+asked W (Value v) = onward (settled W.table v) (λ s. fine (OfValue s))
+asked W (Other s) = fine (OfSense s)
+
 -- behind a point: a value, or a class; 602 for a package
-unfoldable pub call_on : World → Place → List ℕ → List TypeArg → Option Ty → Meaning → List Typed → Run Typed
-call_on W place n explicit target (Value v) ts =
-    onward (settled W.table v) (λ s. called W place (OnValue s) n explicit ts target)
-call_on W place n explicit target (Other (OfClass k)) ts = called W place (OnClass k) n explicit ts target
-call_on W place n explicit target (Other s) ts = by_rule 602 place
+unfoldable pub call_on : World → Place → List ℕ → List TypeArg → Option Ty → Before → List Typed → Run Typed
+call_on W place n explicit target (OfValue s) ts = called W place (OnValue s) n explicit ts target
+call_on W place n explicit target (OfSense (OfClass k)) ts = called W place (OnClass k) n explicit ts target
+call_on W place n explicit target (OfSense s) ts = by_rule 602 place
 
 -- unqualified: the first of the classes round the place that has a method of the name
 abbrev pub called_or : World → Place → Receiver → List ℕ → List Typed → Option Ty → List MethodView → Run Typed → Run Typed

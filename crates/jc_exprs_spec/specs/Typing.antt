@@ -40,7 +40,7 @@ use Rattle.jc_exprs_parts_spec.specs.Operators.{string_type}
 use Rattle.jc_exprs_parts_spec.specs.Chains.{Joined, Whole, whole, joining, tested, Signed, Unsigned, signed, signing}
 use Rattle.jc_exprs_parts_spec.specs.Assigning.{Target, changed, compound, stored}
 use Rattle.jc_exprs_parts_spec.specs.Names.{Located, Meaning, Value, element_of, first_meant, located_behind, next_meant, simple_located, super_member, target_of, this_value, value_of}
-use Rattle.jc_exprs_spec.specs.Calls.{arguments, call_here, call_on, call_super, choosing}
+use Rattle.jc_exprs_spec.specs.Calls.{arguments, asked, call_here, call_on, call_super, choosing}
 use Rattle.jc_exprs_parts_spec.specs.Values.{assigned, cast_to, chosen, listed, sized}
 use Rattle.jc_exprs_spec.specs.Creations.{constructors, created, is_raw_type}
 use Rattle.jc_exprs_parts_spec.specs.Worlds.{World, at, written, written_base, written_class}
@@ -312,7 +312,7 @@ expr_step W (Expr-F.Field of_it name) =
     variable_node W of_it.start (onward of_it.meaning (located_behind W of_it.start name.text)) (onward of_it.meaning (next_meant W of_it.start name.text))
 expr_step W (Expr-F.Call of_it type_args name actuals) =
     call_node W of_it.start
-    (λ wanted. onward (both of_it.meaning (every (runs actuals))) (λ p. call_on W of_it.start name.text type_args wanted p.0 p.1))
+    (λ wanted. onward (both (onward of_it.meaning (asked W)) (every (runs actuals))) (λ p. call_on W of_it.start name.text type_args wanted p.0 p.1))
 expr_step W (Expr-F.Index of_it index) =
     element_node (onward (both (of_it.run None) (index.run None)) (λ p. element_of W p.0 p.1))
   where
