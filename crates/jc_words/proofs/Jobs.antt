@@ -7,8 +7,7 @@ use Rattle.std.proofs.lemmas.Fmt.{decimal_injective}
 use Rattle.std.proofs.lemmas.Str.{IsUtf8-had}
 use Rattle.clap.specs.Walk.{rows_of, all_of, first_of}
 use Rattle.clap.specs.Simple.{App, HasMatchesOf, is_simple, matches_of}
-use Rattle.clap.specs.Faults.{fault_of}
-use Rattle.clap.specs.Faults.{is_simple_and_free}
+use Rattle.clap.specs.Faults.{fault_of, is_simple_and_free}
 use Rattle.clap.specs.Kinds.{HasKind, IsAmong}
 use Rattle.clap.specs.Words.{found_of, kind_of}
 use Rattle.clap.specs.declared.error.Error.{Error}
@@ -77,10 +76,6 @@ module _ (words : List (String Global)) (app : App) (is : app ≡ command_app) w
 
 -- ---- jobs
 
--- the fault of words without a line
-pub only_line : (words : List (List ℕ)) (fault : UsageFault) → HasNoLine words → fault ≡ LineFault → IsFault words fault
-only_line words fault none e = rw e none
-
 -- the fault of words with one
 pub line_fault : (words : List (List ℕ)) (line : Line) (fault : UsageFault) → IsLine words line → FaultOf line fault → IsFault words fault
 line_fault words line LineFault is f = absurd f
@@ -107,9 +102,6 @@ fault_no_job line StepsFault job f j = steps_clash (value_of Steps line) job.ste
 pub words_no_job : (words : List (List ℕ)) (line : Line) (fault : UsageFault) → IsLine words line → FaultOf line fault → (job : Job) → IsJob words job → ⊥
 words_no_job words line fault is f job j = fault_no_job line fault job f (subst (λ (l : Line). JobOf l job) (line_only words j.0 line j.1 is) j.2)
 
-pub no_line_no_job : (words : List (List ℕ)) → HasNoLine words → (job : Job) → IsJob words job → ⊥
-no_line_no_job words none job j = none j.0 j.1
-
 job_same : (a b : Job) → a.out ≡ b.out → a.run ≡ b.run → a.steps ≡ b.steps → a.files ≡ b.files → a.arguments ≡ b.arguments → a ≡ b
 job_same a b p q r s t = λ i. record { out = p i; run = q i; steps = r i; files = s i; arguments = t i }
 
@@ -121,11 +113,7 @@ steps_only (Some text) m n a b = decimal_injective m n (omega (arith, a.1)) (ome
 line_job_only : (line : Line) (a b : Job) → JobOf line a → JobOf line b → a ≡ b
 line_job_only line a b p q = job_same a b (p.out ∙ sym q.out) (p.run ∙ sym q.run) (steps_only _ a.steps b.steps p.steps q.steps) (p.files ∙ sym q.files) (p.arguments ∙ sym q.arguments)
 
--- the job of words whose line says these values
-pub values_job : (words : List (List ℕ)) (values : Values) (result : Result Job (Stop UsageFault)) → AreValuesOf words values → IfOk result (λ job. (line : Line) → HasValues line values → JobOf line job) → IfOk result (λ job. IsJob words job)
-values_job words values (Ok job) are of = (are.0, are.1, of are.0 are.2)
-values_job words values (Err e) are of = tt
-
+-- words whose line says these values make at most one job
 pub values_job_only : (words : List (List ℕ)) (values : Values) (result : Result Job (Stop UsageFault)) → AreValuesOf words values → IfOk result (λ job. (line : Line) → HasValues line values → JobOf line job)
     → IfOk result (λ job. (other : Job) → IsJob words other → other ≡ job)
 values_job_only words values (Ok job) are of = λ other j. line_job_only are.0 other job (subst (λ (l : Line). JobOf l other) (line_only words j.0 are.0 j.1 are.1) j.2) (of are.0 are.2)

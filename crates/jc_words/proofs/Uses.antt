@@ -3,7 +3,7 @@ use Rattle.std.proofs.Common.{◌≡◌, ◌∙◌, ◌&&◌, ℕ, Bool, true, f
 use Rattle.std.specs.Prelude.{if◌then◌else◌}
 use Rattle.std.specs.Str.{bytes_eq}
 use Rattle.clap.specs.Walk.{Row, Rule, Text, all_of, has_row, used, reading_by, with_values}
-use Rattle.clap.specs.Simple.{App, Shape, built, is_simple}
+use Rattle.clap.specs.Simple.{App, Shape, is_simple}
 use Rattle.clap.specs.Faults.{use_fault, repeat_fault, is_simple_and_free}
 use Rattle.clap.specs.Kinds.{Kinds, or_else}
 use Rattle.clap.specs.declared.error.kind.ErrorKind.TheVariants.{ArgumentConflict, InvalidValue}
@@ -41,9 +41,6 @@ full_shape = record command_app.top { rules = full_rules; disable_help_subcomman
 
 abbrev pub full_app : App
 full_app = record { top = full_shape; subs = [] }
-
-pub built_is : built command_app ≡ full_app
-built_is = refl
 
 pub command_simple : is_simple command_app ≡ true
 command_simple = refl

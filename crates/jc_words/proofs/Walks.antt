@@ -8,7 +8,7 @@ use Rattle.clap.specs.Walk.{Held, Names, Row, Step, Text, Waiting, Walk, idle, o
 use Rattle.clap.specs.Faults.{bundle_fault, flag_word_fault, other_fault, settle_fault, step_fault, turn_fault, walk_fault}
 use Rattle.clap.specs.Kinds.{Kinds, or_else}
 use Rattle.clap.specs.declared.error.kind.ErrorKind.TheVariants.{InvalidValue, UnknownArgument}
-use Rattle.jc_words.specs.Line.{OptionName, Out, Run, Steps, Joined, Apart, Positional, is_dashed, option_word}
+use Rattle.jc_words.specs.Line.{OptionName, Out, Run, Steps, Joined, Apart, is_dashed, option_word}
 use Rattle.jc_words.proofs.Cut.{Unknown, sort_of, equals_word}
 use Rattle.jc_words.proofs.Uses.{name_of, words_name, full_words, full_rules, full_shape, or_else-nil, or_else-assoc, or_else-first, used_by, part_fault}
 use Rattle.jc_words.proofs.Words.{IsPlain, plain_word_is, refused}
@@ -235,11 +235,3 @@ pub behind_walk : (waiting : Waiting) (rows : List Row) (pending : Pending) (wor
 unfolding walked
 behind_walk waiting rows pending word =
     ap (with_word true word) (one_at_a_time (is_pending full_words pending) (holding rows pending) (settled full_rules (holding rows pending)))
-
-pub word_fault : (rows : List Row) (word : Text) → settling rows (Some (words_name, word ∷ [])) ≡ part_fault rows (Positional word)
-unfolding part_fault
-word_fault rows word = refl
-
-pub word_used : (rows : List Row) (word : Text) → settled_at rows (Some (words_name, word ∷ [])) ≡ used_by rows (Positional word)
-unfolding used_by
-word_used rows word = refl
