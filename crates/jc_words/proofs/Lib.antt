@@ -1,4 +1,11 @@
+pub mod Cut
 pub mod Sorts
-pub mod Cutting
 pub mod Spelling
+pub mod Rows
+pub mod Uses
+pub mod Words
+pub mod Walks
+pub mod Reading
+pub mod Parts
+pub mod Lines
 pub mod Jobs

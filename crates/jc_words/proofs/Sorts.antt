@@ -1,18 +1,11 @@
 -- What the sort of a word says of it.
-use Rattle.std.proofs.Common.{◌≡◌, ◌-◌, ℕ, Bool, true, false, List, ◌++◌, length, drop, get_or, refl, ap, subst, arith, nat_eq, codes, if◌then◌else◌}
+use Rattle.std.proofs.Common.{◌≡◌, ℕ, Bool, true, false, List, ◌++◌, length, drop, refl, subst, nat_eq, codes, if◌then◌else◌}
 use Rattle.std.specs.List.{starts_with}
 use Rattle.std.specs.Str.{bytes_eq}
 use Rattle.std.proofs.lemmas.Slice.Eq.{starts_is, bytes_eq-Decides}
 use Rattle.std.proofs.lemmas.Bool.Decides.{Decides-eqb}
-use Rattle.std.proofs.lemmas.Str.{IsCharBoundary-after_ascii}
-use Rattle.std.proofs.Common.{length-append}
-use Rattle.std.specs.Str.{IsUtf8, IsCharBoundary}
-use Rattle.jc_words.specs.declared.line.OptionName.{OptionName}
-use Rattle.jc_words.specs.declared.line.OptionName.TheVariants.{Out, Run, Steps}
-use Rattle.jc_words.specs.declared.sort.Sort.{Sort}
-use Rattle.jc_words.specs.declared.sort.Sort.TheVariants.{Positional as PositionalWord, End, Opens, Holds, Unknown}
-use Rattle.jc_words.specs.Line.{is_dashed, option_word}
-use Rattle.jc_words.specs.Cut.{sort_of, equals_word}
+use Rattle.jc_words.specs.Line.{OptionName, Out, Run, Steps, is_dashed, option_word}
+use Rattle.jc_words.proofs.Cut.{Sort, PositionalWord, End, Opens, Holds, Unknown, sort_of, equals_word}
 
 -- a word that begins with a text is that text and what stands behind it
 pub begins : (word text : List ℕ) → starts_with nat_eq word text ≡ true → word ≡ text ++ drop (length text) word
@@ -78,21 +71,3 @@ end_is word e = (bytes_eq-Decides word (codes "--")).0 (sort_says word End e)
 
 pub positional_is : (word : List ℕ) → sort_of word ≡ PositionalWord → is_dashed word ≡ false
 positional_is word e = sort_says word PositionalWord e
-
--- the byte before the value is the equals sign
-pub equals_at : (word rest : List ℕ) → (o : OptionName) → word ≡ equals_word o ++ rest → get_or word (length (equals_word o) - 1) 0 ≡ 61
-equals_at word rest Out e = rw e refl
-equals_at word rest Run e = rw e refl
-equals_at word rest Steps e = rw e refl
-
--- the value in a word begins between two characters
-pub value_apart : (word : List ℕ) (o : OptionName) → IsUtf8 word → starts_with nat_eq word (equals_word o) ≡ true → IsCharBoundary word (length (equals_word o))
-value_apart word Out utf8 e =
-    let is = begins word (equals_word Out) e in
-    IsCharBoundary-after_ascii word 5 utf8 (omega (arith, ap length is, length-append (equals_word Out) (drop 6 word))) (omega (arith, equals_at word _ Out is))
-value_apart word Run utf8 e =
-    let is = begins word (equals_word Run) e in
-    IsCharBoundary-after_ascii word 5 utf8 (omega (arith, ap length is, length-append (equals_word Run) (drop 6 word))) (omega (arith, equals_at word _ Run is))
-value_apart word Steps utf8 e =
-    let is = begins word (equals_word Steps) e in
-    IsCharBoundary-after_ascii word 7 utf8 (omega (arith, ap length is, length-append (equals_word Steps) (drop 8 word))) (omega (arith, equals_at word _ Steps is))

@@ -2,17 +2,8 @@
 use Rattle.std.proofs.Common.{◌≡◌, ◌≢◌, ℕ, Bool, true, false, List, [], ◌∷◌, ◌++◌, refl, sym, ap, ◌∙◌, subst, append_assoc, codes, Option, Some, None}
 use Rattle.std.specs.Prelude.{flat_map}
 use Rattle.std.specs.List.{AllByRecursion}
-use Rattle.jc_words.specs.declared.line.OptionName.{OptionName}
-use Rattle.jc_words.specs.declared.line.OptionName.TheVariants.{Out, Run, Steps}
-use Rattle.jc_words.specs.declared.line.Part.{Part}
-use Rattle.jc_words.specs.declared.line.Part.TheVariants.{Joined, Apart, Positional}
-use Rattle.jc_words.specs.declared.line.Line.{Line}
-use Rattle.jc_words.specs.declared.line.Taken.{Taken}
-use Rattle.jc_words.specs.declared.line.Taken.TheVariants.{Whole, Opened, Closed, Wrong}
-use Rattle.jc_words.specs.declared.sort.Sort.{Sort}
-use Rattle.jc_words.specs.declared.sort.Sort.TheVariants.{Positional as PositionalWord, End, Opens, Holds, Unknown}
-use Rattle.jc_words.specs.Line.{is_dashed, option_word, part_words, IsPart, rest_words, IsSpelled}
-use Rattle.jc_words.specs.Cut.{cut, taken, by_sort, sort_of, with_next, with_held, value_after, equals_word, prepend, go_on}
+use Rattle.jc_words.specs.Line.{OptionName, Out, Run, Steps, Part, Joined, Apart, Positional, Line, is_dashed, option_word, part_words, IsPart, rest_words, IsSpelled}
+use Rattle.jc_words.proofs.Cut.{Sort, PositionalWord, End, Opens, Holds, Unknown, Taken, Whole, Opened, Closed, Wrong, cut, taken, by_sort, sort_of, with_next, with_held, value_after, equals_word, prepend, go_on}
 use Rattle.jc_words.proofs.Sorts.{begins, holds_begins, opens_is, end_is, positional_is}
 
 -- the word of an option that waits for its value
@@ -127,12 +118,12 @@ cut_spelled None [] line e = let same : record { parts = []; rest = None } ≡ l
 cut_spelled (Some o) [] line e = cc
 cut_spelled pending (word ∷ words) line e = word_spelled pending word words line (taken pending word) refl e (λ next l. cut_spelled next words l)
 
-option_sort : (o : OptionName) → sort_of (option_word o) ≡ Opens o
+pub option_sort : (o : OptionName) → sort_of (option_word o) ≡ Opens o
 option_sort Out = refl
 option_sort Run = refl
 option_sort Steps = refl
 
-joined_sorts : (o : OptionName) (value : List ℕ) → sort_of (option_word o ++ (61 ∷ value)) ≡ Holds o
+pub joined_sorts : (o : OptionName) (value : List ℕ) → sort_of (option_word o ++ (61 ∷ value)) ≡ Holds o
 joined_sorts Out value = refl
 joined_sorts Run value = refl
 joined_sorts Steps value = refl

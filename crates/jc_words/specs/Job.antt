@@ -4,13 +4,10 @@ use Rattle.std.specs.List.{filter, ends_with}
 use Rattle.std.specs.Fmt.{decimal}
 use Rattle.std.specs.declared.option.Option.{Option}
 use Rattle.std.specs.declared.option.Option.TheVariants.{Some, None}
-use Rattle.jc_words.specs.declared.line.OptionName.TheVariants.{Out, Run, Steps}
-use Rattle.jc_words.specs.declared.line.OptionName.{OptionName}
-use Rattle.jc_words.specs.declared.line.Line.{Line}
 use Rattle.jc_words.specs.declared.job.Job.{Job}
 use Rattle.jc_words.specs.declared.fault.UsageFault.{UsageFault}
 use Rattle.jc_words.specs.declared.fault.UsageFault.TheVariants.{Line as LineFault, NoSource, Stray, Steps as StepsFault}
-use Rattle.jc_words.specs.Line.{IsLine, values_of, positionals_of}
+use Rattle.jc_words.specs.Line.{OptionName, Out, Run, Steps, Line, IsLine, values_of, positionals_of}
 
 -- the first of some values, or None where there are none
 abbrev pub head_of : List (List ℕ) → Option (List ℕ)

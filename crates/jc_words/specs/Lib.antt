@@ -1,4 +1,4 @@
 pub mod Line
 pub mod Job
-pub mod Cut
-pub mod Options
+pub mod Command
+pub mod Values

@@ -4,11 +4,23 @@ use Rattle.std.specs.Prelude.{◌≡◌, ◌≢◌, ℕ, ◌≤◌, Bool, true, 
 use Rattle.std.specs.List.{AllByRecursion}
 use Rattle.std.specs.declared.option.Option.{Option}
 use Rattle.std.specs.declared.option.Option.TheVariants.{Some, None}
-use Rattle.jc_words.specs.declared.line.OptionName.{OptionName}
-use Rattle.jc_words.specs.declared.line.OptionName.TheVariants.{Out, Run, Steps}
-use Rattle.jc_words.specs.declared.line.Part.{Part}
-use Rattle.jc_words.specs.declared.line.Part.TheVariants.{Joined, Apart, Positional}
-use Rattle.jc_words.specs.declared.line.Line.{Line}
+
+-- an option that takes a value
+pub data OptionName : Type 0 where
+  Out : OptionName
+  Run : OptionName
+  Steps : OptionName
+
+-- an option with its value behind an equals sign, or in a word of its own, or one positional word
+pub data Part : Type 0 where
+  Joined : OptionName → List ℕ → Part
+  Apart : OptionName → List ℕ → Part
+  Positional : List ℕ → Part
+
+-- what stands behind the program's name: the parts, and the words behind a `--`, if there is one
+pub record Line : Type 0 where
+  pub parts : List Part
+  pub rest : Option (List (List ℕ))
 
 -- a word that begins with a dash and has more characters: it is no value and no positional word
 abbrev pub is_dashed : List ℕ → Bool

@@ -1,14 +1,14 @@
 //! A job of javag, from the words of the command line.
-ghost use Rattle.std.specs.Prelude.{◌≡◌, IfOk, Err, MatchOption, map, string_bytes, drop};
+ghost use Rattle.std.specs.Prelude.{◌≡◌, IfOk, Err, MatchOption, map, string_bytes};
 ghost use Rattle.std.specs.List.{filter};
 ghost use Rattle.std.specs.Option.{option_copied};
-ghost use Rattle.jc_words.specs.Line.{values_of, positionals_of, parts_positionals};
+ghost use Rattle.jc_words.specs.Line.{Line};
 ghost use Rattle.jc_words.specs.Job.{IsJob, IsFault, is_source, not, folder_of, HasSteps, HasNoSteps, JobOf, FaultOf};
-ghost use Rattle.jc_words.specs.Options.{IsSingle, HasOptions, StandsTwice};
+ghost use Rattle.jc_words.specs.Values.{HasValues};
 
 use crate::UsageFault;
-use crate::line::{Line, OptionName, Part, read_line};
 use crate::steps::steps_of;
+use crate::values::{Values, read_values};
 use jc_rules::{Items, Stop, Text, WantOfMemory};
 use std::alloc::Global;
 
@@ -25,77 +25,6 @@ pub struct Job {
     pub files: Items<Text>,
     /// The arguments of the program.
     pub arguments: Items<Text>,
-}
-
-/// The values of the options of a line.
-#[derive(Debug, Drop)]
-pub struct Options {
-    pub out: Option<Text>,
-    pub run: Option<Text>,
-    pub steps: Option<Text>,
-}
-
-/// The value of one option on a line.
-#[derive(Debug, Drop)]
-pub enum Single {
-    AtMostOnce(Option<Text>),
-    Twice,
-}
-
-/// The values that an option has on a line, in order.
-fn values(alloc: Global, parts: &[Part], wanted: OptionName) -> Result<Items<Text>, WantOfMemory>
-    ensures { IfOk result (λ values. values ≡ values_of wanted parts.now) }
-{
-    let mut values = Items::new(alloc);
-    for part in parts {
-        match part {
-            Part::Joined { option, value } | Part::Apart { option, value } => {
-                if *option == wanted {
-                    values.push(value.clone()?)?;
-                }
-            }
-            Part::Positional(_) => (),
-        }
-    }
-    Ok(values)
-}
-
-fn single_value(alloc: Global, parts: &[Part], wanted: OptionName) -> Result<Single, WantOfMemory>
-    ensures { IfOk result (λ s. IsSingle (values_of wanted parts.now) s) }
-{
-    let mut values = values(alloc, parts, wanted)?;
-    if values.len() > 1 {
-        return Ok(Single::Twice);
-    }
-    Ok(Single::AtMostOnce(values.pop()))
-}
-
-/// The values of the options. None where an option stands twice.
-fn read_options(alloc: Global, parts: &[Part]) -> Result<Option<Options>, WantOfMemory>
-    ensures { IfOk result (λ o. MatchOption o (StandsTwice parts.now) (λ options. HasOptions parts.now options)) }
-{
-    let Single::AtMostOnce(out) = single_value(alloc, parts, OptionName::Out)? else {
-        return Ok(None);
-    };
-    let Single::AtMostOnce(run) = single_value(alloc, parts, OptionName::Run)? else {
-        return Ok(None);
-    };
-    let Single::AtMostOnce(steps) = single_value(alloc, parts, OptionName::Steps)? else {
-        return Ok(None);
-    };
-    Ok(Some(Options { out, run, steps }))
-}
-
-fn part_positionals(alloc: Global, parts: &[Part]) -> Result<Items<Text>, WantOfMemory>
-    ensures { IfOk result (λ words. words ≡ parts_positionals parts.now) }
-{
-    let mut words = Items::new(alloc);
-    for part in parts {
-        if let Part::Positional(word) = part {
-            words.push(word.clone()?)?;
-        }
-    }
-    Ok(words)
 }
 
 fn is_source(word: &Text) -> bool
@@ -128,18 +57,6 @@ fn arguments(alloc: Global, words: &[Text]) -> Result<Items<Text>, WantOfMemory>
     Ok(arguments)
 }
 
-/// The positional words of a line, in order.
-fn positionals(alloc: Global, line: Line) -> Result<Items<Text>, WantOfMemory>
-    ensures { IfOk result (λ words. words ≡ positionals_of line) }
-{
-    let Line { parts, rest } = line;
-    let mut words = part_positionals(alloc, parts.slice())?;
-    if let Some(rest) = rest {
-        words.append(rest)?;
-    }
-    Ok(words)
-}
-
 /// How many steps a program may take where no number is given.
 const USUAL_STEPS: u64 = 1_000_000_000;
 
@@ -168,14 +85,17 @@ fn folder(
     }
 }
 
-/// The job of a line whose options are read.
-fn job_of(alloc: Global, line: Line, options: Options) -> Result<Job, Stop<UsageFault>>
-    requires { HasOptions line.parts options }
-    ensures job { IfOk result (λ job. JobOf line job) }
-    ensures fault { (fault : UsageFault) → result ≡ Err (Stop.Refused fault) → FaultOf line fault }
+/// The job of a line that says these values.
+fn job_of(alloc: Global, values: Values) -> Result<Job, Stop<UsageFault>>
+    ensures job { IfOk result (λ job. (line : Line) → HasValues line values → JobOf line job) }
+    ensures fault { (fault : UsageFault) → result ≡ Err (Stop.Refused fault) → (line : Line) → HasValues line values → FaultOf line fault }
 {
-    let Options { out, run, steps } = options;
-    let words = positionals(alloc, line)?;
+    let Values {
+        out,
+        run,
+        steps,
+        words,
+    } = values;
     let files = sources(alloc, words.slice())?;
     if files.is_empty() {
         return Err(Stop::Refused(UsageFault::NoSource));
@@ -197,16 +117,6 @@ fn job_of(alloc: Global, line: Line, options: Options) -> Result<Job, Stop<Usage
     })
 }
 
-/// The words behind the program's name, which is the first word, if there is one.
-fn behind_name(words: &[String]) -> &[String]
-    ensures { result.now ≡ drop 1 words.now }
-{
-    match words {
-        [_, behind @ ..] => behind,
-        [] => words,
-    }
-}
-
 /// The job that words are, where the first word is the program's name, or their first fault.
 pub fn read_words(alloc: Global, words: &[String]) -> Result<Job, Stop<UsageFault>>
     ensures job { IfOk result (λ job. IsJob (map string_bytes words.now) job) }
@@ -214,11 +124,8 @@ pub fn read_words(alloc: Global, words: &[String]) -> Result<Job, Stop<UsageFaul
     ensures fault { (fault : UsageFault) → result ≡ Err (Stop.Refused fault) → IsFault (map string_bytes words.now) fault }
     ensures no_job { (fault : UsageFault) → result ≡ Err (Stop.Refused fault) → (job : Job) → IsJob (map string_bytes words.now) job → ⊥ }
 {
-    let Some(line) = read_line(alloc, behind_name(words))? else {
-        return Err(Stop::Refused(UsageFault::Line));
-    };
-    let Some(options) = read_options(alloc, line.parts.slice())? else {
-        return Err(Stop::Refused(UsageFault::Line));
-    };
-    job_of(alloc, line, options)
+    match read_values(alloc, words)? {
+        Some(values) => job_of(alloc, values),
+        None => Err(Stop::Refused(UsageFault::Line)),
+    }
 }

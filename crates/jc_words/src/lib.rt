@@ -3,10 +3,8 @@
 
 mod fault;
 mod job;
-mod line;
-mod sort;
 mod steps;
+mod values;
 
 pub use fault::UsageFault;
 pub use job::{Job, read_words};
-pub use line::{Line, OptionName, Part};

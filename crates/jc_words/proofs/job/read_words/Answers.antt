@@ -1,50 +1,18 @@
-use Rattle.std.proofs.Common.{◌≡◌, ◌∙◌, sym, ap, map, string_bytes, Global}
-use Rattle.jc_words.specs.declared.fault.UsageFault.TheVariants.{Line as LineFault}
-use Rattle.jc_words.proofs.Jobs.{map_behind, no_line, twice_no_line, a_line, only_line, line_fault, line_job, words_no_job, no_line_no_job, words_job_only}
+use Rattle.std.proofs.Common.{map, string_bytes, Global}
+use Rattle.jc_words.specs.Values.{AreValuesOf}
+use Rattle.jc_words.proofs.Jobs.{line_fault, words_no_job, values_job_only}
 use Rattle.jc_words.proofs.job.read_words.Goals as goal
 
-pub returns-in_default-clause-fault : goal.returns-in_default-clause-fault
-returns-in_default-clause-fault c = λ fault e.
-    let behind = ap (map (string_bytes {Z = Global})) c.behind_name.ensures ∙ map_behind (string_bytes {Z = Global}) c.args.words.now in
-    let is : fault ≡ LineFault = cc in
-    only_line _ fault (no_line _ _ behind (sym c.in_default.is ∙ c.in_ok-line.ensures)) is
+pub returns-in-Some-clause-only : goal.returns-in-Some-clause-only
+returns-in-Some-clause-only c =
+    values_job_only _ c.in-Some.values c.job_of.result (rw c.in-Some.is at c.in_ok-values.ensures) c.job_of.ensures.job
 
-pub returns-in_default-2-clause-fault : goal.returns-in_default-2-clause-fault
-returns-in_default-2-clause-fault c = λ fault e.
-    let behind = ap (map (string_bytes {Z = Global})) c.behind_name.ensures ∙ map_behind (string_bytes {Z = Global}) c.args.words.now in
-    let is : fault ≡ LineFault = cc in
-    only_line _ fault (twice_no_line _ _ c.in-Some.line behind (sym c.in-Some.is ∙ c.in_ok-line.ensures) (rw c.slice.ensures at (rw c.in_default-2.is at c.in_ok-options.ensures))) is
+pub returns-in-Some-clause-fault : goal.returns-in-Some-clause-fault
+returns-in-Some-clause-fault c = λ fault e.
+    let are : AreValuesOf (map (string_bytes {Z = Global}) c.args.words.now) c.in-Some.values = rw c.in-Some.is at c.in_ok-values.ensures in
+    line_fault _ are.0 fault are.1 (c.job_of.ensures.fault fault e are.0 are.2)
 
-pub returns-clause-job : goal.returns-clause-job
-returns-clause-job c =
-    let behind = ap (map (string_bytes {Z = Global})) c.behind_name.ensures ∙ map_behind (string_bytes {Z = Global}) c.args.words.now in
-    let options = rw c.slice.ensures at (rw c.in-Some-2.is at c.in_ok-options.ensures) in
-    line_job _ c.in-Some.line c.job_of.result (a_line _ _ c.in-Some.line behind (sym c.in-Some.is ∙ c.in_ok-line.ensures) options.once) c.job_of.ensures.job
-
-pub returns-clause-fault : goal.returns-clause-fault
-returns-clause-fault c = λ fault e.
-    let behind = ap (map (string_bytes {Z = Global})) c.behind_name.ensures ∙ map_behind (string_bytes {Z = Global}) c.args.words.now in
-    let options = rw c.slice.ensures at (rw c.in-Some-2.is at c.in_ok-options.ensures) in
-    line_fault _ c.in-Some.line fault (a_line _ _ c.in-Some.line behind (sym c.in-Some.is ∙ c.in_ok-line.ensures) options.once) (c.job_of.ensures.fault fault e)
-
-pub returns-in_default-clause-no_job : goal.returns-in_default-clause-no_job
-returns-in_default-clause-no_job c = λ fault e.
-    let behind = ap (map (string_bytes {Z = Global})) c.behind_name.ensures ∙ map_behind (string_bytes {Z = Global}) c.args.words.now in
-    no_line_no_job _ (no_line _ _ behind (sym c.in_default.is ∙ c.in_ok-line.ensures))
-
-pub returns-in_default-2-clause-no_job : goal.returns-in_default-2-clause-no_job
-returns-in_default-2-clause-no_job c = λ fault e.
-    let behind = ap (map (string_bytes {Z = Global})) c.behind_name.ensures ∙ map_behind (string_bytes {Z = Global}) c.args.words.now in
-    no_line_no_job _ (twice_no_line _ _ c.in-Some.line behind (sym c.in-Some.is ∙ c.in_ok-line.ensures) (rw c.slice.ensures at (rw c.in_default-2.is at c.in_ok-options.ensures)))
-
-pub returns-clause-only : goal.returns-clause-only
-returns-clause-only c =
-    let behind = ap (map (string_bytes {Z = Global})) c.behind_name.ensures ∙ map_behind (string_bytes {Z = Global}) c.args.words.now in
-    let options = rw c.slice.ensures at (rw c.in-Some-2.is at c.in_ok-options.ensures) in
-    words_job_only _ c.in-Some.line c.job_of.result (a_line _ _ c.in-Some.line behind (sym c.in-Some.is ∙ c.in_ok-line.ensures) options.once) c.job_of.ensures.job
-
-pub returns-clause-no_job : goal.returns-clause-no_job
-returns-clause-no_job c = λ fault e.
-    let behind = ap (map (string_bytes {Z = Global})) c.behind_name.ensures ∙ map_behind (string_bytes {Z = Global}) c.args.words.now in
-    let options = rw c.slice.ensures at (rw c.in-Some-2.is at c.in_ok-options.ensures) in
-    words_no_job _ c.in-Some.line fault (a_line _ _ c.in-Some.line behind (sym c.in-Some.is ∙ c.in_ok-line.ensures) options.once) (c.job_of.ensures.fault fault e)
+pub returns-in-Some-clause-no_job : goal.returns-in-Some-clause-no_job
+returns-in-Some-clause-no_job c = λ fault e.
+    let are : AreValuesOf (map (string_bytes {Z = Global}) c.args.words.now) c.in-Some.values = rw c.in-Some.is at c.in_ok-values.ensures in
+    words_no_job _ are.0 fault are.1 (c.job_of.ensures.fault fault e are.0 are.2)

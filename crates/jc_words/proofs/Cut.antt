@@ -4,16 +4,24 @@ use Rattle.std.specs.Str.{bytes_eq}
 use Rattle.std.specs.List.{starts_with}
 use Rattle.std.specs.declared.option.Option.{Option}
 use Rattle.std.specs.declared.option.Option.TheVariants.{Some, None}
-use Rattle.jc_words.specs.declared.line.OptionName.{OptionName}
-use Rattle.jc_words.specs.declared.line.OptionName.TheVariants.{Out, Run, Steps}
-use Rattle.jc_words.specs.declared.line.Part.{Part}
-use Rattle.jc_words.specs.declared.line.Part.TheVariants.{Joined, Apart, Positional}
-use Rattle.jc_words.specs.declared.line.Line.{Line}
-use Rattle.jc_words.specs.declared.sort.Sort.{Sort}
-use Rattle.jc_words.specs.declared.sort.Sort.TheVariants.{Positional as PositionalWord, End, Opens, Holds, Unknown}
-use Rattle.jc_words.specs.declared.line.Taken.{Taken}
-use Rattle.jc_words.specs.declared.line.Taken.TheVariants.{Whole, Opened, Closed, Wrong}
-use Rattle.jc_words.specs.Line.{is_dashed, option_word}
+use Rattle.jc_words.specs.Line.{OptionName, Out, Run, Steps, Part, Joined, Apart, Positional, Line, is_dashed, option_word}
+
+-- what a word is where an option or a positional word may stand: a positional word; `--`, behind which all words are positional; an
+-- option whose value is the next word; an option with its value, after an equals sign; or what looks like an option, and javag has none like it
+pub data Sort : Type 0 where
+  PositionalWord : Sort
+  End : Sort
+  Opens : OptionName → Sort
+  Holds : OptionName → Sort
+  Unknown : Sort
+
+-- what a word makes of the line so far: a part, which may be the value that was waited for; an option that waits for its value; the
+-- end of the options; or nothing, as it breaks a rule on options
+pub data Taken : Type 0 where
+  Whole : Part → Taken
+  Opened : OptionName → Taken
+  Closed : Taken
+  Wrong : Taken
 
 -- the start of a word that holds its option's value: the option's name and `=`
 abbrev pub equals_word : OptionName → List ℕ
