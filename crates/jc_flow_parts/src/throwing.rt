@@ -137,7 +137,7 @@ fn is_thrown(scene: &Scene, thrown: &[Thrown], a: &Ty) -> Result<bool, WantOfMem
 {
     let mut rest = thrown;
     while let [x, more @ ..] = rest {
-        if is_related(scene, &x.ty, a)? {
+        if is_related(scene, &x.ty, a)? && is_checked(scene, &x.ty)? {
             return Ok(true);
         }
         rest = more;

@@ -51,12 +51,12 @@ module _ (T : Table) (env : List Bounds) where
   uncaught cs [] = []
   uncaught cs (x ∷ xs) = if is_caught x.ty cs then uncaught cs xs else x ∷ uncaught cs xs
 
-  -- a type is related to one that is thrown
+  -- a checked type is thrown that is related to this one; null is none (JLS 11.2.3)
   abbrev pub is_thrown : List Thrown → Ty → Bool
-  is_thrown xs a = list_any (λ x. is_related x.ty a) xs
+  is_thrown xs a = list_any (λ x. is_related x.ty a && is_checked x.ty) xs
 
   -- an alternative catches nothing: an earlier clause catches it, or it is checked, neither Exception nor Throwable, and unrelated to
-  -- what the block throws (JLS 11.2.3)
+  -- the checked types that the block throws (JLS 11.2.3)
   abbrev pub is_useless : List Thrown → Catches → Ty → Bool
   is_useless thrown before a = is_caught a before || (is_checked a && not (is_catch_all a) && not (is_thrown thrown a))
 

@@ -1,0 +1,9 @@
+class A {
+    void m() {
+        if (false) {
+            m();
+        }
+        if (true) return;
+        m();
+    }
+}

@@ -1,0 +1,8 @@
+class A {
+    {
+        if (true) throw new RuntimeException();
+    }
+    static {
+        while (true) { break; }
+    }
+}
