@@ -1,5 +1,5 @@
 -- Definite assignment of one variable through expressions (JLS 16.1).
-use Rattle.std.specs.Prelude.{ℕ, ◌==◌, Bool, true, false, not, ◌&&◌, ◌||◌, List, [], ◌∷◌, ◌++◌, if◌then◌else◌}
+use Rattle.std.specs.Prelude.{ℕ, ◌==◌, Bool, true, false, ◌&&◌, ◌||◌, List, [], ◌∷◌, if◌then◌else◌}
 use Rattle.jc_rules.specs.declared.rule.Place.{Place}
 use Rattle.jc_types.specs.declared.ids.FieldId.{FieldId}
 use Rattle.jc_types.specs.declared.constant.Constant.{Constant}
@@ -7,7 +7,6 @@ use Rattle.jc_types.specs.declared.constant.Op.{Op}
 use Rattle.jc_types.specs.declared.constant.Op.TheVariants.{Not}
 use Rattle.jc_types.specs.declared.form.Ty.{Ty}
 use Rattle.jc_types.specs.declared.form.Ty.TheVariants.{Prim}
-use Rattle.jc_types.specs.declared.form.Primitive.{Primitive}
 use Rattle.jc_types.specs.declared.form.Primitive.TheVariants.{Boolean}
 use Rattle.jc_typed.specs.Trees.{Named, Expr, NoExpr, expr, Operand, NoOperand, operand, Form, Fixed, Null, Local, This, StaticField, Field, Element, Length, Prefix, Chain, AllOf, AnyOf, InstanceOf, Conditional, Assign, Compound, Change, Call, New, NewArray, ArrayOf, Cast, Variable, LocalVariable, StaticVariable, FieldVariable, ElementVariable, Operands, NoOperands, MoreOperands, Links, NoLinks, MoreLinks}
 use Rattle.jc_flow_spec.specs.Expressions.{is_number}
@@ -53,15 +52,15 @@ abbrev pub is_boolean : Operand → Bool
 is_boolean NoOperand = false
 is_boolean (operand place of_it steps) = is_boolean_expr of_it
 
--- the locals that a constant expression names are used
-abbrev pub named_used : Tracked → List Named → Known → Known
-named_used var [] s = s
-named_used var (n ∷ ns) s = named_used var ns (if is_local n.local var then used n.place s else s)
-
 -- V is used here
 abbrev pub used_if : Bool → Place → Known → Known
 used_if true p s = used p s
 used_if false p s = s
+
+-- the locals that a constant expression names are used
+abbrev pub named_used : Tracked → List Named → Known → Known
+named_used var [] s = s
+named_used var (n ∷ ns) s = named_used var ns (used_if (is_local n.local var) n.place s)
 
 abbrev pub written_if : Bool → Bool → Place → Known → Known
 written_if true is_final p s = written is_final p s
@@ -105,6 +104,11 @@ prefixed (_ ∷ ops) r = prefixed ops r
 -- a constant test (JLS 16.1.1)
 abbrev pub fixed_split : Constant → Known → Split
 fixed_split value s = if is_number 1 value then never_no s else if is_number 0 value then never_yes s else alike s
+
+-- a constant, which is no constant expression where it is named through an operand (JLS 15.28)
+abbrev pub constant_split : Operands → Constant → Known → Split
+constant_split NoOperands value s = fixed_split value s
+constant_split (MoreOperands before last) value s = alike s
 
 -- `foreign` tells of a field whether it is final and isn't one that the body may assign by this name
 module _ (var : Tracked) (is_final : Bool) (foreign : Bool → FieldId → Bool) where
@@ -189,8 +193,7 @@ module _ (var : Tracked) (is_final : Bool) (foreign : Bool → FieldId → Bool)
     operand_split (operand place of_it steps) s = expr_split of_it s
 
     pub form_split : Place → Form → Known → Split
-    form_split p (Fixed NoOperands value named casts) s = fixed_split value (named_used var named s)
-    form_split p (Fixed (MoreOperands before last) value named casts) s = alike (named_used var named (operand_known last (operands_known before s)))
+    form_split p (Fixed before value named casts) s = constant_split before value (named_used var named (operands_known before s))
     form_split p (Prefix ops of_it) s = prefixed ops (operand_split of_it s)
     form_split p (AllOf os from up_to) s = all_split os s
     form_split p (AnyOf os from up_to) s = any_split os s

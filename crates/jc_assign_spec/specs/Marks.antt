@@ -2,7 +2,6 @@
 use Rattle.std.specs.Prelude.{ℕ, ◌==◌, Bool, true, false, not, ◌&&◌, ◌||◌, List, [], ◌∷◌, ◌++◌, if◌then◌else◌}
 use Rattle.jc_rules.specs.declared.rule.Place.{Place}
 use Rattle.jc_rules.specs.declared.rule.Refusal.{Refusal}
-use Rattle.jc_types.specs.declared.ids.FieldId.{FieldId}
 use Rattle.jc_assign_spec.specs.declared.marks.Mark.{Mark}
 use Rattle.jc_assign_spec.specs.declared.marks.Jump.{Jump}
 use Rattle.jc_assign_spec.specs.declared.marks.Jump.TheVariants.{Break, Continue, Return}

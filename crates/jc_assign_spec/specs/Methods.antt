@@ -14,7 +14,6 @@ use Rattle.jc_types.specs.declared.declarations.MethodKind.TheVariants as kind
 use Rattle.jc_types.specs.Breaks.{IsOf}
 use Rattle.jc_types.specs.Accessors.{fields_of}
 use Rattle.std.specs.Prelude.{slice_get}
-use Rattle.jc_typed.specs.declared.nodes.Node.{Node}
 use Rattle.jc_typed.specs.declared.program.Body.{Body}
 use Rattle.jc_typed.specs.declared.program.Local.{Local}
 use Rattle.jc_typed.specs.declared.program.TypedMethod.{TypedMethod}

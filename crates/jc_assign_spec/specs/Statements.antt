@@ -1,6 +1,5 @@
 -- Definite assignment of one variable through statements (JLS 16.2).
-use Rattle.std.specs.Prelude.{ℕ, suc, ◌==◌, Bool, true, false, not, ◌&&◌, ◌||◌, List, [], ◌∷◌, ◌++◌, is_none, if◌then◌else◌}
-use Rattle.std.specs.List.{list_any}
+use Rattle.std.specs.Prelude.{ℕ, Bool, true, false, not, ◌&&◌, ◌||◌, List, [], ◌∷◌, ◌++◌, if◌then◌else◌}
 use Rattle.jc_rules.specs.declared.rule.Place.{Place}
 use Rattle.jc_types.specs.declared.ids.FieldId.{FieldId}
 use Rattle.jc_types.specs.declared.form.Ty.{Ty}
@@ -10,9 +9,8 @@ use Rattle.jc_assign_spec.specs.declared.marks.Mark.{Mark}
 use Rattle.jc_assign_spec.specs.declared.marks.Jump.TheVariants as jump
 use Rattle.jc_assign_spec.specs.declared.marks.Exit.{Exit}
 use Rattle.jc_assign_spec.specs.declared.marks.Variable.{Variable as Tracked}
-use Rattle.jc_assign_spec.specs.declared.marks.Variable.TheVariants as v
-use Rattle.jc_assign_spec.specs.Marks.{Known, Split, free, fresh, gone, meet, met, over, declared, given, with_now, with_exits, jumps, landed, cut, joined, alike, written}
-use Rattle.jc_assign_spec.specs.Expressions.{expr_known, operand_known, operands_known, operand_split, is_local, is_own, named_used}
+use Rattle.jc_assign_spec.specs.Marks.{Known, Split, free, fresh, gone, meet, met, over, declared, given, with_now, with_exits, jumps, landed, cut, alike}
+use Rattle.jc_assign_spec.specs.Expressions.{operand_known, operands_known, operand_split, is_local, is_own, named_used}
 
 -- V is a local variable that is declared here
 abbrev pub declared_if : Bool → Bool → Known → Known
@@ -35,13 +33,25 @@ abbrev pub has_value : Operands → Bool
 has_value NoOperands = false
 has_value (MoreOperands before last) = true
 
--- a loop's entry, assuming that V is unassigned at the begin of a turn exactly where it is so before the loop and at the end of a turn,
--- where it is assumed (JLS 16.2.10 to 16.2.12); breaks and exits are those of the turn that begins with what holds
-abbrev pub assuming : Known → Known
-assuming s = with_now (record { set = s.now.set; unset = true }) s
+-- a loop's entry: V is unassigned at the begin of a turn, or isn't. The jumps and the broken rules inside of a loop are told apart
+abbrev pub opened : Bool → Known → Known
+opened u s = record { now = record { set = s.now.set; unset = u }; wrote = s.wrote; fixed = s.fixed; exits = []; broken = [] }
 
-abbrev pub begun : Mark → Known → Known
-begun back s = with_now (record { set = s.now.set; unset = s.now.unset && back.unset }) s
+-- behind a loop, which was begun in a state
+abbrev pub inside : Known → Known → Known
+inside s r = record { now = r.now; wrote = r.wrote; fixed = r.fixed; exits = s.exits ++ r.exits; broken = s.broken ++ r.broken }
+
+-- V is unassigned at the begin of each turn exactly where it is so before the loop, and at the end of a turn when that is assumed
+-- (JLS 16.2.10 to 16.2.12)
+abbrev pub turns_begin : Mark → Mark → Bool
+turns_begin before back = before.unset && back.unset
+
+-- a part whose jumps are told apart
+abbrev pub unjumped : Known → Known
+unjumped s = with_exits [] s
+
+abbrev pub rejoined : List Exit → Known → Known
+rejoined outer s = with_exits (outer ++ s.exits) s
 
 -- V before a `catch` or `finally` behind a part: assigned as before it, unassigned if so before it and the part doesn't assign it
 -- (JLS 16.2.15)
@@ -130,7 +140,7 @@ module _ (var : Tracked) (is_final : Bool) (foreign : Bool → FieldId → Bool)
 
   abbrev pub loop_of : ℕ → (Known → Split) → (Known → Known) → (Known → Known) → Known → Known
   loop_of t test body update s =
-      (turn_from t body update (test (begun (turn_from t body update (test (assuming s))).back s))).after
+      inside s (turn_from t body update (test (opened (turns_begin s.now (turn_from t body update (test (opened true s))).back) s))).after
 
   -- one turn of `do` (JLS 16.2.11)
   abbrev pub do_end : ℕ → Split → Turn
@@ -140,7 +150,7 @@ module _ (var : Tracked) (is_final : Bool) (foreign : Bool → FieldId → Bool)
   do_turn t body test s = do_end t (test (landed (jump.Continue t) (body s)))
 
   abbrev pub do_of : ℕ → (Known → Known) → (Known → Split) → Known → Known
-  do_of t body test s = (do_turn t body test (begun (do_turn t body test (assuming s)).back s)).after
+  do_of t body test s = inside s (do_turn t body test (opened (turns_begin s.now (do_turn t body test (opened true s)).back) s)).after
 
   -- an enhanced `for` (JLS 16.2.12): its test has no value, and its variable is assigned at each turn
   abbrev pub each_of : ℕ → ℕ → (Known → Known) → Known → Known
@@ -185,6 +195,9 @@ module _ (var : Tracked) (is_final : Bool) (foreign : Bool → FieldId → Bool)
   switch_from t cases ss labelled s =
       switch_end t s.now (not (has_default cases) || is_labelled cases (stmt_count ss)) (labelled (label_mark var ss s.now) (with_now free (labels_used var cases (with_now (label_mark var ss s.now) s))))
 
+  abbrev pub switch_apart : ℕ → List Case → Stmts → (Mark → Known → Known) → Known → Known
+  switch_apart t cases ss labelled s = rejoined s.exits (switch_from t cases ss labelled (unjumped s))
+
   -- a field's initialiser assigns it
   abbrev pub initialised : Bool → Known → Known
   initialised true s = with_now gone s
@@ -205,13 +218,13 @@ module _ (var : Tracked) (is_final : Bool) (foreign : Bool → FieldId → Bool)
     stmt_form_known p (Locals ds) s = declared_known ds s
     stmt_form_known p (Effect of_it) s = known_of of_it s
     stmt_form_known p (If arms other) s = arms_end (stmts_known other) (arms_known arms s)
-    stmt_form_known p (Labelled t body) s = landed (jump.Break t) (stmt_known body s)
+    stmt_form_known p (Labelled t body) s = rejoined s.exits (landed (jump.Break t) (stmt_known body (unjumped s)))
     stmt_form_known p (While t test body) s = loop_of t (split_of test) (stmt_known body) (λ u. u) s
     stmt_form_known p (Do t body test) s = do_of t (stmt_known body) (split_of test) s
     stmt_form_known p (For t ds before test update body) s = loop_of t (test_of test) (stmt_known body) (knowns_of update) (knowns_of before (declared_known ds s))
     stmt_form_known p (ForArray t of_it ty captures steps n body) s = each_of t n (stmt_known body) (known_of of_it s)
     stmt_form_known p (ForIterable t of_it ty captures steps n body) s = each_of t n (stmt_known body) (known_of of_it s)
-    stmt_form_known p (Switch t of_it cases ss) s = switch_from t cases ss (λ m. labelled_known m cases ss) (known_of of_it s)
+    stmt_form_known p (Switch t of_it cases ss) s = switch_apart t cases ss (λ m. labelled_known m cases ss) (known_of of_it s)
     stmt_form_known p (Return value) s = jumps jump.Return (knowns_of value s)
     stmt_form_known p (Break t) s = jumps (jump.Break t) s
     stmt_form_known p (Continue t) s = jumps (jump.Continue t) s

@@ -1,0 +1,2 @@
+pub mod FromLast
+pub mod Turned
