@@ -43,7 +43,7 @@ is_inserted x w (v ∷ vs) t = by (comes_before w v) (comes_before v w) refl ref
     by false false e f further (inl h) = inl (sym (same_warning w v e f) ∙ h)
     by false false e f further (inr h) = h
 
-ordered_told : (x : Warning) (ws : List Warning) → IsTold x (in_order ws) → IsTold x ws
+pub ordered_told : (x : Warning) (ws : List Warning) → IsTold x (in_order ws) → IsTold x ws
 ordered_told x [] t = t
 ordered_told x (w ∷ ws) t = by (ordered_told x ws) (told_of x w (in_order ws) t)
   where
@@ -51,7 +51,7 @@ ordered_told x (w ∷ ws) t = by (ordered_told x ws) (told_of x w (in_order ws) 
     by further (inl e) = inl e
     by further (inr t) = inr (further t)
 
-told_ordered : (x : Warning) (ws : List Warning) → IsTold x ws → IsTold x (in_order ws)
+pub told_ordered : (x : Warning) (ws : List Warning) → IsTold x ws → IsTold x (in_order ws)
 told_ordered x [] t = t
 told_ordered x (w ∷ ws) t = is_inserted x w (in_order ws) (by (told_ordered x ws) t)
   where
@@ -88,7 +88,7 @@ inserted_ascends w (v ∷ vs) a = by (comes_before w v) (comes_before v w) refl 
     by false true f g = from_inserted v w vs g a
     by false false f g = a
 
-ordered_ascends : (ws : List Warning) → Ascends (in_order ws)
+pub ordered_ascends : (ws : List Warning) → Ascends (in_order ws)
 ordered_ascends [] = tt
 ordered_ascends (w ∷ ws) = inserted_ascends w (in_order ws) (ordered_ascends ws)
 

@@ -101,7 +101,7 @@ module _ (T : Table) (env : List Bounds) where
   form_warned place (Form.Cast of_it to steps is_below) = warned_if (is_unchecked_cast T env (type_of_operand of_it) to) kind.Cast place
   form_warned place _ = []
 
-  mutual
+  abbrev mutual
     -- an operand: a conversion at the first token of what is converted
     pub of_operand : Operand → List Warning
     of_operand Operand.NoOperand = []
@@ -152,7 +152,7 @@ module _ (T : Table) (env : List Bounds) where
 
   -- ---- statements
 
-  pub of_declared : Declared → List Warning
+  abbrev pub of_declared : Declared → List Warning
   of_declared Declared.NoDeclared = []
   of_declared (Declared.MoreDeclared before place n value) = of_declared before ++ of_operands value
 
@@ -165,7 +165,7 @@ module _ (T : Table) (env : List Bounds) where
   abbrev pub of_elements : Operand → List Step → List Warning
   of_elements of_it steps = of_operand of_it ++ at_operand (warned_if (has_unchecked steps) kind.Conversion) of_it
 
-  mutual
+  abbrev mutual
     pub of_stmt : Stmt → List Warning
     of_stmt (Stmt.stmt place form) = of_stmt_form place form
 

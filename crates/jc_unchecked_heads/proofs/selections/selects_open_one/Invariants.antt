@@ -1,0 +1,10 @@
+use Rattle.std.proofs.Common.{◌≡◌, ◌<◌, length}
+use Rattle.std.specs.List.{list_any}
+use Rattle.jc_unchecked_heads.specs.Asked.{is_selected_open}
+use Rattle.jc_unchecked_heads.proofs.selections.selects_open_one.Given as goal
+
+abbrev pub invariant-loop-rest : goal.invariant-loop-rest
+invariant-loop-rest l = list_any (is_selected_open l.table l.k) l.rest ≡ list_any (is_selected_open l.table l.k) l.fn.ids
+
+abbrev pub decreases-loop-rest : goal.decreases-loop-rest
+decreases-loop-rest l = length l.rest
