@@ -30,7 +30,8 @@ fn counted(nodes: &Nodes, ty: u32, steps: u32) -> u32
 pub fn part(nodes: &Nodes, at: u32) -> Option<Part>
     requires { at < length nodes.now }
     ensures none { (result ≡ None) → (has nodes.now at ≡ None) }
-    ensures some { IfSome result (λ p. IsPart nodes.now at p) }
+    ensures some { IfSome result (λ p. IsPart nodes.now p) }
+    ensures same { IfSome result (λ p. p.at ≡ at) }
 {
     match nodes.operand(at) {
         OperandNode::Missing => None,
@@ -41,6 +42,7 @@ pub fn part(nodes: &Nodes, at: u32) -> Option<Part>
         } => match nodes.expr(of) {
             ExprNode::Missing => None,
             ExprNode::Expr { place, ty, .. } => Some(Part {
+                at,
                 start,
                 place,
                 of,
