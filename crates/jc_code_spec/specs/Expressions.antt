@@ -1,11 +1,10 @@
 -- The code of erased expressions, one line a form (JLS 15). It leaves its value on the stack; a call of a method without a result leaves none.
-use Rattle.std.specs.Prelude.{ℕ, pos, Bool, true, false, List, [], ◌∷◌, take, Option, Some, None, is_none}
+use Rattle.std.specs.Prelude.{ℕ, Bool, true, false, List, [], ◌∷◌, take, Option, Some, None}
 use Rattle.jc_types.specs.declared.constant.Op.{Op}
 use Rattle.jc_types.specs.declared.erased.Erased.{Erased}
 use Rattle.jc_types.specs.declared.form.Primitive.TheVariants.{Boolean, Int}
 use Rattle.jc_types.specs.declared.ids.MethodId.{MethodId}
 use Rattle.jc_types.specs.declared.table.Table.{Table}
-use Rattle.jc_types.specs.Accessors.{result_of}
 use Rattle.jc_heaps.specs.Classes.{element_of}
 use Rattle.jc_meaning.specs.Programs.{method_class}
 use Rattle.jc_typed.specs.declared.expressions.CallKind.{CallKind}
@@ -19,11 +18,11 @@ use Rattle.jc_typed.specs.Bulk.{operand_count}
 use Rattle.jc_typed.specs.Trees.{Step, Widen, Narrow, BoxUp, Unbox, Up, Test, Expr, NoExpr, expr, Operand, NoOperand, operand, Form, Fixed, Null, Local, This, StaticField, Field, Element, Length, Prefix, Chain, AllOf, AnyOf, InstanceOf, Conditional, Assign, Compound, Change, Call, New, NewArray, ArrayOf, Cast, Variable, LocalVariable, StaticVariable, FieldVariable, ElementVariable, Operands, NoOperands, MoreOperands, Links, NoLinks, MoreLinks}
 use Rattle.jc_erased.specs.declared.program.ErasedProgram.{ErasedProgram}
 use Rattle.jc_right.specs.Going.{class, prim}
-use Rattle.jc_right.specs.Values.{Scene, behind_step, behind_steps, box_of, erased, local_type, operand_type, type_or_null, value_type, variable_type}
-use Rattle.jc_right.specs.Right.{chain_type, joined_type}
+use Rattle.jc_right.specs.Values.{Scene, behind_step, behind_steps, behind_tests, box_of, erased, first_tests, is_void_expr, joined_type, local_type, operand_type, type_or_null, value_type, variable_type}
+use Rattle.jc_right.specs.Right.{chain_type}
 use Rattle.jc_code_spec.specs.Naming.{class_name}
 use Rattle.jc_code_spec.specs.Pieces.{Coder, Entry, Jump, Made, Mark, New as NewPiece, Of, ◌>>◌, label, piece, skip}
-use Rattle.jc_code_spec.specs.Simple.{Sort, OfInt, OfLong, alone, all_units, arithmetic_code, array_length, call, call_final, call_special, check_cast, copy, copy_below_one, copy_below_two, cut, get_element, get_field, get_static, instance_of, int_or_long, is_shift, load, narrow, new_array, new_arrays, pair_code, pop, prefix, push_constant, push_null, push_one, push_whole, push_zero, put_element, put_field, put_static, sort_of, step_by_one, store, test_code, widen}
+use Rattle.jc_code_spec.specs.Simple.{Sort, OfInt, OfLong, alone, all_units, arithmetic_code, array_length, call, call_final, call_special, check_cast, copy, copy_below_one, copy_below_two, cut, get_element, get_field, get_static, instance_of, int_or_long, is_shift, load, narrow, new_array, new_arrays, pair_code, pop, prefix, push_constant, push_null, push_one, push_count, push_zero, put_element, put_field, put_static, sort_of, step_by_one, store, test_code, widen}
 
 -- What code stands in: the program and what the trees of a method are typed in; how many `try`s with a finally block are round it; and whether `this` is an object whose
 -- constructor ran already
@@ -54,14 +53,6 @@ abbrev pub jump : ℕ → ℕ → Coder
 jump code l = piece (Jump code l)
 
 -- no value stands behind a call of a method without a result
-abbrev pub is_void_form : Table → Form → Bool
-is_void_form T (Call kind receiver m types args phase thrown is_raw) = is_none (result_of T m)
-is_void_form T form = false
-
-abbrev pub is_void_expr : Table → Expr → Bool
-is_void_expr T NoExpr = false
-is_void_expr T (expr place ty captures form) = is_void_form T form
-
 abbrev pub is_void : Table → Operand → Bool
 is_void T NoOperand = false
 is_void T (operand place of_it ss) = is_void_expr T of_it
@@ -178,12 +169,14 @@ type_joined C joint e right = type_or_null (joined_type C.scene joint e (operand
 abbrev pub type_so_far : Setting → Operand → Links → Erased
 type_so_far C first before = type_or_null (chain_type C.scene (operand_type C.scene first) before)
 
--- `++` and `--`: what is left is the value behind the change, or a copy of the one before it
+-- `++` and `--`: what is left is the value behind the change, or a copy of the one before it, made behind the tests that its steps begin with
 abbrev pub change_code : Setting → Variable → Op → Erased → List Step → List Step → Bool → Coder
 change_code C v op e from into true =
     steps_code C e from >> step_by_one (sort_of (behind_steps C.scene e from)) op >> steps_code C (behind_steps C.scene e from) into >> copy_value v e
 change_code C v op e from into false =
-    copy_value v e >> steps_code C e from >> step_by_one (sort_of (behind_steps C.scene e from)) op >> steps_code C (behind_steps C.scene e from) into
+    let f = behind_steps C.scene e (first_tests from) in
+    steps_code C e (first_tests from) >> copy_value v f >> steps_code C f (behind_tests from)
+    >> step_by_one (sort_of (behind_steps C.scene e from)) op >> steps_code C (behind_steps C.scene e from) into
 
 -- the receiver of a static call is dropped
 abbrev pub unless_static : {A : Type 0} → CallKind → A → A → A
@@ -240,7 +233,7 @@ abbrev mutual
       label (λ l. piece (NewPiece l (class_name (table C) (method_class (table C) m))) >> alone 0x59
       >> operands_code C (Made l ∷ Made l ∷ below) args >> call_special C.program m)
   form_code C below e (NewArray lengths) = operands_code C below lengths >> new_arrays (table C) e (operand_count lengths)
-  form_code C below e (ArrayOf elements) = push_whole (pos (operand_count elements)) >> new_array (table C) e >> elements_code C below e elements
+  form_code C below e (ArrayOf elements) = push_count (operand_count elements) >> new_array (table C) e >> elements_code C below e elements
   form_code C below e (Cast of_it to ss is_below) = operand_code C below of_it >> steps_code C (operand_type C.scene of_it) ss
 
   -- the parts of a variable
@@ -268,7 +261,7 @@ abbrev mutual
   pub elements_code : Setting → List Entry → Erased → Operands → Coder
   elements_code C below e NoOperands = skip
   elements_code C below e (MoreOperands before last) =
-      elements_code C below e before >> alone 0x59 >> push_whole (pos (operand_count before))
+      elements_code C below e before >> alone 0x59 >> push_count (operand_count before)
       >> operand_code C (Of (prim Int) ∷ Of e ∷ Of e ∷ below) last >> put_element (element_of e)
 
   -- the operators of a chain group to the left (JLS 15.7.3)

@@ -88,6 +88,10 @@ push_constant (constant.Text text) = with_operand 0x13 (operand.Load (loaded.Tex
 abbrev pub push_null : Coder
 push_null = alone 0x01
 
+-- how many elements there are, or which one: below 32768 where the code is within its bound, and no constant of the pool
+abbrev pub push_count : ℕ → Coder
+push_count n = with_operand 0x11 (operand.Number (pos n))
+
 -- 0 and 1 of a sort, and its default
 abbrev pub push_zero : Coder
 push_zero = alone 0x03

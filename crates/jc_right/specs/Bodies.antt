@@ -1,10 +1,10 @@
 -- When erased statements and methods are right (JLS 14, 8.4, 8.8).
-use Rattle.std.specs.Prelude.{◌≡◌, ℕ, suc, ◌<◌, ◌≤◌, not, Bool, true, false, List, [], ◌∷◌, map, length, take, Option, Some, None}
+use Rattle.std.specs.Prelude.{◌≡◌, ℕ, suc, ◌<◌, ◌≤◌, ℤ, int_le, not, ◌&&◌, ◌||◌, Bool, true, false, List, [], ◌∷◌, map, length, take, Option, Some, None}
 use Rattle.jc_types.specs.declared.declarations.MethodKind.{MethodKind}
 use Rattle.jc_types.specs.declared.declarations.MethodKind.TheVariants as method_kind
 use Rattle.jc_types.specs.declared.declarations.Modifiers.{Modifiers}
 use Rattle.jc_types.specs.declared.erased.Erased.{Erased}
-use Rattle.jc_types.specs.declared.form.Primitive.TheVariants.{Boolean}
+use Rattle.jc_types.specs.declared.form.Primitive.TheVariants.{Boolean, Int}
 use Rattle.jc_types.specs.declared.form.Ty.{Ty}
 use Rattle.jc_types.specs.declared.ids.FieldId.{FieldId}
 use Rattle.jc_types.specs.declared.ids.MethodId.{MethodId}
@@ -22,9 +22,9 @@ use Rattle.jc_typed.specs.Bulk.{operand_count}
 use Rattle.jc_typed.specs.Copies.{is_among}
 use Rattle.jc_typed.specs.Parts.{stmts_of, stmt_of}
 use Rattle.jc_typed.specs.Trees.{Case, Step, Operands, NoOperands, MoreOperands, Declared, NoDeclared, MoreDeclared, Stmt, stmt, StmtForm, Empty, Block, Locals, Effect, If, Labelled, While, Do, For, ForArray, ForIterable, Switch, Return, Break, Continue, Throw, Try, Construct, Initialise, Stmts, NoStmts, MoreStmts, Arms, NoArms, MoreArms, Catches, NoCatches, MoreCatches}
-use Rattle.jc_right.specs.Going.{class, is_small, prim, prim_of, throwable}
+use Rattle.jc_right.specs.Going.{class, in_range, is_small, prim, prim_of, throwable}
 use Rattle.jc_right.specs.Values.{Scene, behind_steps, declared_type, erased, field_erased, local_type, operand_type}
-use Rattle.jc_right.specs.Right.{Is, Goes, prim_passes, RightSteps, RightOperand, RightTo, RightDropped, RightArgs, in_modifiers, is_constructor, is_field, owner}
+use Rattle.jc_right.specs.Right.{Is, Goes, prim_passes, RightSteps, RightDone, RightOperand, RightTo, RightDropped, RightArgs, in_modifiers, is_constructor, is_field, owner}
 
 -- inside a statement that `break` may name, and inside a loop, which `continue` may name too (JLS 14.15, 14.16)
 abbrev pub inside : Scene → ℕ → Scene
@@ -32,6 +32,10 @@ inside S target = record S { breaks = target ∷ S.breaks }
 
 abbrev pub in_loop : Scene → ℕ → Scene
 in_loop S target = record S { breaks = target ∷ S.breaks; continues = target ∷ S.continues }
+
+-- no statement round one that may be named has its number
+abbrev pub IsFresh : Scene → ℕ → Type 0
+IsFresh S target = Is (not (is_among target S.breaks))
 
 -- at most one operand, which goes where an erased type is wanted
 abbrev pub RightOptional : Scene → Erased → Operands → Type 0
@@ -53,10 +57,22 @@ RightDeclared S (MoreDeclared before place n value) = RightDeclared S before × 
 abbrev pub RightTaken : Scene → Erased → List Step → ℕ → Type 0
 RightTaken S e ss n = RightSteps S e ss × (n < length S.locals) × Goes S (behind_steps S e ss) (local_type S n)
 
--- labels stand at statements of the `switch` (JLS 14.11)
+-- labels stand at statements of the `switch`; each number is an int, and no two are the same (JLS 14.11)
+abbrev pub is_key : ℤ → Option ℤ → Bool
+is_key n None = false
+is_key n (Some m) = int_le n m && int_le m n
+
+abbrev pub has_key : ℤ → List Case → Bool
+has_key n [] = false
+has_key n (c ∷ cs) = is_key n c.key || has_key n cs
+
+abbrev pub KeyRight : Option ℤ → List Case → Type 0
+KeyRight None cs = Unit {0}
+KeyRight (Some n) cs = Is (in_range Int n) × Is (not (has_key n cs))
+
 abbrev pub CasesWithin : ℕ → List Case → Type 0
 CasesWithin n [] = Unit {0}
-CasesWithin n (c ∷ cs) = (c.skips ≤ n) × CasesWithin n cs
+CasesWithin n (c ∷ cs) = (c.skips ≤ n) × KeyRight c.key cs × CasesWithin n cs
 
 -- how many statements a list has
 abbrev pub stmt_count : Stmts → ℕ
@@ -82,20 +98,20 @@ abbrev mutual
   RightStmtForm S Empty = Unit {0}
   RightStmtForm S (Block ss) = RightStmts S ss
   RightStmtForm S (Locals ds) = RightDeclared S ds
-  RightStmtForm S (Effect of_it) = RightOperand S of_it
+  RightStmtForm S (Effect of_it) = RightDone S of_it
   RightStmtForm S (If arms other) = RightArms S arms × RightStmts S other
-  RightStmtForm S (Labelled target body) = RightStmt (inside S target) body
-  RightStmtForm S (While target test body) = RightTo S (prim Boolean) test × RightStmt (in_loop S target) body
-  RightStmtForm S (Do target body test) = RightStmt (in_loop S target) body × RightTo S (prim Boolean) test
+  RightStmtForm S (Labelled target body) = IsFresh S target × RightStmt (inside S target) body
+  RightStmtForm S (While target test body) = IsFresh S target × RightTo S (prim Boolean) test × RightStmt (in_loop S target) body
+  RightStmtForm S (Do target body test) = IsFresh S target × RightStmt (in_loop S target) body × RightTo S (prim Boolean) test
   RightStmtForm S (For target ds before test update body) =
-      RightDeclared S ds × RightDropped S before × RightOptional S (prim Boolean) test × RightDropped S update × RightStmt (in_loop S target) body
+      IsFresh S target × RightDeclared S ds × RightDropped S before × RightOptional S (prim Boolean) test × RightDropped S update × RightStmt (in_loop S target) body
   RightStmtForm S (ForArray target of_it ty captures ss n body) =
-      RightOperand S of_it × Is (is_array (operand_type S of_it)) × RightTaken S (element_of (operand_type S of_it)) ss n × RightStmt (in_loop S target) body
+      IsFresh S target × RightOperand S of_it × Is (is_array (operand_type S of_it)) × RightTaken S (element_of (operand_type S of_it)) ss n × RightStmt (in_loop S target) body
   RightStmtForm S (ForIterable target of_it ty captures ss n body) =
-      RightTo S (owner S.table S.known.iterating.iterator) of_it × RightTaken S (declared_type S (result_of S.table S.known.iterating.next)) ss n
+      IsFresh S target × RightTo S (owner S.table S.known.iterating.iterator) of_it × RightTaken S (declared_type S (result_of S.table S.known.iterating.next)) ss n
       × RightStmt (in_loop S target) body
   RightStmtForm S (Switch target of_it cases ss) =
-      RightOperand S of_it × Is (prim_passes is_small (prim_of (operand_type S of_it))) × CasesWithin (stmt_count ss) cases × RightStmts (inside S target) ss
+      IsFresh S target × RightOperand S of_it × Is (prim_passes is_small (prim_of (operand_type S of_it))) × CasesWithin (stmt_count ss) cases × RightStmts (inside S target) ss
   RightStmtForm S (Return value) = RightValue S S.result value
   RightStmtForm S (Break target) = Is (is_among target S.breaks)
   RightStmtForm S (Continue target) = Is (is_among target S.continues)
@@ -117,7 +133,7 @@ abbrev mutual
 
   pub RightCatches : Scene → Catches → Type 0
   RightCatches S NoCatches = Unit {0}
-  RightCatches S (MoreCatches before place n types body) = RightCatches S before × (n < length S.locals) × RightAlternatives S n types × RightStmt S body
+  RightCatches S (MoreCatches before place n types body) = RightCatches S before × (0 < length types) × (n < length S.locals) × RightAlternatives S n types × RightStmt S body
 
 -- whether a method has a receiver, which is its variable number 0: neither a static method nor a static initialiser has one
 abbrev pub has_receiver : Option MethodKind → Option Modifiers → Bool

@@ -1,5 +1,5 @@
 -- When erased expressions are right (JLS 15).
-use Rattle.std.specs.Prelude.{◌≡◌, ◌<◌, ◌≤◌, Bool, true, false, not, ◌&&◌, List, [], ◌∷◌, length, Option, Some, None, slice_get}
+use Rattle.std.specs.Prelude.{◌≡◌, ◌⊎◌, ◌<◌, ◌≤◌, Bool, true, false, not, ◌&&◌, List, [], ◌∷◌, length, Option, Some, None, slice_get}
 use Rattle.jc_types.specs.declared.constant.Op.{Op}
 use Rattle.jc_types.specs.declared.declarations.Access.{Access}
 use Rattle.jc_types.specs.declared.declarations.Access.TheVariants as access
@@ -19,11 +19,10 @@ use Rattle.jc_heaps.specs.Layout.{field_class, is_static, or_object}
 use Rattle.jc_typed.specs.declared.expressions.CallKind.{CallKind}
 use Rattle.jc_typed.specs.declared.expressions.CallKind.TheVariants.{Static, Virtual, Direct}
 use Rattle.jc_typed.specs.declared.expressions.Joint.{Joint}
-use Rattle.jc_typed.specs.declared.expressions.Joint.TheVariants.{Operator, Concat}
 use Rattle.jc_typed.specs.Bulk.{operand_count}
 use Rattle.jc_typed.specs.Trees.{Step, Widen, Narrow, BoxUp, Unbox, Up, Test, Expr, NoExpr, expr, Operand, NoOperand, operand, Form, Fixed, Null, Local, This, StaticField, Field, Element, Length, Prefix, Chain, AllOf, AnyOf, InstanceOf, Conditional, Assign, Compound, Change, Call, New, NewArray, ArrayOf, Cast, Variable, LocalVariable, StaticVariable, FieldVariable, ElementVariable, Operands, NoOperands, MoreOperands, Links, NoLinks, MoreLinks}
-use Rattle.jc_right.specs.Going.{prim, class, prim_of, is_null, is_number, is_printed, is_reference, goes, widens, takes_prefix, operated_type, stepped_type, constant_goes}
-use Rattle.jc_right.specs.Values.{Scene, behind_step, behind_steps, box_class, erased, local_type, operand_type, value_type, variable_type}
+use Rattle.jc_right.specs.Going.{prim, class, prim_of, is_null, is_number, is_reference, goes, widens, takes_prefix, stepped_type, constant_goes}
+use Rattle.jc_right.specs.Values.{Scene, behind_step, behind_steps, box_class, erased, is_void_expr, joined_type, local_type, operand_type, value_type, variable_type}
 
 -- a truth that is computed
 abbrev pub Is : Bool → Type 0
@@ -45,7 +44,7 @@ takes_step S e (Narrow p) = prim_passes is_number (prim_of e) && is_number p
 takes_step S e (BoxUp p) = same_erased e (prim p)
 takes_step S e (Unbox p) = goes S.table e (box_class S p)
 takes_step S e (Up t unchecked) = is_reference e && is_reference (erased S t)
-takes_step S e (Test check to) = is_reference e && is_reference to
+takes_step S e (Test check to) = is_reference e && is_reference to && not (is_null to)
 
 -- .. one step after the other
 abbrev pub RightSteps : Scene → Erased → List Step → Type 0
@@ -99,15 +98,6 @@ abbrev pub all_take : List Op → Primitive → Bool
 all_take [] p = true
 all_take (op ∷ ops) p = takes_prefix op p && all_take ops p
 
--- what a joint gives between values of two types, if it takes them: string `+` a String, where `valueOf` takes both operands
-abbrev pub concat_type : Scene → Bool → Option Erased
-concat_type S true = Some (class S.known.string)
-concat_type S false = None
-
-abbrev pub joined_type : Scene → Joint → Erased → Erased → Option Erased
-joined_type S (Operator op) e f = operated_type op e f
-joined_type S (Concat left right) e f = concat_type S (is_printed left (prim_of e) && is_printed right (prim_of f))
-
 -- an erased type that is there and is this one
 abbrev pub is_type : Erased → Option Erased → Bool
 is_type e None = false
@@ -154,7 +144,12 @@ abbrev mutual
 
   pub RightOperand : Scene → Operand → Type 0
   RightOperand S NoOperand = ⊥
-  RightOperand S (operand place of_it ss) = RightExpr S of_it × RightSteps S (value_type S of_it) ss
+  RightOperand S (operand place of_it ss) = RightExpr S of_it × Is (not (is_void_expr S.table of_it)) × RightSteps S (value_type S of_it) ss
+
+  -- an operand whose value is dropped: a call of a method without a result has none, and no steps
+  pub RightDone : Scene → Operand → Type 0
+  RightDone S NoOperand = ⊥
+  RightDone S (operand place of_it ss) = RightExpr S of_it × RightSteps S (value_type S of_it) ss × (Is (not (is_void_expr S.table of_it)) ⊎ (ss ≡ []))
 
   -- by the form of the expression, of which `e` is the erased static type
   pub RightForm : Scene → Erased → Form → Type 0
@@ -168,9 +163,9 @@ abbrev mutual
   RightForm S e (Length array) = RightOperand S array × Is (is_array (operand_type S array)) × Is (same_erased e (prim Int))
   RightForm S e (Prefix ops of_it) = RightOperand S of_it × Is (same_erased e (operand_type S of_it)) × Is (prim_passes (all_take ops) (prim_of e))
   RightForm S e (Chain first links) = RightOperand S first × RightLinks S (operand_type S first) links × Is (is_type e (chain_type S (operand_type S first) links))
-  RightForm S e (AllOf os from up_to) = RightEach S (prim Boolean) os × Is (same_erased e (prim Boolean))
-  RightForm S e (AnyOf os from up_to) = RightEach S (prim Boolean) os × Is (same_erased e (prim Boolean))
-  RightForm S e (InstanceOf of_it to) = RightOperand S of_it × Is (is_reference (operand_type S of_it)) × Is (is_reference to) × Is (same_erased e (prim Boolean))
+  RightForm S e (AllOf os from up_to) = RightEach S (prim Boolean) os × (2 ≤ operand_count os) × Is (same_erased e (prim Boolean))
+  RightForm S e (AnyOf os from up_to) = RightEach S (prim Boolean) os × (2 ≤ operand_count os) × Is (same_erased e (prim Boolean))
+  RightForm S e (InstanceOf of_it to) = RightOperand S of_it × Is (is_reference (operand_type S of_it)) × Is (is_reference to && not (is_null to)) × Is (same_erased e (prim Boolean))
   RightForm S e (Conditional test first second from up_to) = RightTo S (prim Boolean) test × RightTo S e first × RightTo S e second
   RightForm S e (Assign variable value store) =
       RightVariable S variable × RightOperand S value × RightSteps S (operand_type S value) store
@@ -195,7 +190,8 @@ abbrev mutual
   -- an operand goes where an erased type is wanted
   pub RightTo : Scene → Erased → Operand → Type 0
   RightTo S e NoOperand = ⊥
-  RightTo S e (operand place of_it ss) = RightExpr S of_it × RightSteps S (value_type S of_it) ss × Goes S (behind_steps S (value_type S of_it) ss) e
+  RightTo S e (operand place of_it ss) =
+      RightExpr S of_it × Is (not (is_void_expr S.table of_it)) × RightSteps S (value_type S of_it) ss × Goes S (behind_steps S (value_type S of_it) ss) e
 
   -- what is assigned
   pub RightVariable : Scene → Variable → Type 0
@@ -207,7 +203,7 @@ abbrev mutual
   -- operands that are evaluated and dropped; all of one type; and the arguments of parameters, each by how many stand before it
   pub RightDropped : Scene → Operands → Type 0
   RightDropped S NoOperands = Unit {0}
-  RightDropped S (MoreOperands before last) = RightDropped S before × RightOperand S last
+  RightDropped S (MoreOperands before last) = RightDropped S before × RightDone S last
 
   pub RightEach : Scene → Erased → Operands → Type 0
   RightEach S e NoOperands = Unit {0}
