@@ -1,9 +1,8 @@
 -- Answers stay what they are where the arena grows.
-use Rattle.std.proofs.Common.{◌≡◌, refl, ap, ◌∙◌, ℕ, ◌<◌, List, [], ◌∷◌, ◌++◌, length}
+use Rattle.std.proofs.Common.{◌≡◌, refl, ap, ℕ, List, [], ◌∷◌, ◌++◌, length}
 use Rattle.jc_typed.specs.declared.nodes.Node.{Node}
 use Rattle.jc_typed.specs.Parts.{Grows}
 use Rattle.jc_typed.proofs.Growing.{within}
-use Rattle.jc_stmts_spec.specs.Courses.{Answer}
 use Rattle.jc_stmts_answers.specs.declared.answers.AnswerAt.{AnswerAt}
 use Rattle.jc_stmts_answers.specs.declared.answers.AnswerAt.TheVariants as a
 use Rattle.jc_stmts_answers.specs.Answers.{AnswerBelow, AnswersBelow, answer_of, answers_of}
