@@ -1,0 +1,11 @@
+-- Lists that are turned.
+use Rattle.std.proofs.Common.{◌≡◌, List, [], ◌∷◌, ◌++◌, reverse}
+use Rattle.std.proofs.lemmas.List.{reverse-reverse, reverse-append}
+
+pub turned_twice : {A : Type 0} (xs : List A) → reverse (reverse xs) ≡ xs
+turned_twice xs = reverse-reverse xs
+
+pub turned_more : {A : Type 0} (xs : List A) (x : A) → reverse (xs ++ x ∷ []) ≡ x ∷ reverse xs
+turned_more xs x = reverse-append xs (x ∷ [])
+
+pub ruleset turning = (turned_twice, turned_more)
