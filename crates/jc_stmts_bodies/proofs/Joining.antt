@@ -1,0 +1,4 @@
+-- Lists that follow one another.
+use Rattle.std.proofs.Common.{append_assoc, append-nil}
+
+pub ruleset joining = (append_assoc, append-nil)

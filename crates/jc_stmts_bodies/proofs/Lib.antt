@@ -1,0 +1,3 @@
+pub mod ByParts
+pub mod Joining
+pub mod Parts
