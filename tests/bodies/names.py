@@ -76,10 +76,11 @@ INT = Value(["int"])
 
 
 class Place:
-    """A place in a body: its class, whether there is an instance, and its locals."""
+    """A place in a body: its class, its locals, and the rule that a use of the instance breaks: 611 in a static place, 620 before there is one, or None; in an initialiser `later` are the fields that are declared
+    behind it, and static or not as it is itself."""
 
-    def __init__(self, types, at, is_static, local):
-        self.types, self.at, self.is_static, self.local = types, at, is_static, local
+    def __init__(self, types, at, instance, local, later=()):
+        self.types, self.at, self.instance, self.local, self.later = types, at, instance, local, later
 
     # names
 
@@ -98,10 +99,18 @@ class Place:
             if len(found) > 1:
                 raise Broken(622)
             if found:
-                if not found[0][1][1] and (self.is_static or one is not self.at):
-                    raise Broken(611)
+                self.ask_instance(one, found[0][1][1])
+                if found[0][0] is self.at and name in self.later:
+                    raise Broken(626)
                 return self.value(found[0][1][0])
         return self.find_type(name)
+
+    def ask_instance(self, one, is_static):
+        """A member of a class round the place, by its simple name."""
+        if not is_static and one is not self.at:
+            raise Broken(611)
+        if not is_static and self.instance:
+            raise Broken(self.instance)
 
     @staticmethod
     def value(kind):
@@ -109,8 +118,8 @@ class Place:
 
     def start(self, name):
         if name in ("this", "super"):
-            if self.is_static:
-                raise Broken(611)
+            if self.instance:
+                raise Broken(self.instance)
             return Value([self.at if name == "this" else self.at.above[0] if self.at.above else None])
         return self.simple(name)
 
@@ -167,8 +176,7 @@ class Place:
     def call_here(self, kind):
         for one in self.at.round():
             if one.members():
-                if not self.choose(one.members(), kind, False)[1][0] and (self.is_static or one is not self.at):
-                    raise Broken(611)
+                self.ask_instance(one, self.choose(one.members(), kind, False)[1][0])
                 return INT
         raise Broken(603)
 
@@ -270,9 +278,12 @@ class Drawing:
         if faces:
             head += (" extends " if one.is_interface else " implements ") + ", ".join(kind.name for kind in faces)
         self.lines.append(indent + head + " {")
-        for name, (kind, is_static, is_private) in one.fields.items():
-            words = "" if one.is_interface else ("private " if is_private else "") + ("static " if is_static else "")
-            self.lines.append("%s    %s%s %s%s;" % (indent, words, kind if kind == "int" else kind.name, name, " = 1" if one.is_interface else ""))
+        later = set() if one.is_interface else {name for name in one.fields if self.lot.random() < 0.5}
+        self.declare(one, indent + "    ", [name for name in one.fields if name not in later])
+        if not one.is_interface:
+            self.initialisers(one, indent + "    ", later)
+            self.constructors(one, indent + "    ")
+        self.declare(one, indent + "    ", later)
         for param, (is_static, is_private) in one.methods.items():
             self.lines.append("%s    %s%sint m(%s a) { return 1; }" % (indent, "private " if is_private else "", "static " if is_static else "", param))
         for inner in one.nested.values():
@@ -281,6 +292,39 @@ class Drawing:
             self.uses(one, indent + "    ", False)
             self.uses(one, indent + "    ", True)
         self.lines.append(indent + "}")
+
+    def declare(self, one, indent, fields):
+        for name in sorted(fields):
+            kind, is_static, is_private = one.fields[name]
+            words = "" if one.is_interface else ("private " if is_private else "") + ("static " if is_static else "")
+            self.lines.append("%s%s%s %s%s;" % (indent, words, kind if kind == "int" else kind.name, name, " = 1" if one.is_interface else ""))
+
+    def use(self, place, starts, before, behind):
+        """A line with a use of a name."""
+        lot = self.lot
+        parts = [lot.choice(starts)] + [lot.choice(FIELDS) for _ in range(lot.choice([0, 0, 1, 1, 1, 2]))]
+        text, kind = "", None
+        if lot.random() < 0.4:
+            argument, kind = lot.choice(ARGUMENTS if "o" in place.local else ARGUMENTS[:2])
+            text = "(%s)" % argument
+            parts = parts + ["m"] if lot.random() < 0.75 else ["m"]
+        if parts[0] == "super" and (len(parts) == 1 or not place.at.above or place.at.above[0].is_interface):
+            return
+        self.lines.append(before + ".".join(parts) + text + behind)
+        self.rules[len(self.lines)] = place.rule(parts, kind)
+
+    def initialisers(self, one, indent, later):
+        for is_static in (False, True):
+            place = Place(self.types, one, 611 if is_static else None, {}, {name for name in later if one.fields[name][1] == is_static})
+            for number in range(6):
+                self.use(place, list(self.types) + FIELDS * 2 + ["this", "super"], "%s%sObject %s%d = " % (indent, "static " if is_static else "", "s" if is_static else "f", number), ";")
+
+    def constructors(self, one, indent):
+        self.lines.append("%s%s() { }" % (indent, one.name))
+        self.lines.append("%s%s(Object o) { }" % (indent, one.name))
+        place = Place(self.types, one, 620, {"a": INT})
+        for number in range(6):
+            self.use(place, ["a"] + list(self.types) + FIELDS * 2 + ["this", "super"], "%s%s(int a, int%s b) { this((Object) " % (indent, one.name, "[]" * number), "); }")
 
     def uses(self, one, indent, is_static):
         lot = self.lot
@@ -295,20 +339,9 @@ class Drawing:
             params.append("%s %s" % (kind if kind == "int" else kind.name, name))
         words = "static " if is_static else ""
         self.lines.append("%s%s<T extends %s, U extends %s & %s> void %s(%s) {" % (indent, words, bound.name, bound.name, face.name, "s" if is_static else "i", ", ".join(params)))
-        place = Place(self.types, one, is_static, local)
-        starts = list(local) + list(self.types) + FIELDS + ["this", "super", "nowhere"]
+        place = Place(self.types, one, 611 if is_static else None, local)
         for _ in range(14):
-            parts = [lot.choice(starts)] + [lot.choice(FIELDS) for _ in range(lot.choice([0, 0, 1, 1, 1, 2]))]
-            kind = None
-            if lot.random() < 0.4:
-                text, kind = lot.choice(ARGUMENTS)
-                parts = parts + ["m"] if lot.random() < 0.75 else ["m"]
-            if parts == ["super"] or parts[0] == "super" and not one.above:
-                continue
-            if parts[0] == "super" and one.above[0].is_interface:
-                continue
-            self.lines.append("%s    o = %s%s;" % (indent, ".".join(parts), "" if kind is None else "(%s)" % text))
-            self.rules[len(self.lines)] = place.rule(parts, kind)
+            self.use(place, list(local) + list(self.types) + FIELDS + ["this", "super", "nowhere"], indent + "    o = ", ";")
         self.lines.append(indent + "}")
 
     def without(self, kept):

@@ -17,7 +17,14 @@ ARRAYS = {"int[]": "int", "long[]": "long", "Integer[]": "Integer", "Number[]": 
 TYPES = PRIMS + list(UNBOXED) + ["String", "Object", "Number", "Comparable<Integer>", "Comparable<String>", "Comparable<?>", "B", "D", "I", "F", "List<String>", "List<Integer>", "List<?>"] \
     + list(ARRAYS) + list(VARS) + ["null"]
 HEAD = ["import java.util.List;", "interface I { }", "class B implements I { }", "class D extends B { }", "final class F { }",
-        "class A<T, U extends Number, V extends Integer, W extends Boolean, S extends String> {", "    boolean yes;"]
+        "class G<X> { X v; X get() { return v; } void set(X x) { } X[] all() { return null; } }", "class H<X extends Number> extends G<X> { }",
+        "class A<T, U extends Number, V extends Integer, W extends Boolean, S extends String> {", "    boolean yes;", "    static <X> X first(List<X> l) { return null; }", "    static <X> void into(List<? super X> l, X x) { }"]
+# what G, H or List has as its argument: the types above what is read, and the type below it, from which values are stored
+ARGUMENTS = {"": (["Object"], "Object"), "<?>": (["Object"], None), "<? extends Number>": (["Number"], None), "<? extends Integer>": (["Integer"], None), "<? super Integer>": (["Object"], "Integer"),
+             "<Integer>": (["Integer"], "Integer"), "<String>": (["String"], "String"), "<? extends Comparable<?>>": (["Comparable<?>"], None), "<T>": (["T"], "T"), "<? extends U>": (["U"], None),
+             "<? super V>": (["Object"], "V"), "<? extends int[]>": (["int[]"], None), "<int[]>": (["int[]"], "int[]"), "<? super String>": (["Object"], "String")}
+# .. behind H, whose parameter has the bound Number
+BOUNDED = ["", "<?>", "<? extends Integer>", "<? extends Comparable<?>>", "<Integer>", "<? super Integer>"]
 # constants: text, type and value
 CONSTANTS = [("5", "int", 5), ("200", "int", 200), ("-1", "int", -1), ("70000", "int", 70000), ("'a'", "char", 97), ("(byte) 7", "byte", 7), ("(short) 300", "short", 300), ("6L", "long", 6)]
 RANGES = {"byte": (-128, 127), "short": (-32768, 32767), "char": (0, 65535)}
@@ -236,15 +243,47 @@ def of_constants():
             yield "switch (%s) { case %s: }" % (field(kind), text), 0 if invoked(low, kind, value) else 607
 
 
+def generic_types():
+    """Each parameterized or raw type, with the types above what is read of it, and the one below."""
+    for argument, (uppers, lower) in ARGUMENTS.items():
+        yield "G" + argument, uppers, lower
+        yield "List" + argument, uppers, lower
+        if argument in BOUNDED:
+            # behind the raw H its superclass is raw too (JLS 4.8)
+            yield "H" + argument, uppers + ["Number"] * (argument != ""), lower
+
+
+def of_arguments():
+    values = [(field(kind), kind, None) for kind in TYPES] + CONSTANTS
+    for kind, uppers, lower in generic_types():
+        it = field("g" + kind)
+        if kind.startswith("List"):
+            for high in TYPES:
+                if high != "null":
+                    taken = any(invoked(up, high) for up in uppers)
+                    yield "for (%s q : %s) { }" % (high, it), 0 if taken else 607
+                    yield "%s = %s.get(0);" % (field(high), it), 0 if taken else 607
+                    yield "%s = first(%s);" % (field(high), it), 0 if taken else 607
+            continue
+        for high in TYPES:
+            if high != "null":
+                for text in (".v", ".get()", ".all()[0]"):
+                    yield "%s = %s%s;" % (field(high), it, text), 0 if any(invoked(up, high) for up in uppers) else 607
+        for text, low, value in values:
+            yield "%s.v = %s;" % (it, text), 0 if low == "null" or lower and invoked(low, lower, value) else 607
+            yield "%s.set(%s);" % (it, text), 0 if low == "null" or lower and invoked(low, lower) else 604
+
+
 def statements():
     yield from plain()
     yield from of_two()
     yield from of_constants()
+    yield from of_arguments()
 
 
 def lines():
     """The class with a method for each statement, a line each, and the lines of the statements with their rules."""
-    made = HEAD + ["    %s %s;" % (kind, field(kind)) for kind in TYPES if kind != "null"]
+    made = HEAD + ["    %s %s;" % (kind, field(kind)) for kind in TYPES if kind != "null"] + ["    %s %s;" % (kind, field("g" + kind)) for kind, _, _ in generic_types()]
     rules = {}
     for number, (text, rule) in enumerate(statements()):
         made.append("    void m%d() { %s }" % (number, text))
