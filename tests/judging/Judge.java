@@ -35,7 +35,7 @@ public class Judge {
             String[] words = line.split("\t");
             List<String> options = new ArrayList<>(Arrays.asList(args).subList(1, args.length));
             Path made = Files.createDirectory(Path.of(args[0], "made" + number));
-            options.addAll(List.of("-proc:none", "-nowarn", "-Xlint:none", "-implicit:none", "-encoding", "UTF-8", "-Xmaxerrs", "1000", "-cp", nothing.toString(),
+            options.addAll(List.of("-proc:none", "-nowarn", "-Xlint:none", "-implicit:none", "-encoding", "UTF-8", "-Xmaxerrs", "1000000", "-cp", nothing.toString(),
                 "-sourcepath", nothing.toString(), "-d", made.toString()));
             List<File> files = new ArrayList<>();
             for (String name : Arrays.asList(words).subList(1, words.length)) {

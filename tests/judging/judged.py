@@ -1,7 +1,8 @@
 """Cases of sources with what is to be said of them, and what javac and the program say.
 
 A case is a folder with sources and these files: `files`, the order of its sources; `expected`, one line, `ok` or `FILE:LINE: error NUMBER`, the
-least break by file, place and number; `why`, where javac judges otherwise, one line with the reason; `rule`, where docs/RULES.md shows the case.
+least break by file, place and number; `why`, where javac judges otherwise, one line with the reason; `rule`, where docs/RULES.md shows the case; `javac`, if
+it is there, what javac says of the case with Java's own library, a line each.
 
 javac judges each case twice: with Java's own library of release 7, and with javag's library as its platform. It agrees where it takes what is
 `ok`, and else where its least error stands in the expected line and an error of that line is of the expected sort. Where it doesn't agree
@@ -93,6 +94,11 @@ def library(room):
     return made
 
 
+def told(errors):
+    """What a file `javac` has of these errors."""
+    return "".join("%s:%s: %s\n" % (error[0], error[1], error[2]) for error in errors) or "nothing\n"
+
+
 def difference(case, errors, sorts_of):
     """What javac says otherwise than the case expects, or None. `sorts_of` has the names that javac gives the errors of a rule."""
     if case.rule == 0:
@@ -114,6 +120,8 @@ def against_javac(cases, sorts_of, room):
     first = judge(room, cases, ["--release", "7"])
     second = judge(room, cases, ["-source", "7", "-target", "7", "-bootclasspath", own])
     for case, theirs, ours in zip(cases, first, second):
+        if os.path.exists(os.path.join(case.folder, "javac")) and read(case.folder, "javac") != told(theirs):
+            yield "of %s javac says another thing than its file: %s" % (case.name, told(theirs))
         said = [(what, difference(case, errors, sorts_of)) for what, errors in (("", theirs), (" with javag's library", ours))]
         said = ["javac%s %s" % one for one in said if one[1]]
         line = "%s expects %s: %s" % (case.name, case.expected, "; ".join(said))

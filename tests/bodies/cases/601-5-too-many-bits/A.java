@@ -1,0 +1,3 @@
+class A {
+    long a = 0x1FFFFFFFF;
+}

@@ -1,0 +1,9 @@
+class A {
+    int m() {
+        {
+            int a = 1;
+            a++;
+        }
+        return a;
+    }
+}

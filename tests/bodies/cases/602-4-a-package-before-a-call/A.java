@@ -1,0 +1,6 @@
+class A {
+    void m() {
+        nowhere.go();
+        other.place.go();
+    }
+}

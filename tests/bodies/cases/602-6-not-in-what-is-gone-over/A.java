@@ -1,0 +1,7 @@
+class A {
+    void m() {
+        for (int[] a : a) {
+            m();
+        }
+    }
+}

@@ -1,0 +1,8 @@
+class B {
+    int f;
+}
+class A {
+    int m(B b) {
+        return b.g;
+    }
+}

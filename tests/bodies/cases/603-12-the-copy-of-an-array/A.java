@@ -1,0 +1,5 @@
+class A {
+    Object m(int[] a) {
+        return a.length + a.clone().length;
+    }
+}

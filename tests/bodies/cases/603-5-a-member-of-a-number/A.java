@@ -1,0 +1,5 @@
+class A {
+    String m(int a) {
+        return a.toString();
+    }
+}

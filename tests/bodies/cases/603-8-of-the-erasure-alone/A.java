@@ -1,0 +1,10 @@
+class B {
+}
+class C extends B {
+    int f;
+}
+class A<T extends B> {
+    int m(T t) {
+        return t.f;
+    }
+}

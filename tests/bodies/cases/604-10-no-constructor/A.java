@@ -1,0 +1,8 @@
+class B {
+    B(int a) { }
+}
+class A {
+    Object m() {
+        return new B("s");
+    }
+}

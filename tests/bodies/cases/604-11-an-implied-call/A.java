@@ -1,0 +1,6 @@
+class B {
+    B(int a) { }
+}
+class A extends B {
+    A() { }
+}

@@ -1,0 +1,5 @@
+class B {
+    B(int a) { }
+}
+class A extends B {
+}

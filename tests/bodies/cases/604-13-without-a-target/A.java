@@ -1,0 +1,8 @@
+class A {
+    static <T> T make() {
+        return null;
+    }
+    void m(String s) {
+        m(make());
+    }
+}

@@ -1,0 +1,6 @@
+class A {
+    void go(byte b) { }
+    void m() {
+        go(1);
+    }
+}

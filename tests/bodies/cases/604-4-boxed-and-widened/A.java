@@ -1,0 +1,6 @@
+class A {
+    void go(Long a) { }
+    void m() {
+        go(1);
+    }
+}

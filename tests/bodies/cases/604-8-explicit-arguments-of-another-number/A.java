@@ -1,0 +1,6 @@
+class A {
+    <T> void go(T t) { }
+    void m() {
+        this.<String, String>go("s");
+    }
+}

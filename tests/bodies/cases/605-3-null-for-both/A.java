@@ -1,0 +1,7 @@
+class A {
+    void k(String s) { }
+    void k(Integer i) { }
+    void m() {
+        k(null);
+    }
+}

@@ -1,0 +1,6 @@
+class A {
+    String m(Object o) {
+        String s = o;
+        return s;
+    }
+}

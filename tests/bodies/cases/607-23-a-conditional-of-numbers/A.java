@@ -1,0 +1,5 @@
+class A {
+    byte m(boolean b) {
+        return b ? 1 : 2;
+    }
+}

@@ -1,0 +1,5 @@
+class A {
+    void m(boolean b, char c, int i) {
+        char d = b ? c : i;
+    }
+}

@@ -1,0 +1,5 @@
+class A {
+    void m(boolean b, char c) {
+        char d = b ? c : -1;
+    }
+}

@@ -1,0 +1,6 @@
+class A {
+    void m(boolean b, byte y) {
+        byte d = b ? y : 97;
+        byte e = b ? y : 'a';
+    }
+}

@@ -1,0 +1,4 @@
+class A {
+    byte a = 127;
+    byte b = 128;
+}

@@ -1,0 +1,3 @@
+class A {
+    Long a = 1;
+}

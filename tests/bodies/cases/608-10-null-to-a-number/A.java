@@ -1,0 +1,4 @@
+class A {
+    Object a = (String) null;
+    int b = (int) null;
+}

@@ -1,0 +1,7 @@
+import java.util.ArrayList;
+import java.util.List;
+class A {
+    Object m() {
+        return (List<String>) new ArrayList<>();
+    }
+}

@@ -1,0 +1,5 @@
+class A {
+    int m(boolean b) {
+        return (int) b;
+    }
+}

@@ -1,0 +1,5 @@
+class A {
+    byte m(Integer i) {
+        return (byte) i;
+    }
+}

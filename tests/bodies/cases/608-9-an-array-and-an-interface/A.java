@@ -1,0 +1,6 @@
+interface I { }
+class A {
+    Object m(I i) {
+        return (int[]) i;
+    }
+}

@@ -1,0 +1,5 @@
+class A {
+    boolean m(int a, Boolean b) {
+        return b && !b || a && b;
+    }
+}

@@ -1,0 +1,5 @@
+class A<T> {
+    void m(T t) {
+        t += "a";
+    }
+}

@@ -1,0 +1,8 @@
+class A {
+    void go() { }
+    void m() {
+        go();
+        this.go();
+        Object o = go();
+    }
+}

@@ -1,0 +1,6 @@
+class A {
+    void go() { }
+    void m() {
+        this.go().hashCode();
+    }
+}

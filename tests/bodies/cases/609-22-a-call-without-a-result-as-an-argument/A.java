@@ -1,0 +1,6 @@
+class A {
+    void go() { }
+    void m(Object o) {
+        m((go()));
+    }
+}

@@ -1,0 +1,6 @@
+class A {
+    void go() { }
+    int m() {
+        return go();
+    }
+}

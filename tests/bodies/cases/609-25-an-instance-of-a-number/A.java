@@ -1,0 +1,5 @@
+class A {
+    boolean m(int i) {
+        return i instanceof Object;
+    }
+}

@@ -1,0 +1,5 @@
+class A {
+    boolean m(Object o) {
+        return o == 1;
+    }
+}

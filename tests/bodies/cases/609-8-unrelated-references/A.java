@@ -1,0 +1,6 @@
+import java.util.List;
+class A {
+    boolean m(List<String> s, List<Integer> i) {
+        return s != i;
+    }
+}

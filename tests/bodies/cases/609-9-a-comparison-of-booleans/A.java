@@ -1,0 +1,6 @@
+class A {
+    boolean m(boolean a, boolean b) {
+        boolean c = a & b | a ^ b;
+        return a < b;
+    }
+}

@@ -1,0 +1,6 @@
+class A {
+    void m(int[] a) {
+        a[0] = a.length;
+        a.length = 1;
+    }
+}

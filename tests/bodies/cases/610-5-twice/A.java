@@ -1,0 +1,5 @@
+class A {
+    void m(int a) {
+        a++ ++;
+    }
+}

@@ -1,0 +1,5 @@
+class A {
+    int m(int a) {
+        return - ++a + ++-a;
+    }
+}

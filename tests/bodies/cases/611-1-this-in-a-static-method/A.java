@@ -1,0 +1,5 @@
+class A {
+    static Object m() {
+        return this;
+    }
+}

@@ -1,0 +1,4 @@
+interface I {
+    int C = 1;
+    Object D = this;
+}

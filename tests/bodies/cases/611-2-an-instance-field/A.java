@@ -1,0 +1,6 @@
+class A {
+    int f;
+    static int m() {
+        return f;
+    }
+}

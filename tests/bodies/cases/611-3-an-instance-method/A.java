@@ -1,0 +1,7 @@
+class A {
+    void go() { }
+    static void m() {
+        new A().go();
+        go();
+    }
+}

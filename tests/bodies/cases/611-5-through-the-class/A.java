@@ -1,0 +1,6 @@
+class A {
+    int f;
+    int m() {
+        return A.f;
+    }
+}

@@ -1,0 +1,9 @@
+class A {
+    void go() { }
+    int f;
+    static class B {
+        void m() {
+            go();
+        }
+    }
+}

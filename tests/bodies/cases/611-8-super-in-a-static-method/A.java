@@ -1,0 +1,5 @@
+class A {
+    static String m() {
+        return super.toString();
+    }
+}

@@ -1,0 +1,5 @@
+class A<T> {
+    Object m() {
+        return new T[1];
+    }
+}

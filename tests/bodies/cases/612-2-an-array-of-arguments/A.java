@@ -1,0 +1,6 @@
+import java.util.List;
+class A {
+    List<String>[] m() {
+        return new List<String>[2];
+    }
+}

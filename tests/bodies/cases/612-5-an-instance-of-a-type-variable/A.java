@@ -1,0 +1,5 @@
+class A<T> {
+    boolean m(Object o) {
+        return o instanceof T;
+    }
+}

@@ -1,0 +1,4 @@
+import java.util.List;
+class A {
+    List<? extends Number>[] a = {null};
+}

@@ -1,0 +1,5 @@
+class A<T> {
+    T[] m(T t) {
+        return new T[] {t};
+    }
+}

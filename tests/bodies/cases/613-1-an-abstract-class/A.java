@@ -1,0 +1,6 @@
+abstract class B { }
+class A {
+    Object m() {
+        return new B();
+    }
+}

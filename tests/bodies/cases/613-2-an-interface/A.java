@@ -1,0 +1,6 @@
+import java.util.List;
+class A {
+    Object m() {
+        return new List<String>();
+    }
+}

@@ -1,0 +1,5 @@
+class A<T> {
+    T m() {
+        return new T();
+    }
+}

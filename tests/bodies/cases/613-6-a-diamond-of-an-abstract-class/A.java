@@ -1,0 +1,6 @@
+abstract class B<T> { }
+class A {
+    B<String> m() {
+        return new B<>();
+    }
+}

@@ -1,0 +1,7 @@
+class A {
+    void m(long a) {
+        switch (a) {
+            default:
+        }
+    }
+}

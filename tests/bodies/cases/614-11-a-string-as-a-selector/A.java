@@ -1,0 +1,7 @@
+class A {
+    void m(String a) {
+        switch (a) {
+            case "a":
+        }
+    }
+}

@@ -1,0 +1,9 @@
+class A {
+    void m(int a) {
+        switch (a) {
+            case 97:
+                break;
+            case 'a':
+        }
+    }
+}

@@ -1,0 +1,8 @@
+class A {
+    final int f = 1;
+    void m(int a) {
+        switch (a) {
+            case this.f:
+        }
+    }
+}

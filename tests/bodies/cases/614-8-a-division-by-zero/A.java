@@ -1,0 +1,9 @@
+class A {
+    void m(int a) {
+        switch (a) {
+            case 1 / 1:
+                break;
+            case 1 / 0:
+        }
+    }
+}

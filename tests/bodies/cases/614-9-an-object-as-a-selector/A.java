@@ -1,0 +1,10 @@
+class A {
+    void m(Object a, Boolean b) {
+        switch (a) {
+            default:
+        }
+        switch (b) {
+            default:
+        }
+    }
+}

@@ -1,0 +1,5 @@
+class A {
+    void m(boolean b) {
+        if (b) break;
+    }
+}

@@ -1,0 +1,10 @@
+class A {
+    void m(int a) {
+        switch (a) {
+            case 1:
+                break;
+            default:
+                continue;
+        }
+    }
+}

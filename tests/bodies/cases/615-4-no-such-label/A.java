@@ -1,0 +1,6 @@
+class A {
+    void m() {
+        a: m();
+        break a;
+    }
+}

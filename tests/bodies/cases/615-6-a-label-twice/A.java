@@ -1,0 +1,9 @@
+class A {
+    void m(boolean b) {
+        a: while (b) {
+            a: while (b) {
+                break a;
+            }
+        }
+    }
+}

@@ -1,0 +1,8 @@
+class A {
+    {
+        while (true) {
+            break;
+        }
+        break;
+    }
+}

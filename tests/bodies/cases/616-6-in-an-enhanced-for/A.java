@@ -1,0 +1,6 @@
+class A {
+    void m(int[] b) {
+        int a = 1;
+        for (int a : b) m(b);
+    }
+}

@@ -1,0 +1,5 @@
+class A {
+    Object m(Object a) {
+        return a[0];
+    }
+}

@@ -1,0 +1,5 @@
+class A {
+    void m(Object a) {
+        for (Object o : a) m(o);
+    }
+}

@@ -1,0 +1,8 @@
+class B {
+    private void go() { }
+}
+class A {
+    void m(B b) {
+        b.go();
+    }
+}

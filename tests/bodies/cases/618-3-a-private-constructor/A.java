@@ -1,0 +1,8 @@
+class B {
+    private B() { }
+}
+class A {
+    Object m() {
+        return new B();
+    }
+}

@@ -1,0 +1,10 @@
+class B {
+    private static class C {
+        static int f;
+    }
+}
+class A {
+    int m() {
+        return B.C.f;
+    }
+}

@@ -1,0 +1,5 @@
+class A {
+    void m(Math a) {
+        Object o = new Math();
+    }
+}

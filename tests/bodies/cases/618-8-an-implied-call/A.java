@@ -1,0 +1,5 @@
+class B {
+    private B() { }
+}
+class A extends B {
+}

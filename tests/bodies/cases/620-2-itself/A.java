@@ -1,0 +1,7 @@
+class A {
+    A() { }
+    A(int a) {
+        this();
+    }
+    A(String s) { this(s + s); }
+}

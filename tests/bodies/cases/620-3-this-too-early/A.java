@@ -1,0 +1,6 @@
+class A {
+    A(Object o) { }
+    A() {
+        this((Object) this);
+    }
+}

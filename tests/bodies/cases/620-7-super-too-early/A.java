@@ -1,0 +1,6 @@
+class A {
+    A(int a) { }
+    A() {
+        this(super.hashCode());
+    }
+}

@@ -1,0 +1,9 @@
+class A {
+    void m() {
+        try {
+            m();
+        } catch (String s) {
+            m();
+        }
+    }
+}

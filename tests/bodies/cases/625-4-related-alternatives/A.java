@@ -1,0 +1,9 @@
+class A {
+    void m() {
+        try {
+            m();
+        } catch (ArithmeticException | RuntimeException e) {
+            m();
+        }
+    }
+}

@@ -1,0 +1,9 @@
+class A {
+    <T extends RuntimeException> void m(T t) {
+        try {
+            throw t;
+        } catch (T e) {
+            throw e;
+        }
+    }
+}

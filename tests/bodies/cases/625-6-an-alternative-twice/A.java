@@ -1,0 +1,9 @@
+class A {
+    void m() {
+        try {
+            m();
+        } catch (ArithmeticException | NullPointerException | ArithmeticException e) {
+            m();
+        }
+    }
+}

@@ -1,0 +1,4 @@
+class A {
+    int a = b;
+    int b = 1;
+}

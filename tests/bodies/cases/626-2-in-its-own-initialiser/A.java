@@ -1,0 +1,3 @@
+class A {
+    static int a = 1 + a;
+}

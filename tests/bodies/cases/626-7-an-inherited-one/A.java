@@ -1,0 +1,7 @@
+class B {
+    int a = 1;
+}
+class A extends B {
+    int b = a;
+    int c = b;
+}

@@ -1,0 +1,6 @@
+class A {
+    static int m(Comparable<?> c) {
+        c += "x";
+        return (c += "y").hashCode();
+    }
+}

@@ -1,0 +1,6 @@
+class A {
+    void m(Object o) {
+        Object p = ((o));
+        String s = ((o));
+    }
+}

@@ -1,0 +1,5 @@
+class A {
+    void m(int i) {
+        for (int j : (i)) m(j);
+    }
+}

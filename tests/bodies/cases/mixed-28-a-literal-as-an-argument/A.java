@@ -1,0 +1,5 @@
+class A {
+    void m() {
+        System.out.println(2147483648);
+    }
+}
