@@ -1,0 +1,3 @@
+mod Assigns
+mod Compounds
+mod Targets
