@@ -1,0 +1,6 @@
+mod Knowing
+mod Lengths
+mod Lifting
+mod Parting
+mod Ruling
+mod Staying
