@@ -1,1 +1,2 @@
 pub mod ByForms
+pub mod Walks
