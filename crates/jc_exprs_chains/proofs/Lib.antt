@@ -1,0 +1,5 @@
+mod Firsts
+mod Folds
+mod Signs
+pub mod Staying
+mod Steps
