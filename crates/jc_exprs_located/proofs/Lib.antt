@@ -1,0 +1,4 @@
+mod Apart
+pub mod Gating
+pub mod Lying
+mod Walked
