@@ -1,0 +1,4 @@
+pub mod ByForm
+pub mod Elements
+pub mod Lists
+pub mod Loops
