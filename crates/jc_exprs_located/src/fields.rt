@@ -131,7 +131,7 @@ pub fn push_own_field(
     place: Place,
     field: FieldId,
 ) -> Result<FieldFound, WantOfMemory>
-    ensures value { IfOk result (λ f. field_of nodes.new f ≡ own_field (world_of scene.now) place scene.now.class field) }
+    ensures value { IfOk result (λ f. field_of nodes.new f ≡ own_field (world_of scene.now) place field) }
     ensures below { IfOk result (λ f. FieldBelow (length nodes.new) f) }
     ensures grows { Grows nodes.old nodes.new }
 {
@@ -162,7 +162,7 @@ pub fn push_class_field(
     place: Place,
     field: FieldId,
 ) -> Result<FieldFound, WantOfMemory>
-    ensures value { IfOk result (λ f. field_of nodes.new f ≡ class_field (world_of scene.now) place scene.now.class field) }
+    ensures value { IfOk result (λ f. field_of nodes.new f ≡ class_field (world_of scene.now) place field) }
     ensures below { IfOk result (λ f. FieldBelow (length nodes.new) f) }
     ensures grows { Grows nodes.old nodes.new }
 {

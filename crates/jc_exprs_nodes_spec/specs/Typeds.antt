@@ -269,15 +269,24 @@ settling T place (suc n) k env =
 abbrev pub settled_steps : Table → List Bounds → ℕ
 settled_steps T env = variable_count T + length env + 1
 
--- an expression of which a member is asked, and the type whose members it has
+-- the members of a type variable, and of an intersection, are those of bounds: none of them is private (JLS 4.4, 4.9)
+abbrev pub is_meet : Layer → Bool
+is_meet (Ty-F.Meet parts) = true
+is_meet _ = false
+
+abbrev pub is_by_bounds : Table → List Bounds → Ty → Bool
+is_by_bounds T env t = is_meet (out-Ty t) || is_open T env t
+
+-- an expression of which a member is asked, the type whose members it has, and whether they are those of bounds
 pub record Settled : Type 0 where
   pub it : Typed
   pub ty : Ty
+  pub by_bounds : Bool
 
-abbrev pub of_settled : Typed → Kind → Settled
-of_settled t k = record { it = record t { captures = t.captures ++ k.captures }; ty = k.ty }
+abbrev pub of_settled : Bool → Typed → Kind → Settled
+of_settled by_bounds t k = record { it = record t { captures = t.captures ++ k.captures }; ty = k.ty; by_bounds = by_bounds }
 
 -- the variables that this makes stand behind the expression's own
 unfoldable pub settled : Table → Typed → Run Settled
 settled T t env =
-    onward (onward (capturing T t.place (type_of t)) (settling T t.place (settled_steps T env))) (λ k. fine (of_settled t k)) env
+    onward (onward (capturing T t.place (type_of t)) (settling T t.place (settled_steps T env))) (λ k. fine (of_settled (is_by_bounds T env (type_of t)) t k)) env

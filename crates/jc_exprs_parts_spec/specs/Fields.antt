@@ -34,6 +34,10 @@ abbrev pub field_access_in : Option Modifiers → Access
 field_access_in (Some m) = m.access
 field_access_in None = access.Private
 
+abbrev pub is_private : Access → Bool
+is_private access.Private = true
+is_private _ = false
+
 -- of the fields that a class declares, those of this name
 abbrev pub named_fields : Table → List ℕ → List FieldId → List FieldId
 named_fields T n [] = []
@@ -103,6 +107,15 @@ fields_at T n t _ = fields_by_class T n (class_of t)
 
 unfoldable pub fields_named : Table → Ty → List ℕ → List FieldId
 fields_named T t n = fields_at T n t (out-Ty t)
+
+-- of these the ones that aren't private
+abbrev pub not_private : Table → List FieldId → List FieldId
+not_private T [] = []
+not_private T (f ∷ fs) = if is_private (field_access_in (field_modifiers_of T f)) then not_private T fs else f ∷ not_private T fs
+
+-- .. as they are members of a type, by bounds alone where that is told
+abbrev pub member_fields : Table → Ty → Bool → List ℕ → List FieldId
+member_fields T t by_bounds n = if by_bounds then not_private T (fields_named T t n) else fields_named T t n
 
 -- ---- a field's type
 

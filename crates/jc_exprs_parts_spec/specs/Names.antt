@@ -22,7 +22,7 @@ use Rattle.jc_convert.specs.Converting.{invocation}
 use Rattle.jc_typed.specs.Trees.{Operand, Operands, NoOperands, Variable, LocalVariable, StaticVariable, FieldVariable, ElementVariable, Fixed, Local, This, StaticField, Field, Element, Length}
 use Rattle.jc_exprs_nodes_spec.specs.Told.{Run, fine, by_rule, breaking, onward, provided, unless}
 use Rattle.jc_exprs_nodes_spec.specs.Typeds.{Typed, Settled, node, fixed, type_of, captured, plain, converted, stepped, one_operand, read_guard, use_guard, unconverted, settled}
-use Rattle.jc_exprs_parts_spec.specs.Fields.{class_fields, declared_field, field_class, field_erasure, field_in, fields_named, is_raw_as, is_static_field, may_name_field}
+use Rattle.jc_exprs_parts_spec.specs.Fields.{class_fields, declared_field, field_class, field_erasure, field_in, is_open_type, is_raw_as, is_static_field, may_name_field, member_fields}
 use Rattle.jc_exprs_parts_spec.specs.Senses.{Sense, OfField, OfClass, OfNothing, simple_sense, next_sense, may_name_class}
 use Rattle.jc_exprs_parts_spec.specs.Worlds.{World, Here, Instance, Static, Early, LocalIn, Initialising, constant_field, local_named, named_class, this_type}
 use Rattle.jc_exprs_parts_spec.specs.Assigning.{Target}
@@ -176,9 +176,13 @@ is_length t n = is_some (element t) && bytes_eq n (codes "length")
 abbrev pub array_operand : Table → List Bounds → Settled → Operand
 array_operand T env s = stepped s.it (use_guard T env (type_of s.it) (erasure T env s.ty))
 
+-- .. is a member of it as its fields are: 618 where the class of its elements may not be named there (JLS 6.6.1)
+abbrev pub array_length : World → List Bounds → Place → Settled → Run Located
+array_length W env place s = provided (unless (is_open_type W s.ty) 618 place) (fine (AtLength place (array_operand W.table env s)))
+
 abbrev pub member_by : World → Place → List ℕ → Settled → List Bounds → Run Located
 member_by W place n s env =
-    if is_length s.ty n then fine (AtLength place (array_operand W.table env s)) else one_field W env place s (fields_named W.table s.ty n)
+    if is_length s.ty n then array_length W env place s else one_field W env place s (member_fields W.table s.ty s.by_bounds n)
 
 abbrev pub member_of : World → Place → List ℕ → Settled → Run Located
 member_of W place n s env = member_by W place n s env env
@@ -197,31 +201,31 @@ super_type W = first_super (supers_of W.table W.class)
 
 abbrev pub super_by : World → Place → List ℕ → Option Ty → Run Located
 super_by W place n None = by_rule 603 place
-super_by W place n (Some t) = member_of W place n (record { it = this_at W place; ty = t })
+super_by W place n (Some t) = member_of W place n (record { it = this_at W place; ty = t; by_bounds = false })
 
 unfoldable pub super_member : World → Place → List ℕ → Run Located
 super_member W place n = provided (instance_breaks W.here place) (super_by W place n (super_type W))
 
--- ---- elements (JLS 15.13): 617 at what is no array, 607 at an index that isn't promoted to int
+-- ---- elements (JLS 15.13): 617 at what isn't of an array type, 607 at an index that isn't promoted to int
 
-abbrev pub element_breaks : Settled → Typed → Option Ty → Converts → List Refusal
-element_breaks s i None c = breaking 617 s.it.place ∷ unconverted 607 i.start c
-element_breaks s i (Some t) c = unconverted 607 i.start c
+abbrev pub element_breaks : Typed → Typed → Option Ty → Converts → List Refusal
+element_breaks a i None c = breaking 617 a.place ∷ unconverted 607 i.start c
+element_breaks a i (Some t) c = unconverted 607 i.start c
 
 abbrev pub or_int : Option Ty → Ty
 or_int (Some t) = t
 or_int None = Prim Int
 
-abbrev pub element_by : Table → List Bounds → Settled → Typed → Converts → Run Located
-element_by T env s i c =
-    provided (element_breaks s i (element s.ty) c)
-    (fine (AtElement s.it.start (array_operand T env s) (converted T env i c) (or_int (element s.ty))))
+abbrev pub element_by : Table → List Bounds → Typed → Typed → Converts → Run Located
+element_by T env a i c =
+    provided (element_breaks a i (element (type_of a)) c)
+    (fine (AtElement a.start (plain a) (converted T env i c) (or_int (element (type_of a)))))
 
-abbrev pub indexed : Table → Typed → Settled → Run Located
-indexed T i s env = element_by T env s i (invocation T env (type_of i) (Prim Int)) env
+abbrev pub indexed : Table → Typed → Typed → Run Located
+indexed T a i env = element_by T env a i (invocation T env (type_of i) (Prim Int)) env
 
 unfoldable pub element_of : World → Typed → Typed → Run Located
-element_of W a i = onward (settled W.table a) (indexed W.table i)
+element_of W a i = indexed W.table a i
 
 -- ---- simple names (JLS 6.5.6.1)
 
@@ -230,8 +234,8 @@ abbrev pub own_breaks : World → Place → Bool → FieldId → List Refusal
 own_breaks W place true f = if is_static_field W.table f then [] else instance_breaks W.here place
 own_breaks W place false f = unless (is_static_field W.table f) 611 place
 
-abbrev pub own_field : World → Place → ClassId → FieldId → FieldAt
-own_field W place k f =
+abbrev pub own_field : World → Place → FieldId → FieldAt
+own_field W place f =
     record {
       place = place;
       field = f;
@@ -242,13 +246,13 @@ own_field W place k f =
       is_simple = true;
     }
 
-abbrev pub field_here : World → Place → ClassId → Bool → List FieldId → Run Located
-field_here W place k is_own [] = by_rule 602 place
-field_here W place k is_own (f ∷ []) = provided (own_breaks W place is_own f) (fine (AtField (own_field W place k f)))
-field_here W place k is_own (f ∷ g ∷ fs) = by_rule 622 place
+abbrev pub field_here : World → Place → Bool → List FieldId → Run Located
+field_here W place is_own [] = by_rule 602 place
+field_here W place is_own (f ∷ []) = provided (own_breaks W place is_own f) (fine (AtField (own_field W place f)))
+field_here W place is_own (f ∷ g ∷ fs) = by_rule 622 place
 
 abbrev pub located_sense : World → Place → Sense → Run Located
-located_sense W place (OfField k is_own fs) = field_here W place k is_own fs
+located_sense W place (OfField k is_own fs) = field_here W place is_own fs
 located_sense W place _ = by_rule 602 place
 
 abbrev pub local_or : World → Place → List ℕ → Option LocalIn → Run Located
@@ -274,8 +278,8 @@ other W place (OfClass k) = provided (unless (may_name_class W k) 618 place) (fi
 other W place s = fine (Other s)
 
 -- a static field behind the name of a class: 603, 622, 618, 611
-abbrev pub class_field : World → Place → ClassId → FieldId → FieldAt
-class_field W place k f =
+abbrev pub class_field : World → Place → FieldId → FieldAt
+class_field W place f =
     record {
       place = place;
       field = f;
@@ -289,12 +293,12 @@ class_field W place k f =
 abbrev pub field_behind : World → Place → ClassId → List FieldId → Run Located
 field_behind W place k [] = by_rule 603 place
 field_behind W place k (f ∷ []) =
-    provided (unless (may_name_field W (named_class W.table k) f) 618 place ++ unless (is_static_field W.table f) 611 place) (fine (AtField (class_field W place k f)))
+    provided (unless (may_name_field W (named_class W.table k) f) 618 place ++ unless (is_static_field W.table f) 611 place) (fine (AtField (class_field W place f)))
 field_behind W place k (f ∷ g ∷ fs) = by_rule 622 place
 
 -- the first part: a local, a field, a class or a package
 abbrev pub sense_meant : World → Place → Sense → Run Meaning
-sense_meant W place (OfField k is_own fs) = as_value W (field_here W place k is_own fs)
+sense_meant W place (OfField k is_own fs) = as_value W (field_here W place is_own fs)
 sense_meant W place s = other W place s
 
 abbrev pub local_meant : World → Place → List ℕ → Option LocalIn → Run Meaning

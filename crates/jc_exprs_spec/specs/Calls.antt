@@ -5,9 +5,9 @@ use Rattle.jc_rules.specs.declared.rule.Refusal.{Refusal}
 use Rattle.jc_tree.specs.declared.types.TypeArg.{TypeArg}
 use Rattle.jc_types.specs.declared.conversion.Phase.{Phase}
 use Rattle.jc_types.specs.declared.conversion.Phase.TheVariants as phase
-use Rattle.jc_types.specs.declared.declarations.Access.{Access}
-use Rattle.jc_types.specs.declared.declarations.Access.TheVariants as access
 use Rattle.jc_types.specs.declared.environment.Bounds.{Bounds}
+use Rattle.jc_types.specs.declared.erased.Base.{Base}
+use Rattle.jc_types.specs.declared.erased.Base.TheVariants as base
 use Rattle.jc_types.specs.declared.erased.Erased.{Erased}
 use Rattle.jc_types.specs.declared.form.Arg.{Arg-F, out-Arg}
 use Rattle.jc_types.specs.declared.form.Ty.{Ty}
@@ -35,7 +35,7 @@ use Rattle.jc_typed.specs.declared.expressions.CallKind.TheVariants as kind
 use Rattle.jc_typed.specs.Trees.{Step, Up, Operand, operand, Operands, NoOperands, MoreOperands, ArrayOf, Call}
 use Rattle.jc_exprs_nodes_spec.specs.Told.{Run, fine, by_rule, breaking, onward, provided, unless}
 use Rattle.jc_exprs_nodes_spec.specs.Typeds.{Typed, Settled, node, type_of, tree, captured, plain, stepped, one_operand, steps_by, read_guard, use_guard, settled}
-use Rattle.jc_exprs_parts_spec.specs.Fields.{is_raw_as, may_name_method}
+use Rattle.jc_exprs_parts_spec.specs.Fields.{is_open_class, is_private, is_raw_as, may_name_method}
 use Rattle.jc_exprs_parts_spec.specs.Senses.{Sense, OfClass}
 use Rattle.jc_exprs_parts_spec.specs.Worlds.{World, named_class, round, this_type, written_arg}
 use Rattle.jc_exprs_parts_spec.specs.Names.{Meaning, Value, Other, class_erased, instance_breaks, super_type, this_at}
@@ -143,9 +143,27 @@ abbrev pub by_choice : {A : Type 0} → Place → Choice → (Chosen → Run A) 
 by_choice place (choice.Chosen c) f = f c
 by_choice place c f = provided (choice_breaks place c) (by_rule 604 place)
 
+-- A call by variable arity makes an array: where the class of its elements may not be named there, the member isn't applicable by it (JLS 15.12.2.4)
+abbrev pub is_open_base : World → Base → Bool
+is_open_base W (base.Class k) = is_open_class W (Some k)
+is_open_base W b = true
+
+abbrev pub is_open_array : World → List Bounds → List Ty → Bool
+is_open_array W env [] = true
+is_open_array W env (p ∷ []) = is_open_base W (erasure W.table env p).base
+is_open_array W env (p ∷ q ∷ ps) = is_open_array W env (q ∷ ps)
+
+abbrev pub may_pass : World → List Bounds → Phase → List Ty → Bool
+may_pass W env phase.VariableArity ps = is_open_array W env ps
+may_pass W env _ ps = true
+
+abbrev pub open_choice : World → List Bounds → Choice → Choice
+open_choice W env (choice.Chosen c) = if may_pass W env c.phase c.params then choice.Chosen c else choice.NoneApplicable
+open_choice W env c = c
+
 -- a choice among the members of a type that may be named there, by the arguments, explicit type arguments and a target
 abbrev pub choice_of : World → List Bounds → Ty → List MethodView → List Ty → List Typed → Option Ty → Choice
-choice_of W env t ms explicit ts target = resolved W.table env (apart_site W.table t (site ms explicit ts target))
+choice_of W env t ms explicit ts target = open_choice W env (resolved W.table env (apart_site W.table t (site ms explicit ts target)))
 
 -- it is asked where there is such a member, and nothing else is broken before
 abbrev pub chosen_among : {A : Type 0} → World → Place → Ty → List Refusal → List MethodView → List Ty → List Typed → Option Ty → (Chosen → Run A) → List Bounds → Run A
@@ -156,10 +174,6 @@ unfoldable pub choosing : {A : Type 0} → World → Place → Ty → List Refus
 choosing W place t broken ms explicit ts target f env = chosen_among W place t broken ms explicit ts target f env env
 
 -- ---- the call (JLS 15.12.3)
-
-abbrev pub is_private : Access → Bool
-is_private access.Private = true
-is_private _ = false
 
 -- what stands before a call: a value whose settled type has the method; the instance of the place, of its own class or through `super`; or a class
 pub data Receiver : Type 0 where
@@ -176,6 +190,19 @@ searched W (OnThis place) = this_type W
 searched W (OnSuper place t) = t
 searched W (OnClass k) = named_class W.table k
 searched W (OnOuter k) = own_type W.table k
+
+-- .. those of a variable or an intersection by its bounds, and so without the private ones (JLS 4.4, 4.9)
+abbrev pub without_private : Table → List MethodView → List MethodView
+without_private T [] = []
+without_private T (m ∷ ms) = if is_private (access_of T m.id) then without_private T ms else m ∷ without_private T ms
+
+abbrev pub methods_by : World → Bool → Ty → List ℕ → List MethodView
+methods_by W true t n = without_private W.table (members W.table t n)
+methods_by W false t n = members W.table t n
+
+abbrev pub methods_of : World → Receiver → List ℕ → List MethodView
+methods_of W (OnValue s) n = methods_by W s.by_bounds s.ty n
+methods_of W r n = members W.table (searched W r) n
 
 abbrev pub is_super : Receiver → Bool
 is_super (OnSuper place t) = true
@@ -256,7 +283,7 @@ called_with W place r ts c env = called_by W place r ts c env env
 -- a call of a method of this name, explicit type arguments being written or none
 unfoldable pub called : World → Place → Receiver → List ℕ → List TypeArg → List Typed → Option Ty → Run Typed
 called W place r n explicit ts target =
-    choosing W place (searched W r) (unless (all_types W explicit) 623 place) (members W.table (searched W r) n) (explicit_types W explicit) ts target
+    choosing W place (searched W r) (unless (all_types W explicit) 623 place) (methods_of W r n) (explicit_types W explicit) ts target
     (called_with W place r ts)
 
 -- ---- which class or value is searched (JLS 15.12.1)

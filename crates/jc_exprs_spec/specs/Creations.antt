@@ -23,7 +23,7 @@ use Rattle.jc_typed.specs.Trees.{Step, Up, New}
 use Rattle.jc_exprs_nodes_spec.specs.Told.{Run, provided, unless}
 use Rattle.jc_exprs_nodes_spec.specs.Typeds.{Typed, captured}
 use Rattle.jc_exprs_parts_spec.specs.Worlds.{World}
-use Rattle.jc_exprs_spec.specs.Calls.{accessible, arguments, by_choice, members_breaks, site}
+use Rattle.jc_exprs_spec.specs.Calls.{accessible, arguments, by_choice, choice_of, members_breaks, open_choice, site}
 
 -- ---- creations of objects (JLS 15.9): 613 of what has no objects, 623 a diamond of a class without parameters
 
@@ -97,14 +97,14 @@ abbrev pub created_by : World → Place → Ty → Bool → List Typed → Chose
 created_by W place t diamond ts c env = created_with W place t diamond ts c env env
 
 -- a diamond has a target
-abbrev pub creation_choice : Table → List Bounds → Ty → Bool → List MethodView → List Typed → Option Ty → Choice
-creation_choice T env t true ms ts target = resolved T env (renamed_site T (site ms [] ts target))
-creation_choice T env t false ms ts target = resolved T env (apart_site T t (site ms [] ts None))
+abbrev pub creation_choice : World → List Bounds → Ty → Bool → List MethodView → List Typed → Option Ty → Choice
+creation_choice W env t true ms ts target = open_choice W env (resolved W.table env (renamed_site W.table (site ms [] ts target)))
+creation_choice W env t false ms ts target = choice_of W env t ms [] ts None
 
 abbrev pub created_among : World → Place → Ty → Bool → List MethodView → List Typed → Option Ty → List Bounds → Run Typed
 created_among W place t diamond ms ts target env =
     provided (members_breaks place ms (accessible W t ms))
-    (by_choice place (creation_choice W.table env t diamond (accessible W t ms) ts target) (created_by W place t diamond ts))
+    (by_choice place (creation_choice W env t diamond (accessible W t ms) ts target) (created_by W place t diamond ts))
 
 abbrev pub created_of : World → Place → Ty → Bool → Option Ty → List Typed → Run Typed
 created_of W place t diamond target ts env = created_among W place t diamond (constructors W.table t diamond) ts target env env

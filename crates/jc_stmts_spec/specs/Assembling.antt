@@ -77,7 +77,7 @@ declared_in ls left = declared_all NoDeclared (ls.first ∷ ls.more) left
 
 -- ---- statements
 
--- a statement by where jumps go, and the answers that are left; and the loop that it is or stands before, as its plan has it
+-- a statement by where jumps go, and the answers that are left; and the loop that it is, as its plan has it
 pub record Assembled : Type 0 where
   pub make : Jumps → List Answer → Made Stmt
   pub start : ℕ
@@ -253,7 +253,7 @@ labelled file n text body =
     record {
       make = λ j left. let b = body.make (inside (OfLabel n text body.loop) j) left in made (stmt (at file n) (Labelled n b.it)) b.left;
       start = n;
-      loop = body.loop;
+      loop = None;
     }
 
 abbrev pub stmt_step : ℕ → Stmt-F (Unit {0}) Assembled Group (Unit {0}) → Assembled

@@ -38,6 +38,7 @@ use Rattle.jc_exprs_nodes_spec.specs.Told.{Told, Fine, Broken, Out, Run, fine, b
 use Rattle.jc_exprs_nodes_spec.specs.Typeds.{Typed, Known, Kind, Settled, capturing, settled, type_of, known_of, known_in, constant_of, plain, bare, stepped, converted, steps_by, read_guard, use_guard, unconverted}
 use Rattle.jc_exprs_parts_spec.specs.Assigning.{exact_primitive}
 use Rattle.jc_exprs_parts_spec.specs.Constants.{constant_as}
+use Rattle.jc_exprs_parts_spec.specs.Fields.{is_open_type}
 use Rattle.jc_exprs_parts_spec.specs.Names.{array_operand, class_erased}
 use Rattle.jc_exprs_spec.specs.Typing.{effect, initialised, typing}
 use Rattle.jc_exprs_parts_spec.specs.Worlds.{World, LocalIn, at, written, written_class}
@@ -259,20 +260,22 @@ each_of T t is_array of_it to guards x = onward (capturing T t.place x) (each_in
 abbrev pub iterable_operand : Table → List Bounds → Settled → Operand
 iterable_operand T env s = stepped s.it (use_guard T env (type_of s.it) (class_erased (class_named T (codes "java.lang.Iterable"))))
 
-abbrev pub each_iterable : Table → List Bounds → Settled → Ty → Option Ty → Run Elements
-each_iterable T env s to None = by_rule 617 s.it.place
-each_iterable T env s to (Some v) =
-    each_of T s.it false (iterable_operand T env s) to (read_guard T env object (iterated T v)) (iterated T v)
+-- .. whose method `iterator` is called: 618 where the type may not be named there (JLS 6.6.1)
+abbrev pub each_iterable : World → List Bounds → Settled → Ty → Option Ty → Run Elements
+each_iterable W env s to None = by_rule 617 s.it.place
+each_iterable W env s to (Some v) =
+    provided (unless (is_open_type W s.ty) 618 s.it.place)
+    (each_of W.table s.it false (iterable_operand W.table env s) to (read_guard W.table env object (iterated W.table v)) (iterated W.table v))
 
-abbrev pub each_settled : Table → List Bounds → Settled → Ty → Option Ty → Run Elements
-each_settled T env s to (Some x) = each_of T s.it true (array_operand T env s) to [] x
-each_settled T env s to None = each_iterable T env s to (iterable T s.ty)
+abbrev pub each_settled : World → List Bounds → Settled → Ty → Option Ty → Run Elements
+each_settled W env s to (Some x) = each_of W.table s.it true (array_operand W.table env s) to [] x
+each_settled W env s to None = each_iterable W env s to (iterable W.table s.ty)
 
-abbrev pub each_type : Table → Ty → Settled → Run Elements
-each_type T to s env = each_settled T env s to (element s.ty) env
+abbrev pub each_type : World → Ty → Settled → Run Elements
+each_type W to s env = each_settled W env s to (element s.ty) env
 
 abbrev pub each : World → Expr → Ty → Run Elements
-each W e to = onward (onward (typing W None e) (settled W.table)) (each_type W.table to)
+each W e to = onward (onward (typing W None e) (settled W.table)) (each_type W to)
 
 -- ---- catch clauses (JLS 14.20): 625 at a clause one of whose types is no class below Throwable, or is below another one of them
 

@@ -49,7 +49,7 @@ pub data Item : Type 0 where
 -- ---- jumps (JLS 14.7, 14.15 to 14.17)
 
 -- a statement round a place to which a jump can go, by the offset of its first token, which is its number: no two such statements of a method begin at one token.
--- A label has the loop that it stands before, if it is one
+-- A label has the loop that it stands before, if that is one itself
 pub data Round : Type 0 where
   OfLoop : ℕ → Round
   OfSwitch : ℕ → Round
@@ -150,7 +150,7 @@ of_init (for_init.Effects es) = asks Effect es
 
 -- ---- statements
 
--- what is made of a statement: its items by where jumps go, and the loop that it is, or stands before
+-- what is made of a statement: its items by where jumps go, and the loop that it is
 pub record Planned : Type 0 where
   pub items : Jumps → List Item
   pub loop : Option ℕ
@@ -218,9 +218,9 @@ for_items (for_head.Basic init test update) body j =
 for_items (for_head.Enhanced modifiers ty name dims iterable) body j =
     enclosed (Each iterable ty dims ∷ Declare name ty dims (says word_of.Final modifiers) ∷ body.items j)
 
--- a label passes on which loop it stands before
+-- what has a label is no loop itself: by a second label before it `continue` goes nowhere (JLS 14.16)
 abbrev pub labelled : Ident → Planned → Planned
-labelled l body = record { items = λ j. label_items l j ++ body.items (inside (OfLabel l.at l.text body.loop) j); loop = body.loop }
+labelled l body = no_loop (λ j. label_items l j ++ body.items (inside (OfLabel l.at l.text body.loop) j))
 
 abbrev pub stmt_step : Stmt-F (Unit {0}) Planned Group (Unit {0}) → Planned
 stmt_step (Stmt-F.Local it) = no_loop (λ j. of_locals it)
