@@ -1,7 +1,7 @@
 //! What a field's declaration says.
 ghost use Rattle.std.specs.Prelude.{◌≡◌, IfOk, slice_get};
 ghost use Rattle.jc_types.specs.Accessors.{field_modifiers_of};
-ghost use Rattle.jc_exprs_parts_spec.specs.Fields.{declared_field, field_access_in, field_class, field_erasure, is_static_field};
+ghost use Rattle.jc_exprs_parts_spec.specs.Fields.{declared_field, field_access_in, field_class, field_erasure, is_private, is_static_field};
 ghost use Rattle.jc_exprs_parts_spec.specs.Names.{field_offset};
 
 use jc_rules::{Items, WantOfMemory};
@@ -27,6 +27,16 @@ pub fn field_access(table: &Table, field: FieldId) -> Access
     match field_modifiers(table, field) {
         Some(modifiers) => modifiers.access,
         None => Access::Private,
+    }
+}
+
+/// Whether a member of this access is private.
+pub fn is_private(access: Access) -> bool
+    ensures { result ≡ is_private access }
+{
+    match access {
+        Access::Private => true,
+        _ => false,
     }
 }
 

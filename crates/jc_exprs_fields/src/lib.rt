@@ -9,8 +9,9 @@ mod viewing;
 
 pub use access::{is_open_at, is_open_type, may_name_class, may_name_field, may_name_method};
 pub use declared::{
-    declared_field, field_access, field_class, field_erasure, field_offset, is_static_field,
+    declared_field, field_access, field_class, field_erasure, field_offset, is_private,
+    is_static_field,
 };
 pub use hiding::class_fields;
-pub use named::fields_named;
+pub use named::{fields_named, member_fields};
 pub use viewing::{field_in, is_raw_as};

@@ -6,7 +6,7 @@ use Rattle.jc_types.specs.declared.table.Table.{Table}
 use Rattle.jc_typed.specs.declared.lists.Capture.{Capture}
 use Rattle.jc_exprs_nodes_spec.specs.Told.{Run, Ran, Standing, fine, onward, ran}
 use Rattle.jc_exprs_nodes_spec.specs.Gates.{gated, stopped}
-use Rattle.jc_exprs_nodes_spec.specs.Typeds.{Kind, Typed, behind_kind, capturing, is_open, of_settled, opened, settled, settled_steps, settling, type_of}
+use Rattle.jc_exprs_nodes_spec.specs.Typeds.{Kind, Typed, behind_kind, capturing, is_by_bounds, is_open, of_settled, opened, settled, settled_steps, settling, type_of}
 use Rattle.jc_exprs_nodes_spec.proofs.Runs.{ran_fine, ran_onward}
 use Rattle.jc_exprs_nodes.specs.Walks.{behind_captures, has_behind}
 use Rattle.jc_exprs_settling.specs.Settlings.{ran_behind, with_captures}
@@ -119,26 +119,26 @@ pub ruleset first_laws = (both_parts, first_state, first_meets)
 abbrev pub kinds : Table → Typed → Standing → Run Kind
 kinds T t s = onward (capturing T t.place (type_of t)) (settling T t.place (settled_steps T s.env))
 
-ran_settled : (T : Table) (t : Typed) (s : Standing) → ran (settled T t) s ≡ ran (onward (kinds T t s) (λ k. fine (of_settled t k))) s
+ran_settled : (T : Table) (t : Typed) (s : Standing) → ran (settled T t) s ≡ ran (onward (kinds T t s) (λ k. fine (of_settled (is_by_bounds T s.env (type_of t)) t k))) s
 unfolding ran settled
 ran_settled T t s = refl
 
-some_of : (t : Typed) (k : Kind) (o : Option Kind) (s : Standing) → has_behind t.captures o ≡ Some k →
-    gated (λ l. fine (of_settled t l)) o s ≡ record { state = s; has = Some (record { it = with_captures t k.captures; ty = k.ty }) }
-some_of t k None s e = absurd (cc e)
-some_of t k (Some l) s e = let f : behind_captures t.captures l ≡ k = cc e in ran_fine (of_settled t l) s ∙ rw (← f) refl
+some_of : (b : Bool) (t : Typed) (k : Kind) (o : Option Kind) (s : Standing) → has_behind t.captures o ≡ Some k →
+    gated (λ l. fine (of_settled b t l)) o s ≡ record { state = s; has = Some (record { it = with_captures t k.captures; ty = k.ty; by_bounds = b }) }
+some_of b t k None s e = absurd (cc e)
+some_of b t k (Some l) s e = let f : behind_captures t.captures l ≡ k = cc e in ran_fine (of_settled b t l) s ∙ rw (← f) refl
 
-none_of : (t : Typed) (o : Option Kind) (s : Standing) → has_behind t.captures o ≡ None → gated (λ l. fine (of_settled t l)) o s ≡ stopped s
-none_of t None s e = refl
-none_of t (Some l) s e = absurd (cc e)
+none_of : (b : Bool) (t : Typed) (o : Option Kind) (s : Standing) → has_behind t.captures o ≡ None → gated (λ l. fine (of_settled b t l)) o s ≡ stopped s
+none_of b t None s e = refl
+none_of b t (Some l) s e = absurd (cc e)
 
-pub settled_some : (T : Table) (t : Typed) (k : Kind) (s r : Standing) → (ran (kinds T t s) s).state ≡ r → has_behind t.captures (ran (kinds T t s) s).has ≡ Some k →
-    ran (settled T t) s ≡ record { state = r; has = Some (record { it = with_captures t k.captures; ty = k.ty }) }
-settled_some T t k s r es eh =
-    ran_settled T t s ∙ ran_onward (λ l. fine (of_settled t l)) (kinds T t s) s ∙ some_of t k (ran (kinds T t s) s).has (ran (kinds T t s) s).state eh ∙ rw es refl
+pub settled_some : (T : Table) (t : Typed) (k : Kind) (b : Bool) (s r : Standing) → is_by_bounds T s.env (type_of t) ≡ b → (ran (kinds T t s) s).state ≡ r → has_behind t.captures (ran (kinds T t s) s).has ≡ Some k →
+    ran (settled T t) s ≡ record { state = r; has = Some (record { it = with_captures t k.captures; ty = k.ty; by_bounds = b }) }
+settled_some T t k b s r eb es eh =
+    ran_settled T t s ∙ ran_onward (λ l. fine (of_settled (is_by_bounds T s.env (type_of t)) t l)) (kinds T t s) s ∙ some_of (is_by_bounds T s.env (type_of t)) t k (ran (kinds T t s) s).has (ran (kinds T t s) s).state eh ∙ rw (es, eb) refl
 
 pub settled_none : (T : Table) (t : Typed) (s r : Standing) → (ran (kinds T t s) s).state ≡ r → has_behind t.captures (ran (kinds T t s) s).has ≡ None → ran (settled T t) s ≡ stopped r
 settled_none T t s r es eh =
-    ran_settled T t s ∙ ran_onward (λ l. fine (of_settled t l)) (kinds T t s) s ∙ none_of t (ran (kinds T t s) s).has (ran (kinds T t s) s).state eh ∙ rw es refl
+    ran_settled T t s ∙ ran_onward (λ l. fine (of_settled (is_by_bounds T s.env (type_of t)) t l)) (kinds T t s) s ∙ none_of (is_by_bounds T s.env (type_of t)) t (ran (kinds T t s) s).has (ran (kinds T t s) s).state eh ∙ rw es refl
 
 pub ruleset settled_laws = (settled_some, settled_none)

@@ -6,5 +6,5 @@ mod opening;
 mod settling;
 
 pub use asked::SettledPart;
-pub use opening::{is_open, opened};
+pub use opening::{is_by_bounds, is_open, opened};
 pub use settling::settled;

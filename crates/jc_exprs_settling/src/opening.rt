@@ -4,7 +4,7 @@ ghost use Rattle.std.specs.Option.{option_copied};
 ghost use Rattle.jc_types.specs.declared.form.Ty.{out-Ty};
 ghost use Rattle.jc_types.specs.Erasing.{variable_bounds};
 ghost use Rattle.jc_judge.specs.Meeting.{flattened, parts_at};
-ghost use Rattle.jc_exprs_nodes_spec.specs.Typeds.{bounds_or, has_variable, is_open, opened, opened_parts};
+ghost use Rattle.jc_exprs_nodes_spec.specs.Typeds.{bounds_or, has_variable, is_by_bounds, is_meet, is_open, opened, opened_parts};
 
 use jc_exprs_nodes::Judging;
 use jc_rules::{Items, WantOfMemory};
@@ -56,6 +56,23 @@ pub fn is_open(judging: &Judging, ty: &Ty) -> bool
         Ty::Meet { parts } => has_variable(judging, parts.slice()),
         _ => is_variable(judging, ty),
     }
+}
+
+#[tactic(auto, using(jc_types::proofs::Opened::opened))]
+fn is_meet(ty: &Ty) -> bool
+    ensures { result ≡ is_meet (out-Ty ty.now) }
+{
+    match ty {
+        Ty::Meet { .. } => true,
+        _ => false,
+    }
+}
+
+/// Whether the members of a type are those of bounds, of which none is private: it is a type variable or an intersection.
+pub fn is_by_bounds(judging: &Judging, ty: &Ty) -> bool
+    ensures { result ≡ is_by_bounds judging.now.table.now judging.now.env.now.bounds ty.now }
+{
+    is_meet(ty) || is_open(judging, ty)
 }
 
 #[tactic(auto, using(jc_types::proofs::Opened::opened))]

@@ -7,7 +7,7 @@ ghost use Rattle.jc_exprs_nodes.specs.Walks.{IsPart, KindBelow, has_behind, has_
 ghost use Rattle.jc_exprs_settling.specs.Settlings.{IsSettled, has_settled, settled_as, with_captures};
 
 use crate::asked::SettledPart;
-use crate::opening::{is_open, opened};
+use crate::opening::{is_by_bounds, is_open, opened};
 use jc_exprs_nodes::{Inner, Judging, KindAt, Part, Walk, capturing_behind, inside};
 use jc_rules::{Place, WantOfMemory};
 use jc_typed::{ExprNode, Nodes, OperandNode, form_below, same_form};
@@ -119,6 +119,7 @@ fn settled_part(
     part: Part,
     inside: Inner,
     kind: KindAt,
+    by_bounds: bool,
 ) -> Result<Option<SettledPart>, WantOfMemory>
     requires part { IsPart nodes.old part }
     requires kind { KindBelow (length nodes.old) (Some kind) }
@@ -126,15 +127,23 @@ fn settled_part(
     requires captures { (known nodes.old part.at).captures ≡ captures_of nodes.old inside.captures }
     requires form { (known nodes.old part.at).form ≡ form_over (parts nodes.old) inside.form }
     requires below { (inside.ty < length nodes.old) × BelowForm (length nodes.old) inside.form }
-    ensures value { IfOk result (λ s. Some (settled_as (known nodes.old part.at) (kind_of nodes.old kind)) ≡ has_settled nodes.new s) }
+    ensures value { IfOk result (λ s. Some (settled_as by_bounds (known nodes.old part.at) (kind_of nodes.old kind)) ≡ has_settled nodes.new s) }
     ensures within { IfOk result (λ s. IsSettled nodes.new s) }
     ensures grows { Grows nodes.old nodes.new }
 {
     if inside.captures == kind.captures {
-        return Ok(Some(SettledPart { part, ty: kind.ty }));
+        return Ok(Some(SettledPart {
+            part,
+            ty: kind.ty,
+            by_bounds,
+        }));
     }
     let part = push_with_captures(nodes, part, inside, kind.captures)?;
-    Ok(Some(SettledPart { part, ty: kind.ty }))
+    Ok(Some(SettledPart {
+        part,
+        ty: kind.ty,
+        by_bounds,
+    }))
 }
 
 /// A part of which a member is asked: the type whose members it has, and the part with the captured variables that this makes behind its own; none where two unrelated classes meet (624).
@@ -152,10 +161,15 @@ pub fn settled(
     ensures grows { Grows walk.old.nodes walk.new.nodes }
 {
     let inside = inside(&walk.nodes, part);
+    let judging = Judging {
+        table,
+        env: &walk.env,
+    };
+    let by_bounds = is_by_bounds(&judging, walk.nodes.ty(part.ty));
     same_form();
     form_below();
     match settled_kind(alloc, table, walk, part, inside.captures)? {
         None => Ok(None),
-        Some(kind) => settled_part(&mut walk.nodes, part, inside, kind),
+        Some(kind) => settled_part(&mut walk.nodes, part, inside, kind, by_bounds),
     }
 }

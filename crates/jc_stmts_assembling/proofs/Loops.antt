@@ -1,4 +1,4 @@
--- The loop that a statement is, or stands before: assembling tells the same as the plan.
+-- The loop that a statement is: assembling tells the same as the plan.
 use Rattle.std.proofs.Common.{◌≡◌, ℕ, refl, sym, ap, ◌∙◌, subst}
 use Rattle.jc_tree.specs.declared.statement.Clause.{Clause, fold-Clause}
 use Rattle.jc_tree.specs.declared.statement.Declaration.{Declaration, fold-Declaration}
@@ -66,7 +66,7 @@ layer_agrees file (Stmt-F.Declared it) = refl
 layer_agrees file (Stmt-F.Block n items) = refl
 layer_agrees file (Stmt-F.Empty n) = refl
 layer_agrees file (Stmt-F.Effect it) = refl
-layer_agrees file (Stmt-F.Labeled label body) = body.1
+layer_agrees file (Stmt-F.Labeled label body) = refl
 layer_agrees file (Stmt-F.If gs otherwise) = refl
 layer_agrees file (Stmt-F.While n test body) = refl
 layer_agrees file (Stmt-F.Do n body test) = refl

@@ -7,7 +7,7 @@ ghost use Rattle.jc_exprs_nodes_spec.specs.Typeds.{value_in};
 ghost use Rattle.jc_exprs_nodes.specs.Walks.{has, now};
 ghost use Rattle.jc_stmts_spec.specs.Courses.{AKey, AnOperand, Key, known_in_operand, label_of, selector_type, top_of};
 ghost use Rattle.jc_stmts_plan.specs.Seen.{want_seen};
-ghost use Rattle.jc_stmts_wants.specs.Wanting.{KeyBelow, OperandBelow, SomeElementsBelow, each_by_type, has_elements, has_key, has_operand, scope_of, wanted_by};
+ghost use Rattle.jc_stmts_wants.specs.Wanting.{KeyBelow, OperandBelow, SomeElementsBelow, has_elements, has_key, has_operand, scope_of, wanted_by};
 ghost use Rattle.jc_stmts_course.specs.Nows.{IsCourse, constant_from_value, kept_label, stage, told};
 ghost use Rattle.jc_stmts_course.specs.Steps.{asked, behind, filled, gone_over, keeping, labelled, with_value};
 
@@ -19,7 +19,7 @@ use jc_rules::{Place, WantOfMemory};
 use jc_stmts_answers::{AnswerAt, ElementsAt};
 use jc_stmts_plan::Want;
 use jc_stmts_wants::{
-    KeyAt, Labelling, Scope, Wanting, each, label as label_at, operand_constant, operand_type,
+    KeyAt, Labelling, Scope, Wanting, label as label_at, operand_constant, operand_type,
     wanted,
 };
 use jc_typed::Nodes;
@@ -260,9 +260,9 @@ pub fn label(
     keep_label(course, scope, key)
 }
 
-// What an enhanced `for` goes over, where there is something.
+/// What an enhanced `for` goes over, where the walk has something of it.
 #[tactic(auto, using(crate::proofs::Lasting::answering))]
-fn answer_each(course: &mut Course, elements: Option<ElementsAt>) -> Result<(), WantOfMemory>
+pub fn go_over(course: &mut Course, elements: Option<ElementsAt>) -> Result<(), WantOfMemory>
     requires course { IsCourse course.old }
     requires elements { SomeElementsBelow (length course.old.walk.nodes) elements }
     ensures stage { OnOk result (gone_over (told (now course.old.walk) (has_elements course.old.walk.nodes elements)) (stage course.old) ≡ stage course.new) }
@@ -273,23 +273,4 @@ fn answer_each(course: &mut Course, elements: Option<ElementsAt>) -> Result<(), 
         None => Ok(()),
         Some(of) => answer(course, AnswerAt::AnEach(of)),
     }
-}
-
-/// What an enhanced `for` goes over with a variable of this type, where the walk has a typing of it at a place.
-#[tactic(auto, using(jc_typed::proofs::Growing::growing, jc_stmts_answers::proofs::Staying::staying))]
-pub fn go_over(
-    alloc: Global,
-    table: &Table,
-    course: &mut Course,
-    to: &Ty,
-    at: u32,
-) -> Result<(), WantOfMemory>
-    requires course { IsCourse course.old }
-    requires at { at < length course.old.walk.nodes }
-    ensures stage { OnOk result (gone_over (gated (each_by_type table.now to.now) (has course.old.walk.nodes at) (now course.old.walk)) (stage course.old) ≡ stage course.new) }
-    ensures course { OnOk result (IsCourse course.new) }
-    ensures grows { OnOk result (Grows course.old.walk.nodes course.new.walk.nodes) }
-{
-    let elements = each(alloc, table, &mut course.walk, to, at)?;
-    answer_each(course, elements)
 }

@@ -159,8 +159,7 @@ loop-Empty at = loop-at (anStmt.Empty at) _ (anStmt.outs-Empty at)
 pub loop-Effect : (it : Expr) → loop_of (anStmt.Effect it) ≡ None
 loop-Effect it = loop-at (anStmt.Effect it) _ (anStmt.outs-Effect it)
 
-pub loop-Labeled : (label : Ident) (body : Stmt) → loop_of (anStmt.Labeled label body) ≡ loop_of body
-unfolding loop_of
+pub loop-Labeled : (label : Ident) (body : Stmt) → loop_of (anStmt.Labeled label body) ≡ None
 loop-Labeled label body = loop-at (anStmt.Labeled label body) _ (anStmt.outs-Labeled label body)
 
 pub loop-If : (arms : List Clause) (otherwise : List Stmt) → loop_of (anStmt.If arms otherwise) ≡ None

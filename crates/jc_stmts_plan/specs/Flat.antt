@@ -14,7 +14,7 @@ use Rattle.jc_stmts_spec.specs.Plans.{Item, Jumps, Each, Declare, Effect, Truth,
 unfoldable pub items_of : Stmt → Jumps → List Item
 items_of s j = (planned s).items j
 
--- the loop that a statement is, or stands before
+-- the loop that a statement is
 unfoldable pub loop_of : Stmt → Option ℕ
 loop_of s = (planned s).loop
 

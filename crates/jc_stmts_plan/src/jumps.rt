@@ -8,7 +8,7 @@ use jc_tree::Ident;
 use std::alloc::Global;
 use std::marker::Model;
 
-/// A statement round a place to which a jump can go, by the offset of its first token. A label has the loop that it stands before, if it is one.
+/// A statement round a place to which a jump can go, by the offset of its first token. A label has the loop that it stands before, if that is one itself.
 #[derive(Clone, Copy)]
 pub enum RoundForm<'a> {
     Loop {

@@ -11,13 +11,13 @@ use jc_rules::{Items, WantOfMemory};
 use jc_tree::{Clause, Stmt};
 use std::alloc::Global;
 
-/// The loop that a statement is, or that it stands before as a label.
+/// The loop that a statement is: what has a label is none (JLS 14.16).
 #[tactic(auto, using(crate::proofs::ByParts::loops))]
 pub fn loop_of(node: &Stmt) -> Option<u32>
     ensures { result ≡ loop_of node.now }
 {
     match node {
-        Stmt::Labeled { body, .. } => loop_of(body.get()),
+        Stmt::Labeled { .. } => None,
         Stmt::While { at, .. } => Some(*at),
         Stmt::Do { at, .. } => Some(*at),
         Stmt::For { at, .. } => Some(*at),

@@ -38,4 +38,4 @@ module _ {A B C : Type 0} (f : A → Run B) (g : B → Run C) where
   ran_twice m s = by_told s.found ((m s.env).told) ((m s.env).env)
 
 pub each_after : EachPart
-each_after W e to s = ran_twice (settled W.table) (each_type W.table to) (typing W None e) s
+each_after W e to s = ran_twice (settled W.table) (each_type W to) (typing W None e) s

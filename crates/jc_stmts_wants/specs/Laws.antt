@@ -40,4 +40,4 @@ LabelPart =
 abbrev pub EachPart : Type 0
 EachPart =
     (W : World) (e : Expr) (to : Ty) (s : Standing) →
-    ran (each W e to) s ≡ gated (each_by_type W.table to) (ran (typing W None e) s).has (ran (typing W None e) s).state
+    ran (each W e to) s ≡ gated (each_by_type W to) (ran (typing W None e) s).has (ran (typing W None e) s).state

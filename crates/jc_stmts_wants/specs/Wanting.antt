@@ -1,19 +1,21 @@
 -- What the items of a body have in the arena, and the rules of expressions by what they are wanted for. An operand, a label's constant or the elements of an
 -- enhanced `for` are told as an `Option`: there is none where a rule is broken.
-use Rattle.std.specs.Prelude.{ℕ, ◌<◌, Bool, List, Option, Some, None}
+use Rattle.std.specs.Prelude.{ℕ, ◌<◌, Bool, false, List, Option, Some, None}
 use Rattle.jc_rules.specs.declared.rule.Place.{Place}
 use Rattle.jc_convert.specs.declared.answer.Converts.{Converts}
 use Rattle.jc_types.specs.declared.environment.Bounds.{Bounds}
 use Rattle.jc_types.specs.declared.form.Ty.{Ty}
 use Rattle.jc_types.specs.declared.form.Ty.TheVariants.{NullTy}
 use Rattle.jc_types.specs.declared.table.Table.{Table}
+use Rattle.jc_types.specs.Erasing.{object}
 use Rattle.jc_typed.specs.declared.nodes.Node.{Node}
 use Rattle.jc_typed.specs.Trees.{Operand, Step}
 use Rattle.jc_typed.specs.Parts.{constant_of, names_of, operand_of, places_of}
 use Rattle.jc_exprs_nodes_spec.specs.Told.{Run, fine, onward}
-use Rattle.jc_exprs_nodes_spec.specs.Typeds.{Kind, Known, Typed, bare, plain, settled}
+use Rattle.jc_exprs_nodes_spec.specs.Typeds.{Kind, Known, Settled, Typed, bare, plain, read_guard, settled}
+use Rattle.jc_exprs_parts_spec.specs.Worlds.{World}
 use Rattle.jc_stmts_spec.specs.Plans.{Want, Effect, Truth, Result, Nowhere, Selector, Thrown}
-use Rattle.jc_stmts_spec.specs.Courses.{each_by, Elements, Key, Scope, each_type, result_target, returned, selected, thrown, truth}
+use Rattle.jc_stmts_spec.specs.Courses.{each_by, each_of, Elements, Key, Scope, each_type, iterable_operand, iterated, result_target, returned, selected, thrown, truth}
 use Rattle.jc_stmts_answers.specs.declared.answers.ElementsAt.{ElementsAt}
 use Rattle.jc_stmts_answers.specs.Answers.{ElementsBelow, elements_of}
 use Rattle.jc_stmts_wants.specs.declared.answers.KeyAt.{KeyAt}
@@ -78,8 +80,12 @@ wanted_by T result file Selector t = selected T t
 wanted_by T result file (Thrown n) t = thrown T (place_in file n) t
 
 -- of what an enhanced `for` goes over
-abbrev pub each_by_type : Table → Ty → Typed → Run Elements
-each_by_type T to t = onward (settled T t) (each_type T to)
+abbrev pub each_by_type : World → Ty → Typed → Run Elements
+each_by_type W to t = onward (settled W.table t) (each_type W to)
+
+-- .. of an Iterable, seen as that
+abbrev pub each_in_view : Table → List Bounds → Settled → Ty → Ty → Run Elements
+each_in_view T env s to v = each_of T s.it false (iterable_operand T env s) to (read_guard T env object (iterated T v)) (iterated T v)
 
 -- .. once its elements have a conversion: the type that they go to isn't asked any more
 abbrev pub each_converted : Table → List Bounds → Typed → Bool → Operand → List Step → Kind → Converts → Run Elements

@@ -10,9 +10,10 @@ ghost use Rattle.jc_exprs_nodes_spec.specs.Told.{ran};
 ghost use Rattle.jc_exprs_nodes.specs.Walks.{IsPart, KindBelow, has, kind_of, known, now};
 ghost use Rattle.jc_exprs_settling.specs.Settlings.{IsSettled, settled_of};
 ghost use Rattle.jc_exprs_parts_spec.specs.Names.{array_operand};
+ghost use Rattle.jc_exprs_worlds.specs.Scenes.{world_of};
 ghost use Rattle.jc_judge.specs.Views.{exacts};
 ghost use Rattle.jc_stmts_spec.specs.Courses.{each_into, each_iterable, each_of, each_settled, each_type, first_exact, iterable, iterable_operand, iterated, iterated_by};
-ghost use Rattle.jc_stmts_wants.specs.Wanting.{SomeElementsBelow, each_by_type, each_converted, has_elements};
+ghost use Rattle.jc_stmts_wants.specs.Wanting.{SomeElementsBelow, each_by_type, each_converted, each_in_view, has_elements};
 
 use crate::wanting::push_guarded;
 use jc_convert::{Converts, assignment};
@@ -20,7 +21,9 @@ use jc_exprs_nodes::{
     Judging, KindAt, Led, Part, Walk, capturing, note, part, push_read_guard, push_steps_by,
     refusal, unconverted,
 };
+use jc_exprs_fields::is_open_type;
 use jc_exprs_settling::{SettledPart, settled};
+use jc_exprs_worlds::Scene;
 use jc_lub::object;
 use jc_rules::WantOfMemory;
 use jc_stmts_answers::ElementsAt;
@@ -218,27 +221,27 @@ fn iterated(alloc: Global, table: &Table, view: &Ty) -> Result<Ty, WantOfMemory>
 }
 
 // Elements of an array.
-#[tactic(auto, using(jc_typed::proofs::Growing::growing, jc_exprs_nodes::proofs::Staying::staying))]
+#[tactic(auto, using(jc_typed::proofs::Growing::growing, jc_exprs_nodes::proofs::Staying::staying, jc_exprs_worlds::proofs::Told::worlds))]
 fn each_in_array(
     alloc: Global,
-    table: &Table,
+    scene: &Scene,
     walk: &mut Walk,
     settled: SettledPart,
     to: &Ty,
     of: &Ty,
 ) -> Result<Option<ElementsAt>, WantOfMemory>
     requires { IsSettled walk.old.nodes (Some settled) }
-    ensures state { OnOk result ((ran (each_settled table.now walk.old.env.bounds (settled_of walk.old.nodes settled) to.now (Some of.now)) (now walk.old)).state ≡ now walk.new) }
-    ensures value { IfOk result (λ e. (ran (each_settled table.now walk.old.env.bounds (settled_of walk.old.nodes settled) to.now (Some of.now)) (now walk.old)).has ≡ has_elements walk.new.nodes e) }
+    ensures state { OnOk result ((ran (each_settled (world_of scene.now) walk.old.env.bounds (settled_of walk.old.nodes settled) to.now (Some of.now)) (now walk.old)).state ≡ now walk.new) }
+    ensures value { IfOk result (λ e. (ran (each_settled (world_of scene.now) walk.old.env.bounds (settled_of walk.old.nodes settled) to.now (Some of.now)) (now walk.old)).has ≡ has_elements walk.new.nodes e) }
     ensures below { IfOk result (λ e. SomeElementsBelow (length walk.new.nodes) e) }
     ensures grows { Grows walk.old.nodes walk.new.nodes }
 {
     let judging = Judging {
-        table,
+        table: scene.table,
         env: &walk.env,
     };
     let over = push_array(alloc, &mut walk.nodes, &judging, settled)?;
-    each_of(alloc, table, walk, over, to, of)
+    each_of(alloc, scene.table, walk, over, to, of)
 }
 
 // Elements of an Iterable, seen as that.
@@ -252,8 +255,8 @@ fn each_in_view(
     view: &Ty,
 ) -> Result<Option<ElementsAt>, WantOfMemory>
     requires { IsSettled walk.old.nodes (Some settled) }
-    ensures state { OnOk result ((ran (each_iterable table.now walk.old.env.bounds (settled_of walk.old.nodes settled) to.now (Some view.now)) (now walk.old)).state ≡ now walk.new) }
-    ensures value { IfOk result (λ e. (ran (each_iterable table.now walk.old.env.bounds (settled_of walk.old.nodes settled) to.now (Some view.now)) (now walk.old)).has ≡ has_elements walk.new.nodes e) }
+    ensures state { OnOk result ((ran (each_in_view table.now walk.old.env.bounds (settled_of walk.old.nodes settled) to.now view.now) (now walk.old)).state ≡ now walk.new) }
+    ensures value { IfOk result (λ e. (ran (each_in_view table.now walk.old.env.bounds (settled_of walk.old.nodes settled) to.now view.now) (now walk.old)).has ≡ has_elements walk.new.nodes e) }
     ensures below { IfOk result (λ e. SomeElementsBelow (length walk.new.nodes) e) }
     ensures grows { Grows walk.old.nodes walk.new.nodes }
 {
@@ -266,90 +269,113 @@ fn each_in_view(
     each_of(alloc, table, walk, over, to, &of)
 }
 
+// .. whose method `iterator` may be called: 618 where the type may not be named there (JLS 6.6.1).
+#[tactic(auto, using(jc_typed::proofs::Growing::growing, jc_exprs_worlds::proofs::Told::worlds), unfolding(jc_exprs_nodes_spec::specs::Told::ran))]
+fn each_in_open(
+    alloc: Global,
+    scene: &Scene,
+    walk: &mut Walk,
+    settled: SettledPart,
+    to: &Ty,
+    view: &Ty,
+) -> Result<Option<ElementsAt>, WantOfMemory>
+    requires { IsSettled walk.old.nodes (Some settled) }
+    ensures state { OnOk result ((ran (each_iterable (world_of scene.now) walk.old.env.bounds (settled_of walk.old.nodes settled) to.now (Some view.now)) (now walk.old)).state ≡ now walk.new) }
+    ensures value { IfOk result (λ e. (ran (each_iterable (world_of scene.now) walk.old.env.bounds (settled_of walk.old.nodes settled) to.now (Some view.now)) (now walk.old)).has ≡ has_elements walk.new.nodes e) }
+    ensures below { IfOk result (λ e. SomeElementsBelow (length walk.new.nodes) e) }
+    ensures grows { Grows walk.old.nodes walk.new.nodes }
+{
+    if !is_open_type(scene, walk.nodes.ty(settled.ty)) {
+        note(walk, refusal(618, settled.part.place));
+        return Ok(None);
+    }
+    each_in_view(alloc, scene.table, walk, settled, to, view)
+}
+
 // Elements of what is no array: 617 where it is no Iterable either.
-#[tactic(auto, using(jc_typed::proofs::Growing::growing), unfolding(jc_exprs_nodes_spec::specs::Told::ran))]
+#[tactic(auto, using(jc_typed::proofs::Growing::growing, jc_exprs_worlds::proofs::Told::worlds), unfolding(jc_exprs_nodes_spec::specs::Told::ran))]
 fn each_iterable(
     alloc: Global,
-    table: &Table,
+    scene: &Scene,
     walk: &mut Walk,
     settled: SettledPart,
     to: &Ty,
 ) -> Result<Option<ElementsAt>, WantOfMemory>
     requires { IsSettled walk.old.nodes (Some settled) }
-    ensures state { OnOk result ((ran (each_iterable table.now walk.old.env.bounds (settled_of walk.old.nodes settled) to.now (iterable table.now (type_of walk.old.nodes settled.ty))) (now walk.old)).state ≡ now walk.new) }
-    ensures value { IfOk result (λ e. (ran (each_iterable table.now walk.old.env.bounds (settled_of walk.old.nodes settled) to.now (iterable table.now (type_of walk.old.nodes settled.ty))) (now walk.old)).has ≡ has_elements walk.new.nodes e) }
+    ensures state { OnOk result ((ran (each_iterable (world_of scene.now) walk.old.env.bounds (settled_of walk.old.nodes settled) to.now (iterable scene.now.table.now (type_of walk.old.nodes settled.ty))) (now walk.old)).state ≡ now walk.new) }
+    ensures value { IfOk result (λ e. (ran (each_iterable (world_of scene.now) walk.old.env.bounds (settled_of walk.old.nodes settled) to.now (iterable scene.now.table.now (type_of walk.old.nodes settled.ty))) (now walk.old)).has ≡ has_elements walk.new.nodes e) }
     ensures below { IfOk result (λ e. SomeElementsBelow (length walk.new.nodes) e) }
     ensures grows { Grows walk.old.nodes walk.new.nodes }
 {
-    let class = iterable_class(table);
-    match view(alloc, table, class, walk.nodes.ty(settled.ty))? {
+    let class = iterable_class(scene.table);
+    match view(alloc, scene.table, class, walk.nodes.ty(settled.ty))? {
         None => {
             note(walk, refusal(617, settled.part.place));
             Ok(None)
         }
-        Some(seen) => each_in_view(alloc, table, walk, settled, to, &seen),
+        Some(seen) => each_in_open(alloc, scene, walk, settled, to, &seen),
     }
 }
 
 // Elements of a settled expression.
-#[tactic(auto, using(jc_typed::proofs::Growing::growing), unfolding(jc_exprs_nodes_spec::specs::Told::ran))]
+#[tactic(auto, using(jc_typed::proofs::Growing::growing, jc_exprs_worlds::proofs::Told::worlds), unfolding(jc_exprs_nodes_spec::specs::Told::ran))]
 fn each_type(
     alloc: Global,
-    table: &Table,
+    scene: &Scene,
     walk: &mut Walk,
     settled: SettledPart,
     to: &Ty,
 ) -> Result<Option<ElementsAt>, WantOfMemory>
     requires { IsSettled walk.old.nodes (Some settled) }
-    ensures state { OnOk result ((ran (each_type table.now to.now (settled_of walk.old.nodes settled)) (now walk.old)).state ≡ now walk.new) }
-    ensures value { IfOk result (λ e. (ran (each_type table.now to.now (settled_of walk.old.nodes settled)) (now walk.old)).has ≡ has_elements walk.new.nodes e) }
+    ensures state { OnOk result ((ran (each_type (world_of scene.now) to.now (settled_of walk.old.nodes settled)) (now walk.old)).state ≡ now walk.new) }
+    ensures value { IfOk result (λ e. (ran (each_type (world_of scene.now) to.now (settled_of walk.old.nodes settled)) (now walk.old)).has ≡ has_elements walk.new.nodes e) }
     ensures below { IfOk result (λ e. SomeElementsBelow (length walk.new.nodes) e) }
     ensures grows { Grows walk.old.nodes walk.new.nodes }
 {
     match element(alloc, walk.nodes.ty(settled.ty))? {
-        Some(of) => each_in_array(alloc, table, walk, settled, to, &of),
-        None => each_iterable(alloc, table, walk, settled, to),
+        Some(of) => each_in_array(alloc, scene, walk, settled, to, &of),
+        None => each_iterable(alloc, scene, walk, settled, to),
     }
 }
 
 // Elements of an expression.
-#[tactic(auto, using(jc_typed::proofs::Growing::growing, jc_exprs_nodes_spec::proofs::Runs::runs))]
+#[tactic(auto, using(jc_typed::proofs::Growing::growing, jc_exprs_nodes_spec::proofs::Runs::runs, jc_exprs_worlds::proofs::Told::worlds))]
 fn each_part(
     alloc: Global,
-    table: &Table,
+    scene: &Scene,
     walk: &mut Walk,
     part: Part,
     to: &Ty,
 ) -> Result<Option<ElementsAt>, WantOfMemory>
     requires { IsPart walk.old.nodes part }
-    ensures state { OnOk result ((ran (each_by_type table.now to.now (known walk.old.nodes part.at)) (now walk.old)).state ≡ now walk.new) }
-    ensures value { IfOk result (λ e. (ran (each_by_type table.now to.now (known walk.old.nodes part.at)) (now walk.old)).has ≡ has_elements walk.new.nodes e) }
+    ensures state { OnOk result ((ran (each_by_type (world_of scene.now) to.now (known walk.old.nodes part.at)) (now walk.old)).state ≡ now walk.new) }
+    ensures value { IfOk result (λ e. (ran (each_by_type (world_of scene.now) to.now (known walk.old.nodes part.at)) (now walk.old)).has ≡ has_elements walk.new.nodes e) }
     ensures below { IfOk result (λ e. SomeElementsBelow (length walk.new.nodes) e) }
     ensures grows { Grows walk.old.nodes walk.new.nodes }
 {
-    match settled(alloc, table, walk, part)? {
+    match settled(alloc, scene.table, walk, part)? {
         None => Ok(None),
-        Some(of) => each_type(alloc, table, walk, of, to),
+        Some(of) => each_type(alloc, scene, walk, of, to),
     }
 }
 
-/// What an enhanced `for` goes over with a variable of this type, where the walk has a typing of it: 617 at what is neither an array nor an Iterable, 607 where an element doesn't go into the
-/// variable by assignment, 624 where two unrelated classes meet.
+/// What an enhanced `for` goes over with a variable of this type, where the walk has a typing of it: 617 at what is neither an array nor an Iterable, 618 at an Iterable whose type may not be named there, 607 where an
+/// element doesn't go into the variable by assignment, 624 where two unrelated classes meet.
 pub fn each(
     alloc: Global,
-    table: &Table,
+    scene: &Scene,
     walk: &mut Walk,
     to: &Ty,
     at: u32,
 ) -> Result<Option<ElementsAt>, WantOfMemory>
     requires { at < length walk.old.nodes }
-    ensures state { OnOk result ((gated (each_by_type table.now to.now) (has walk.old.nodes at) (now walk.old)).state ≡ now walk.new) }
-    ensures value { IfOk result (λ e. (gated (each_by_type table.now to.now) (has walk.old.nodes at) (now walk.old)).has ≡ has_elements walk.new.nodes e) }
+    ensures state { OnOk result ((gated (each_by_type (world_of scene.now) to.now) (has walk.old.nodes at) (now walk.old)).state ≡ now walk.new) }
+    ensures value { IfOk result (λ e. (gated (each_by_type (world_of scene.now) to.now) (has walk.old.nodes at) (now walk.old)).has ≡ has_elements walk.new.nodes e) }
     ensures below { IfOk result (λ e. SomeElementsBelow (length walk.new.nodes) e) }
     ensures grows { Grows walk.old.nodes walk.new.nodes }
 {
     match part(&walk.nodes, at) {
         None => Ok(None),
-        Some(part) => each_part(alloc, table, walk, part, to),
+        Some(part) => each_part(alloc, scene, walk, part, to),
     }
 }
