@@ -15,7 +15,8 @@ use Rattle.jc_resolve_sites.specs.Sites.{apart_site, renamed_site}
 use Rattle.jc_typed.specs.declared.nodes.Node.{Node}
 use Rattle.jc_typed.specs.Parts.{type_of}
 use Rattle.jc_exprs_nodes_spec.specs.Told.{Run, fine, provided, unless}
-use Rattle.jc_exprs_spec.specs.Calls.{by_choice, members_breaks}
+use Rattle.jc_exprs_parts_spec.specs.Worlds.{World}
+use Rattle.jc_exprs_spec.specs.Calls.{by_choice, members_breaks, open_choice}
 use Rattle.jc_exprs_spec.specs.Creations.{is_generic}
 
 -- the type of a target by its place, if there is one
@@ -36,9 +37,10 @@ abbrev pub choice_by : Place → List Refusal → Choice → Run Chosen
 choice_by place broken c = provided broken (by_choice place c (λ d. fine d))
 
 -- a choice among the members of a type, of which the site has those that may be named
-unfoldable pub choosing_in : Table → Place → Ty → List Refusal → List MethodView → CallSite → Run Chosen
-choosing_in T place t broken ms site env = choice_by place (broken ++ members_breaks place ms site.members) (resolved T env (apart_site T t site)) env
+unfoldable pub choosing_in : World → Place → Ty → List Refusal → List MethodView → CallSite → Run Chosen
+choosing_in W place t broken ms site env =
+    choice_by place (broken ++ members_breaks place ms site.members) (open_choice W env (resolved W.table env (apart_site W.table t site))) env
 
 -- a choice among the constructors of a class, for a creation with a diamond
-unfoldable pub creating_in : Table → Place → List MethodView → CallSite → Run Chosen
-creating_in T place ms site env = choice_by place (members_breaks place ms site.members) (resolved T env (renamed_site T site)) env
+unfoldable pub creating_in : World → Place → List MethodView → CallSite → Run Chosen
+creating_in W place ms site env = choice_by place (members_breaks place ms site.members) (open_choice W env (resolved W.table env (renamed_site W.table site))) env

@@ -4,6 +4,7 @@
 mod breaking;
 mod choosing;
 mod creatable;
+mod opening;
 mod sites;
 
 pub use breaking::{Broken, broken_of, refused_by};
