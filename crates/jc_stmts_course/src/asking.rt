@@ -19,8 +19,7 @@ use jc_rules::{Place, WantOfMemory};
 use jc_stmts_answers::{AnswerAt, ElementsAt};
 use jc_stmts_plan::Want;
 use jc_stmts_wants::{
-    KeyAt, Labelling, Scope, Wanting, label as label_at, operand_constant, operand_type,
-    wanted,
+    KeyAt, Labelling, Scope, Wanting, label as label_at, operand_constant, operand_type, wanted,
 };
 use jc_typed::Nodes;
 use jc_types::{Constant, Table, Ty, copy_type};

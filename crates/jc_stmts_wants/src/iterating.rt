@@ -17,11 +17,11 @@ ghost use Rattle.jc_stmts_wants.specs.Wanting.{SomeElementsBelow, each_by_type, 
 
 use crate::wanting::push_guarded;
 use jc_convert::{Converts, assignment};
+use jc_exprs_fields::is_open_type;
 use jc_exprs_nodes::{
     Judging, KindAt, Led, Part, Walk, capturing, note, part, push_read_guard, push_steps_by,
     refusal, unconverted,
 };
-use jc_exprs_fields::is_open_type;
 use jc_exprs_settling::{SettledPart, settled};
 use jc_exprs_worlds::Scene;
 use jc_lub::object;

@@ -11,6 +11,7 @@ use Rattle.jc_stmts_wants.proofs.Onward.{onward_some}
 use Rattle.jc_stmts_wants.proofs.iterating.each_part.Goals as goal
 
 pub returns-in-Some-clause-value : goal.returns-in-Some-clause-value
+unfolding world_of
 returns-in-Some-clause-value c =
     let W = world_of c.args.scene.now in
     let w = c.settled.new.walk in
