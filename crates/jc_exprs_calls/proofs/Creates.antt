@@ -22,20 +22,20 @@ use Rattle.jc_exprs_calls.specs.Laws.{ConstructorIsGated}
 
 -- the choice of a constructor, by what it is asked with
 pub constructor_chosen : (W : World) (place : Place) (t : Ty) (ts : List Typed) (ms open_ones : List MethodView) (types : List Ty) (at : CallSite) → ms ≡ constructors W.table t false → open_ones ≡ accessible W t ms →
-    types ≡ [] → at ≡ site open_ones types ts None → choosing_in W.table place t [] ms at ≡ constructor_in W place t ts
+    types ≡ [] → at ≡ site open_ones types ts None → choosing_in W place t [] ms at ≡ constructor_in W place t ts
 constructor_chosen W place t ts ms open_ones types at f g i j =
-    ap (λ (x : CallSite). choosing_in W.table place t [] ms x) j
-    ∙ ap (λ (x : List Ty). choosing_in W.table place t [] ms (site open_ones x ts None)) i
-    ∙ ap (λ (x : List MethodView). choosing_in W.table place t [] ms (site x [] ts None)) g
-    ∙ ap (λ (x : List MethodView). choosing_in W.table place t [] x (site (accessible W t x) [] ts None)) f
+    ap (λ (x : CallSite). choosing_in W place t [] ms x) j
+    ∙ ap (λ (x : List Ty). choosing_in W place t [] ms (site open_ones x ts None)) i
+    ∙ ap (λ (x : List MethodView). choosing_in W place t [] ms (site x [] ts None)) g
+    ∙ ap (λ (x : List MethodView). choosing_in W place t [] x (site (accessible W t x) [] ts None)) f
 
 pub diamond_chosen : (W : World) (place : Place) (t : Ty) (ts : List Typed) (target : Option Ty) (ms open_ones : List MethodView) (types : List Ty) (at : CallSite) → ms ≡ constructors W.table t true →
-    open_ones ≡ accessible W t ms → types ≡ [] → at ≡ site open_ones types ts target → creating_in W.table place ms at ≡ diamond_in W place t ts target
+    open_ones ≡ accessible W t ms → types ≡ [] → at ≡ site open_ones types ts target → creating_in W place ms at ≡ diamond_in W place t ts target
 diamond_chosen W place t ts target ms open_ones types at f g i j =
-    ap (λ (x : CallSite). creating_in W.table place ms x) j
-    ∙ ap (λ (x : List Ty). creating_in W.table place ms (site open_ones x ts target)) i
-    ∙ ap (λ (x : List MethodView). creating_in W.table place ms (site x [] ts target)) g
-    ∙ ap (λ (x : List MethodView). creating_in W.table place x (site (accessible W t x) [] ts target)) f
+    ap (λ (x : CallSite). creating_in W place ms x) j
+    ∙ ap (λ (x : List Ty). creating_in W place ms (site open_ones x ts target)) i
+    ∙ ap (λ (x : List MethodView). creating_in W place ms (site x [] ts target)) g
+    ∙ ap (λ (x : List MethodView). creating_in W place x (site (accessible W t x) [] ts target)) f
 
 module _ {A : Type 0} (f : Chosen → Run A) where
   gates : (q : Ran Chosen) (o : Option Chosen) (z : Standing) → q.state ≡ z → q.has ≡ o → gated f q.has q.state ≡ gated f o z

@@ -12,14 +12,14 @@ use Rattle.jc_resolve.specs.declared.choice.Chosen.{Chosen}
 use Rattle.jc_exprs_nodes_spec.specs.Told.{Run, by_rule, unless}
 use Rattle.jc_exprs_nodes_spec.specs.Typeds.{Typed}
 use Rattle.jc_exprs_parts_spec.specs.Worlds.{World, round, this_type}
-use Rattle.jc_exprs_spec.specs.Calls.{Receiver, OnOuter, OnThis, accessible, all_types, called, explicit_types, searched, site}
+use Rattle.jc_exprs_spec.specs.Calls.{Receiver, OnOuter, OnThis, accessible, all_types, called, explicit_types, methods_of, searched, site}
 use Rattle.jc_exprs_choosing.specs.Choosing.{choosing_in}
 
 -- the method that a call means
 abbrev pub method_in : World → Place → Receiver → List ℕ → List TypeArg → List Typed → Option Ty → Run Chosen
 method_in W place r n explicit ts target =
-    choosing_in W.table place (searched W r) (unless (all_types W explicit) 623 place) (members W.table (searched W r) n)
-    (site (accessible W (searched W r) (members W.table (searched W r) n)) (explicit_types W explicit) ts target)
+    choosing_in W place (searched W r) (unless (all_types W explicit) 623 place) (methods_of W r n)
+    (site (accessible W (searched W r) (methods_of W r n)) (explicit_types W explicit) ts target)
 
 -- the first of these classes that has a method of a name
 abbrev pub class_if : ClassId → List MethodView → Option ClassId → Option ClassId

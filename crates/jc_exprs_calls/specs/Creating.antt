@@ -20,11 +20,11 @@ use Rattle.jc_exprs_choosing.specs.Choosing.{choosing_in, creating_in}
 -- the constructor, as a type has it, and behind a diamond
 abbrev pub constructor_in : World → Place → Ty → List Typed → Run Chosen
 constructor_in W place t ts =
-    choosing_in W.table place t [] (constructors W.table t false) (site (accessible W t (constructors W.table t false)) [] ts None)
+    choosing_in W place t [] (constructors W.table t false) (site (accessible W t (constructors W.table t false)) [] ts None)
 
 abbrev pub diamond_in : World → Place → Ty → List Typed → Option Ty → Run Chosen
 diamond_in W place t ts target =
-    creating_in W.table place (constructors W.table t true) (site (accessible W t (constructors W.table t true)) [] ts target)
+    creating_in W place (constructors W.table t true) (site (accessible W t (constructors W.table t true)) [] ts target)
 
 -- the form of a creation by a chosen constructor
 abbrev pub new_form : Table → List Bounds → Place → Ty → Bool → List Typed → Chosen → Form

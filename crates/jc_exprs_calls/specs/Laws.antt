@@ -1,16 +1,14 @@
 -- How a walk goes through the parts of a call behind a point, and through the arguments of a call of another constructor.
-use Rattle.std.specs.Prelude.{◌≡◌, ℕ, List, Option, map}
+use Rattle.std.specs.Prelude.{◌≡◌, List, map}
 use Rattle.jc_rules.specs.declared.rule.Place.{Place}
 use Rattle.jc_tree.specs.declared.expression.Expr.{Expr}
-use Rattle.jc_tree.specs.declared.types.TypeArg.{TypeArg}
 use Rattle.jc_types.specs.declared.form.Ty.{Ty}
 use Rattle.jc_exprs_nodes_spec.specs.Told.{Run, Standing, both, every, onward, ran}
 use Rattle.jc_exprs_nodes_spec.specs.Gates.{gated, gated_two}
 use Rattle.jc_exprs_nodes_spec.specs.Typeds.{Typed}
 use Rattle.jc_exprs_parts_spec.specs.Names.{Meaning}
-use Rattle.jc_exprs_parts_spec.specs.Senses.{OfClass, OfNothing, Sense}
 use Rattle.jc_exprs_parts_spec.specs.Worlds.{World}
-use Rattle.jc_exprs_spec.specs.Calls.{Before, OfSense, call_on}
+use Rattle.jc_exprs_spec.specs.Calls.{Before}
 use Rattle.jc_exprs_spec.specs.Typing.{constructed, made, runs}
 use Rattle.jc_exprs_calls.specs.Creating.{constructed_by}
 
@@ -21,16 +19,6 @@ abbrev pub CallIsGated : Type 0
 CallIsGated =
     (f : Before → List Typed → Run Typed) (m : Run Before) (ms : List (Run Typed)) (s : Standing) →
     ran (onward (both m (every ms)) (λ p. f p.0 p.1)) s ≡ gated_two f (ran m s).has (ran (every ms) (ran m s).state).has (ran (every ms) (ran m s).state).state
-
--- what no class is
-abbrev pub without_class : Sense → Sense
-without_class (OfClass k) = OfClass k
-without_class _ = OfNothing
-
-abbrev pub NoClassHasNoMethods : Type 0
-NoClassHasNoMethods =
-    (W : World) (place : Place) (n : List ℕ) (explicit : List TypeArg) (target : Option Ty) (sense : Sense) (ts : List Typed) →
-    call_on W place n explicit target (OfSense sense) ts ≡ call_on W place n explicit target (OfSense (without_class sense)) ts
 
 abbrev pub ConstructorIsGated : Type 0
 ConstructorIsGated =

@@ -2,7 +2,7 @@
 use Rattle.std.specs.Prelude.{List, Option, None, Some}
 use Rattle.jc_typed.specs.declared.nodes.Node.{Node}
 use Rattle.jc_exprs_settling.specs.Settlings.{IsSettled, settled_of}
-use Rattle.jc_exprs_parts_spec.specs.Senses.{OfClass, OfNothing}
+use Rattle.jc_exprs_senses.specs.Sensed.{sense_of}
 use Rattle.jc_exprs_spec.specs.Calls.{Before, OfSense, OfValue, Receiver}
 use Rattle.jc_exprs_calls.specs.declared.receivers.ReceiverAt.{ReceiverAt}
 use Rattle.jc_exprs_calls.specs.Receivers.{IsReceiver, receiver_of}
@@ -17,16 +17,13 @@ abbrev pub AreReceivers : List Node → Option ReceiverAt → Type 0
 AreReceivers ns None = Unit {0}
 AreReceivers ns (Some r) = IsReceiver ns r
 
--- what no class is, is one thing to a call
 abbrev pub before_of : List Node → BeforeAt → Before
 before_of ns (at.OfValue s) = OfValue (settled_of ns s)
-before_of ns (at.OfClass k) = OfSense (OfClass k)
-before_of ns at.OfOther = OfSense OfNothing
+before_of ns (at.OfSense s) = OfSense (sense_of s)
 
 abbrev pub IsBefore : List Node → BeforeAt → Type 0
 IsBefore ns (at.OfValue s) = IsSettled ns (Some s)
-IsBefore ns (at.OfClass k) = Unit {0}
-IsBefore ns at.OfOther = Unit {0}
+IsBefore ns (at.OfSense s) = Unit {0}
 
 abbrev pub has_before : List Node → Option BeforeAt → Option Before
 has_before ns None = None

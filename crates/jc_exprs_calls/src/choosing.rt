@@ -42,7 +42,7 @@ pub fn chosen_constructor(
         ty,
         members: found,
     };
-    chosen(alloc, scene.table, walk, &among, None, site)
+    chosen(alloc, scene, walk, &among, None, site)
 }
 
 /// The constructor of a class for a creation with a diamond, which has a target where its value is assigned.
@@ -71,5 +71,5 @@ pub fn chosen_for_diamond(
         ty: creation.ty,
         members: found,
     };
-    chosen_by_diamond(alloc, scene.table, walk, &among, site)
+    chosen_by_diamond(alloc, scene, walk, &among, site)
 }

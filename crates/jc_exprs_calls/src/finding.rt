@@ -8,8 +8,9 @@ ghost use Rattle.jc_exprs_nodes.specs.Walks.{IsPart, has, known, now};
 ghost use Rattle.jc_exprs_gathering.specs.Gathered.{AllParts};
 ghost use Rattle.jc_types.specs.Accessors.{supers_of};
 ghost use Rattle.jc_exprs_parts_spec.specs.Names.{Value, first_super, super_type};
-ghost use Rattle.jc_exprs_spec.specs.Calls.{OnSuper, asked, call_here, call_on, call_super, called, super_called};
+ghost use Rattle.jc_exprs_spec.specs.Calls.{OfSense, OnSuper, asked, call_here, call_on, call_super, called, super_called};
 ghost use Rattle.jc_exprs_calls.specs.Receivers.{IsReceiver, receiver_of};
+ghost use Rattle.jc_exprs_senses.specs.Sensed.{sense_of};
 ghost use Rattle.jc_exprs_worlds.specs.Scenes.{IsWorldly, world_of};
 ghost use Rattle.jc_exprs_choosing.specs.Choosing.{TypeBelow, type_if};
 ghost use Rattle.jc_exprs_calls.specs.Placing.{AreBefore, IsBefore, before_of, has_before};
@@ -20,6 +21,7 @@ use crate::invoking::called;
 use crate::receivers::ReceiverAt;
 use crate::searching::receiver_here;
 use jc_exprs_nodes::{Part, Walk, broken, refused};
+use jc_exprs_senses::NameSense;
 use jc_exprs_settling::{SettledPart, settled};
 use jc_exprs_worlds::Scene;
 use jc_rules::{Place, WantOfMemory};
@@ -28,13 +30,12 @@ use jc_typed::Nodes;
 use jc_types::{ClassId, Table, Ty, class_supers, copy_type};
 use std::alloc::Global;
 
-/// What stands before the point of a call: a value, whose members are asked before the arguments have their types, as it is evaluated before them (JLS 15.7.4, 15.12.4.1); a class; or a
-/// package or nothing, behind which no method stands.
-#[derive(Clone, Copy, Debug)]
+/// What stands before the point of a call: a value, whose members are asked before the arguments have their types, as it is evaluated before them (JLS 15.7.4, 15.12.4.1); or what a name means that
+/// is no value.
+#[derive(Drop)]
 pub enum BeforeAt {
     OfValue(SettledPart),
-    OfClass(ClassId),
-    OfOther,
+    OfSense(NameSense),
 }
 
 /// A value before a point: its settled type; none where two unrelated classes meet (624).
@@ -54,6 +55,42 @@ pub fn asked_value(
     match settled(alloc, scene.table, walk, part)? {
         None => Ok(None),
         Some(value) => Ok(Some(BeforeAt::OfValue(value))),
+    }
+}
+
+// A call behind what a name means that is no value: of a class; 602 for a package.
+#[tactic(auto, unfolding(jc_exprs_spec::specs::Calls::call_on))]
+fn call_on_sense(
+    alloc: Global,
+    methods: &Methods,
+    walk: &mut Walk,
+    sense: NameSense,
+    named: &Named,
+    explicit: &[TypeArg],
+) -> Result<u32, WantOfMemory>
+    requires index { IsMethodIndex methods.now.scene.now.table.now methods.now.index.now }
+    requires scene { IsWorldly methods.now.scene.now }
+    requires args { AllParts walk.old.nodes named.now.args.now }
+    requires target { TypeBelow walk.old.nodes named.now.target }
+    ensures state { OnOk result ((ran (call_on (world_of methods.now.scene.now) named.now.place named.now.name.now explicit.now (type_if walk.old.nodes named.now.target) (OfSense (sense_of sense)) (map (known walk.old.nodes) named.now.args.now)) (now walk.old)).state ≡ now walk.new) }
+    ensures value { IfOk result (λ at. (ran (call_on (world_of methods.now.scene.now) named.now.place named.now.name.now explicit.now (type_if walk.old.nodes named.now.target) (OfSense (sense_of sense)) (map (known walk.old.nodes) named.now.args.now)) (now walk.old)).has ≡ has walk.new.nodes at) }
+    ensures within { IfOk result (λ at. at < length walk.new.nodes) }
+    ensures grows { Grows walk.old.nodes walk.new.nodes }
+{
+    match sense {
+        NameSense::Class(class) => {
+            called(
+                alloc,
+                methods,
+                walk,
+                ReceiverAt::OnClass(class),
+                named,
+                explicit,
+            )
+        }
+        NameSense::Fields { .. } => broken(walk, 602, named.place),
+        NameSense::Package(_) => broken(walk, 602, named.place),
+        NameSense::Nothing => broken(walk, 602, named.place),
     }
 }
 
@@ -88,17 +125,7 @@ pub fn call_on(
                 explicit,
             )
         }
-        BeforeAt::OfClass(class) => {
-            called(
-                alloc,
-                methods,
-                walk,
-                ReceiverAt::OnClass(class),
-                named,
-                explicit,
-            )
-        }
-        BeforeAt::OfOther => broken(walk, 602, named.place),
+        BeforeAt::OfSense(sense) => call_on_sense(alloc, methods, walk, sense, named, explicit),
     }
 }
 

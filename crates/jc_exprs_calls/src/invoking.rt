@@ -17,12 +17,13 @@ use crate::asking::{Methods, Named};
 use crate::breaking::{receiver_break, super_break};
 use crate::explicit::{accessible, explicit_break, explicit_types};
 use crate::forms::{Calling, push_call_form};
-use crate::receivers::{ReceiverAt, is_super, searched};
+use crate::members::methods_by;
+use crate::receivers::{ReceiverAt, is_by_bounds, is_super, searched};
 use crate::results::{valued_call, void_call};
 use jc_exprs_choosing::{Among, Broken, broken_of, call_site, chosen, refused_by};
 use jc_exprs_nodes::{Walk, missing};
 use jc_exprs_worlds::Scene;
-use jc_members::{is_abstract, is_static, members};
+use jc_members::{is_abstract, is_static};
 use jc_resolve::Chosen;
 use jc_rules::WantOfMemory;
 use jc_tree::TypeArg;
@@ -116,7 +117,8 @@ fn chosen_method(
 {
     let scene = methods.scene;
     let ty = searched(alloc, scene, &walk.nodes, receiver)?;
-    let all = members(alloc, scene.table, methods.index, &ty, named.name)?;
+    let by_bounds = is_by_bounds(receiver);
+    let all = methods_by(alloc, methods, by_bounds, &ty, named.name)?;
     let found = all.slice();
     let nameable = accessible(alloc, scene, &ty, found)?;
     let broken = explicit_break(alloc, scene, named.place, explicit)?;
@@ -134,7 +136,7 @@ fn chosen_method(
         ty: &ty,
         members: found,
     };
-    chosen(alloc, scene.table, walk, &among, broken, site)
+    chosen(alloc, scene, walk, &among, broken, site)
 }
 
 /// A call of a method of a name behind a receiver, explicit type arguments being written or none: 623, 603, 618, 604, 605 and 606 where none is chosen, and 611, 620 and 621 where the

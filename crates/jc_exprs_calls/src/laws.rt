@@ -1,5 +1,5 @@
 //! How a walk goes through the parts of a call and of a creation.
-ghost use Rattle.jc_exprs_calls.specs.Laws.{BeforeIsGated, CallIsGated, ConstructorIsGated, NoClassHasNoMethods};
+ghost use Rattle.jc_exprs_calls.specs.Laws.{BeforeIsGated, CallIsGated, ConstructorIsGated};
 
 /// What stands before a point is asked where the name or value there has a meaning.
 #[tactic(auto, using(crate::proofs::Gating::before_gated))]
@@ -11,12 +11,6 @@ pub fn before_is_gated()
 #[tactic(auto, using(crate::proofs::Gating::call_gated))]
 pub fn call_is_gated()
     ensures { CallIsGated }
-{}
-
-/// A package, a field's name, and what means nothing are one to a call: no method stands behind it (602).
-#[tactic(auto, using(crate::proofs::Gating::no_methods))]
-pub fn no_class_has_no_methods()
-    ensures { NoClassHasNoMethods }
 {}
 
 /// The arguments are asked one after another, and the constructor where each has a typing.

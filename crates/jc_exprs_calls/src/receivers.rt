@@ -1,17 +1,20 @@
 //! What stands before a call (JLS 15.12.1).
-ghost use Rattle.std.specs.Prelude.{◌≡◌, ◌||◌, IfOk, List};
+ghost use Rattle.std.specs.Prelude.{◌≡◌, ◌||◌, ℕ, IfOk, List};
 ghost use Rattle.jc_overriding.specs.Overriding.{access_of};
 ghost use Rattle.jc_typed.specs.declared.nodes.Node.{Node};
-ghost use Rattle.jc_exprs_spec.specs.Calls.{call_kind, is_private, is_super, kind_of, searched};
+ghost use Rattle.jc_exprs_parts_spec.specs.Fields.{is_private};
+ghost use Rattle.jc_exprs_parts_spec.specs.Worlds.{World};
+ghost use Rattle.jc_exprs_spec.specs.Calls.{call_kind, is_super, kind_of, methods_by, methods_of, searched};
 ghost use Rattle.jc_exprs_worlds.specs.Scenes.{world_of};
 ghost use Rattle.jc_exprs_calls.specs.Receivers.{IsReceiver, receiver_of};
 
+use jc_exprs_fields::is_private;
 use jc_exprs_settling::SettledPart;
 use jc_exprs_worlds::{Scene, named_class, this_type};
 use jc_members::{access_of, is_static, own_type};
 use jc_rules::{Place, WantOfMemory};
 use jc_typed::{CallKind, Nodes};
-use jc_types::{Access, ClassId, MethodId, Table, Ty, copy_type};
+use jc_types::{ClassId, MethodId, Table, Ty, copy_type};
 use std::alloc::Global;
 
 /// What stands before a call: a value whose settled type has the method; the instance of the place, of its own class or through `super`, whose type stands in the arena; or a class, which
@@ -55,11 +58,12 @@ pub fn searched(
     }
 }
 
-fn is_private(access: Access) -> bool
-    ensures { result ≡ is_private access }
+/// Whether the methods of a type whose members are asked are those of bounds, and so none of them is private (JLS 4.4, 4.9).
+pub fn is_by_bounds(receiver: ReceiverAt) -> bool
+    ensures { (W : World) (ns : List Node) (n : List ℕ) → methods_of W (receiver_of ns receiver) n ≡ methods_by W result (searched W (receiver_of ns receiver)) n }
 {
-    match access {
-        Access::Private => true,
+    match receiver {
+        ReceiverAt::OnValue(settled) => settled.by_bounds,
         _ => false,
     }
 }
