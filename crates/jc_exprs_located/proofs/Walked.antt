@@ -10,8 +10,8 @@ use Rattle.jc_exprs_nodes_spec.specs.Gates.{gated, stopped}
 use Rattle.jc_exprs_nodes_spec.specs.Told.{Run, Standing, fine, onward, ran}
 use Rattle.jc_exprs_nodes_spec.specs.Typeds.{Settled, Typed, one_operand, plain, settled, type_of}
 use Rattle.jc_exprs_nodes_spec.proofs.Runs.{ran_onward}
-use Rattle.jc_exprs_parts_spec.specs.Fields.{fields_named}
-use Rattle.jc_exprs_parts_spec.specs.Names.{AtLength, FieldAt, array_operand, constant_at, element_by, element_of, indexed, is_length, member_of, one_field, value_member}
+use Rattle.jc_exprs_parts_spec.specs.Fields.{member_fields}
+use Rattle.jc_exprs_parts_spec.specs.Names.{FieldAt, array_length, constant_at, element_by, indexed, is_length, member_of, one_field, value_member}
 use Rattle.jc_exprs_parts_spec.specs.Worlds.{World}
 
 -- ---- constants behind the reads of their fields
@@ -34,20 +34,15 @@ member_gated W T n v place s r o t e p q =
     ∙ ap (λ x. gated (member_of W x n) (ran (settled T v) s).has (ran (settled T v) s).state) e
     ∙ rw (q, p) refl
 
-pub element_gated : (W : World) (T : Table) (a i : Typed) (s r : Standing) (o : Option Settled) → W.table ≡ T → (ran (settled T a) s).state ≡ r → (ran (settled T a) s).has ≡ o →
-    ran (element_of W a i) s ≡ gated (indexed T i) o r
-unfolding element_of
-element_gated W T a i s r o t p q = ap (λ (U : Table). ran (onward (settled U a) (indexed U i)) s) t ∙ ran_onward (indexed T i) (settled T a) s ∙ rw (q, p) refl
-
 module _ (W : World) (place : Place) (n : List ℕ) (s : Settled) (st : Standing) where
-  pub length_found : is_length s.ty n ≡ true → ran (member_of W place n s) st ≡ ran (fine (AtLength place (array_operand W.table st.env s))) st
+  pub length_found : is_length s.ty n ≡ true → ran (member_of W place n s) st ≡ ran (array_length W st.env place s) st
   unfolding ran
   length_found h = rw h refl
 
-  pub field_found : is_length s.ty n ≡ false → ran (member_of W place n s) st ≡ ran (one_field W st.env place s (fields_named W.table s.ty n)) st
+  pub field_found : is_length s.ty n ≡ false → ran (member_of W place n s) st ≡ ran (one_field W st.env place s (member_fields W.table s.ty s.by_bounds n)) st
   unfolding ran
   field_found h = rw h refl
 
-pub index_asked : (T : Table) (i : Typed) (s : Settled) (st : Standing) → ran (indexed T i s) st ≡ ran (element_by T st.env s i (invocation T st.env (type_of i) (Prim Int))) st
+pub index_asked : (T : Table) (a i : Typed) (st : Standing) → ran (indexed T a i) st ≡ ran (element_by T st.env a i (invocation T st.env (type_of i) (Prim Int))) st
 unfolding ran
-index_asked T i s st = refl
+index_asked T a i st = refl

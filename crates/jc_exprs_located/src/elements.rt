@@ -1,24 +1,20 @@
 //! Elements of arrays (JLS 15.13).
-ghost use Rattle.std.specs.Prelude.{◌≡◌, ◌<◌, ◌++◌, Some, length, IfOk, OnOk};
+ghost use Rattle.std.specs.Prelude.{◌≡◌, ◌<◌, ◌++◌, length, IfOk, OnOk};
 ghost use Rattle.jc_typed.specs.Parts.{Grows};
 ghost use Rattle.jc_types.specs.declared.form.Primitive.TheVariants.{Int};
 ghost use Rattle.jc_types.specs.declared.form.Ty.TheVariants.{Prim};
 ghost use Rattle.jc_types.specs.Arrays.{element};
-ghost use Rattle.jc_exprs_nodes_spec.specs.Gates.{gated};
 ghost use Rattle.jc_exprs_nodes_spec.specs.Told.{fine, provided, ran};
-ghost use Rattle.jc_exprs_nodes_spec.specs.Typeds.{converted};
+ghost use Rattle.jc_exprs_nodes_spec.specs.Typeds.{converted, plain};
 ghost use Rattle.jc_exprs_nodes.specs.Walks.{IsPart, as_breaks, known, now};
-ghost use Rattle.jc_exprs_settling.specs.Settlings.{IsSettled, has_settled, settled_of};
-ghost use Rattle.jc_exprs_parts_spec.specs.Names.{AtElement, array_operand, element_breaks, element_by, element_of, indexed, or_int};
+ghost use Rattle.jc_exprs_parts_spec.specs.Names.{AtElement, element_breaks, element_by, element_of, indexed, or_int};
 ghost use Rattle.jc_exprs_worlds.specs.Scenes.{world_of};
 ghost use Rattle.jc_exprs_located.specs.Locations.{LocatedBelow, array_breaks, has_located};
 
 use crate::located::LocatedAt;
-use crate::members::push_array;
 use crate::premises::{both_hold, refused_both};
 use jc_convert::{Converts, invocation};
 use jc_exprs_nodes::{Judging, Part, Walk, converted, refusal, unconverted};
-use jc_exprs_settling::{SettledPart, settled};
 use jc_exprs_worlds::Scene;
 use jc_rules::{Place, Refusal, WantOfMemory};
 use jc_types::{Primitive, Table, Ty, element};
@@ -48,29 +44,27 @@ fn element_at<'a>(
     alloc: Global,
     walk: &mut Walk,
     table: &Table,
-    array: SettledPart,
+    array: Part,
     index: Part,
     converts: &Converts,
     element: Option<Ty>,
 ) -> Result<Option<LocatedAt<'a>>, WantOfMemory>
-    requires array { IsSettled walk.old.nodes (Some array) }
+    requires array { IsPart walk.old.nodes array }
     requires index { IsPart walk.old.nodes index }
-    ensures state { OnOk result ((ran (fine (AtElement (settled_of walk.old.nodes array).it.start (array_operand table.now walk.old.env.bounds (settled_of walk.old.nodes array)) (converted table.now walk.old.env.bounds (known walk.old.nodes index.at) converts.now) (or_int element))) (now walk.old)).state ≡ now walk.new) }
-    ensures value { IfOk result (λ l. (ran (fine (AtElement (settled_of walk.old.nodes array).it.start (array_operand table.now walk.old.env.bounds (settled_of walk.old.nodes array)) (converted table.now walk.old.env.bounds (known walk.old.nodes index.at) converts.now) (or_int element))) (now walk.old)).has ≡ has_located walk.new.nodes l) }
+    ensures state { OnOk result ((ran (fine (AtElement (known walk.old.nodes array.at).start (plain (known walk.old.nodes array.at)) (converted table.now walk.old.env.bounds (known walk.old.nodes index.at) converts.now) (or_int element))) (now walk.old)).state ≡ now walk.new) }
+    ensures value { IfOk result (λ l. (ran (fine (AtElement (known walk.old.nodes array.at).start (plain (known walk.old.nodes array.at)) (converted table.now walk.old.env.bounds (known walk.old.nodes index.at) converts.now) (or_int element))) (now walk.old)).has ≡ has_located walk.new.nodes l) }
     ensures below { IfOk result (λ l. LocatedBelow (length walk.new.nodes) l) }
     ensures grows { Grows walk.old.nodes walk.new.nodes }
 {
-    let place = array.part.start;
     let judging = Judging {
         table,
         env: &walk.env,
     };
-    let array = push_array(alloc, &mut walk.nodes, &judging, array)?;
     let index = converted(alloc, &mut walk.nodes, &judging, index, converts)?;
     let ty = walk.nodes.push_type(or_int(element))?;
     Ok(Some(LocatedAt::Element {
-        place,
-        array,
+        place: array.start,
+        array: array.at,
         index,
         ty,
     }))
@@ -81,19 +75,19 @@ fn element_with<'a>(
     alloc: Global,
     walk: &mut Walk,
     table: &Table,
-    array: SettledPart,
+    array: Part,
     index: Part,
     converts: &Converts,
     element: Option<Ty>,
 ) -> Result<Option<LocatedAt<'a>>, WantOfMemory>
-    requires array { IsSettled walk.old.nodes (Some array) }
+    requires array { IsPart walk.old.nodes array }
     requires index { IsPart walk.old.nodes index }
-    ensures state { OnOk result ((ran (provided (element_breaks (settled_of walk.old.nodes array) (known walk.old.nodes index.at) element converts.now) (fine (AtElement (settled_of walk.old.nodes array).it.start (array_operand table.now walk.old.env.bounds (settled_of walk.old.nodes array)) (converted table.now walk.old.env.bounds (known walk.old.nodes index.at) converts.now) (or_int element)))) (now walk.old)).state ≡ now walk.new) }
-    ensures value { IfOk result (λ l. (ran (provided (element_breaks (settled_of walk.old.nodes array) (known walk.old.nodes index.at) element converts.now) (fine (AtElement (settled_of walk.old.nodes array).it.start (array_operand table.now walk.old.env.bounds (settled_of walk.old.nodes array)) (converted table.now walk.old.env.bounds (known walk.old.nodes index.at) converts.now) (or_int element)))) (now walk.old)).has ≡ has_located walk.new.nodes l) }
+    ensures state { OnOk result ((ran (provided (element_breaks (known walk.old.nodes array.at) (known walk.old.nodes index.at) element converts.now) (fine (AtElement (known walk.old.nodes array.at).start (plain (known walk.old.nodes array.at)) (converted table.now walk.old.env.bounds (known walk.old.nodes index.at) converts.now) (or_int element)))) (now walk.old)).state ≡ now walk.new) }
+    ensures value { IfOk result (λ l. (ran (provided (element_breaks (known walk.old.nodes array.at) (known walk.old.nodes index.at) element converts.now) (fine (AtElement (known walk.old.nodes array.at).start (plain (known walk.old.nodes array.at)) (converted table.now walk.old.env.bounds (known walk.old.nodes index.at) converts.now) (or_int element)))) (now walk.old)).has ≡ has_located walk.new.nodes l) }
     ensures below { IfOk result (λ l. LocatedBelow (length walk.new.nodes) l) }
     ensures grows { Grows walk.old.nodes walk.new.nodes }
 {
-    let no_array = array_break(array.part.place, &element);
+    let no_array = array_break(array.place, &element);
     let no_int = unconverted(607, index.start, converts);
     if both_hold(&no_array, &no_int) {
         return element_at(alloc, walk, table, array, index, converts, element);
@@ -106,14 +100,14 @@ fn element_by<'a>(
     alloc: Global,
     walk: &mut Walk,
     table: &Table,
-    array: SettledPart,
+    array: Part,
     index: Part,
     converts: &Converts,
 ) -> Result<Option<LocatedAt<'a>>, WantOfMemory>
-    requires array { IsSettled walk.old.nodes (Some array) }
+    requires array { IsPart walk.old.nodes array }
     requires index { IsPart walk.old.nodes index }
-    ensures state { OnOk result ((ran (element_by table.now walk.old.env.bounds (settled_of walk.old.nodes array) (known walk.old.nodes index.at) converts.now) (now walk.old)).state ≡ now walk.new) }
-    ensures value { IfOk result (λ l. (ran (element_by table.now walk.old.env.bounds (settled_of walk.old.nodes array) (known walk.old.nodes index.at) converts.now) (now walk.old)).has ≡ has_located walk.new.nodes l) }
+    ensures state { OnOk result ((ran (element_by table.now walk.old.env.bounds (known walk.old.nodes array.at) (known walk.old.nodes index.at) converts.now) (now walk.old)).state ≡ now walk.new) }
+    ensures value { IfOk result (λ l. (ran (element_by table.now walk.old.env.bounds (known walk.old.nodes array.at) (known walk.old.nodes index.at) converts.now) (now walk.old)).has ≡ has_located walk.new.nodes l) }
     ensures below { IfOk result (λ l. LocatedBelow (length walk.new.nodes) l) }
     ensures grows { Grows walk.old.nodes walk.new.nodes }
 {
@@ -125,13 +119,13 @@ fn indexed<'a>(
     alloc: Global,
     walk: &mut Walk,
     table: &Table,
-    array: SettledPart,
+    array: Part,
     index: Part,
 ) -> Result<Option<LocatedAt<'a>>, WantOfMemory>
-    requires array { IsSettled walk.old.nodes (Some array) }
+    requires array { IsPart walk.old.nodes array }
     requires index { IsPart walk.old.nodes index }
-    ensures state { OnOk result ((ran (indexed table.now (known walk.old.nodes index.at) (settled_of walk.old.nodes array)) (now walk.old)).state ≡ now walk.new) }
-    ensures value { IfOk result (λ l. (ran (indexed table.now (known walk.old.nodes index.at) (settled_of walk.old.nodes array)) (now walk.old)).has ≡ has_located walk.new.nodes l) }
+    ensures state { OnOk result ((ran (indexed table.now (known walk.old.nodes array.at) (known walk.old.nodes index.at)) (now walk.old)).state ≡ now walk.new) }
+    ensures value { IfOk result (λ l. (ran (indexed table.now (known walk.old.nodes array.at) (known walk.old.nodes index.at)) (now walk.old)).has ≡ has_located walk.new.nodes l) }
     ensures below { IfOk result (λ l. LocatedBelow (length walk.new.nodes) l) }
     ensures grows { Grows walk.old.nodes walk.new.nodes }
 {
@@ -140,29 +134,8 @@ fn indexed<'a>(
     element_by(alloc, walk, table, array, index, &converts)
 }
 
-#[tactic(auto, using(jc_typed::proofs::Growing::growing))]
-fn element_of_settled<'a>(
-    alloc: Global,
-    walk: &mut Walk,
-    table: &Table,
-    array: Option<SettledPart>,
-    index: Part,
-) -> Result<Option<LocatedAt<'a>>, WantOfMemory>
-    requires array { IsSettled walk.old.nodes array }
-    requires index { IsPart walk.old.nodes index }
-    ensures state { OnOk result ((gated (indexed table.now (known walk.old.nodes index.at)) (has_settled walk.old.nodes array) (now walk.old)).state ≡ now walk.new) }
-    ensures value { IfOk result (λ l. (gated (indexed table.now (known walk.old.nodes index.at)) (has_settled walk.old.nodes array) (now walk.old)).has ≡ has_located walk.new.nodes l) }
-    ensures below { IfOk result (λ l. LocatedBelow (length walk.new.nodes) l) }
-    ensures grows { Grows walk.old.nodes walk.new.nodes }
-{
-    match array {
-        None => Ok(None),
-        Some(array) => indexed(alloc, walk, table, array, index),
-    }
-}
-
 /// An element of an array: 617 at what is no array, 607 at an index that isn't promoted to int.
-#[tactic(auto, using(jc_typed::proofs::Growing::growing, jc_exprs_nodes::proofs::Staying::staying))]
+#[tactic(auto, unfolding(jc_exprs_worlds::specs::Scenes::world_of, jc_exprs_parts_spec::specs::Names::element_of))]
 pub fn element_of<'a>(
     alloc: Global,
     walk: &mut Walk,
@@ -177,6 +150,5 @@ pub fn element_of<'a>(
     ensures below { IfOk result (λ l. LocatedBelow (length walk.new.nodes) l) }
     ensures grows { Grows walk.old.nodes walk.new.nodes }
 {
-    let asked = settled(alloc, scene.table, walk, array)?;
-    element_of_settled(alloc, walk, scene.table, asked, index)
+    indexed(alloc, walk, scene.table, array, index)
 }

@@ -1,5 +1,5 @@
 //! Fields of values, and of this object's superclass (JLS 15.11).
-ghost use Rattle.std.specs.Prelude.{◌≡◌, ◌<◌, Some, length, IfOk, OnOk};
+ghost use Rattle.std.specs.Prelude.{◌≡◌, ◌<◌, false, Some, length, IfOk, OnOk};
 ghost use Rattle.std.specs.Option.{option_copied};
 ghost use Rattle.jc_typed.specs.Parts.{Grows, operand_of};
 ghost use Rattle.jc_types.specs.Accessors.{supers_of};
@@ -7,8 +7,8 @@ ghost use Rattle.jc_exprs_nodes_spec.specs.Gates.{gated};
 ghost use Rattle.jc_exprs_nodes_spec.specs.Told.{fine, provided, ran, unless};
 ghost use Rattle.jc_exprs_nodes.specs.Walks.{IsPart, known, now};
 ghost use Rattle.jc_exprs_settling.specs.Settlings.{IsSettled, has_settled, settled_of};
-ghost use Rattle.jc_exprs_parts_spec.specs.Fields.{may_name_field};
-ghost use Rattle.jc_exprs_parts_spec.specs.Names.{AtField, AtLength, array_operand, first_super, is_length, member_of, one_field, super_by, super_member, this_at, value_member};
+ghost use Rattle.jc_exprs_parts_spec.specs.Fields.{is_open_type, may_name_field};
+ghost use Rattle.jc_exprs_parts_spec.specs.Names.{AtField, AtLength, array_length, array_operand, first_super, is_length, member_of, one_field, super_by, super_member, this_at, value_member};
 ghost use Rattle.jc_exprs_worlds.specs.Scenes.{world_of};
 ghost use Rattle.jc_exprs_located.specs.Locations.{LocatedBelow, field_of_settled, has_located};
 
@@ -16,7 +16,7 @@ use crate::breaks::{broken, refused};
 use crate::fields::{push_field_of, push_used};
 use crate::located::LocatedAt;
 use crate::this::{instance_break, push_this};
-use jc_exprs_fields::{fields_named, may_name_field};
+use jc_exprs_fields::{is_open_type, may_name_field, member_fields};
 use jc_exprs_nodes::{Judging, Part, Walk};
 use jc_exprs_settling::{SettledPart, settled};
 use jc_exprs_worlds::Scene;
@@ -35,9 +35,9 @@ fn is_length(ty: &Ty, name: &str) -> bool
     }
 }
 
-/// An array of which an element or the length is asked.
+// An array of which the length is asked.
 #[tactic(auto, using(jc_typed::proofs::Growing::growing))]
-pub fn push_array(
+fn push_array(
     alloc: Global,
     nodes: &mut Nodes,
     judging: &Judging,
@@ -73,6 +73,27 @@ fn length_of<'a>(
     };
     let array = push_array(alloc, &mut walk.nodes, &judging, array)?;
     Ok(Some(LocatedAt::Length { place, array }))
+}
+
+// .. where the class of its elements may be named there.
+#[tactic(auto, using(jc_typed::proofs::Growing::growing))]
+fn array_length<'a>(
+    alloc: Global,
+    walk: &mut Walk,
+    scene: &Scene<'a>,
+    place: Place,
+    array: SettledPart,
+) -> Result<Option<LocatedAt<'a>>, WantOfMemory>
+    requires { IsSettled walk.old.nodes (Some array) }
+    ensures state { OnOk result ((ran (array_length (world_of scene.now) walk.old.env.bounds place (settled_of walk.old.nodes array)) (now walk.old)).state ≡ now walk.new) }
+    ensures value { IfOk result (λ l. (ran (array_length (world_of scene.now) walk.old.env.bounds place (settled_of walk.old.nodes array)) (now walk.old)).has ≡ has_located walk.new.nodes l) }
+    ensures below { IfOk result (λ l. LocatedBelow (length walk.new.nodes) l) }
+    ensures grows { Grows walk.old.nodes walk.new.nodes }
+{
+    if is_open_type(scene, walk.nodes.ty(array.ty)) {
+        return length_of(alloc, walk, scene, place, array);
+    }
+    Ok(broken(walk, 618, place))
 }
 
 #[tactic(auto, using(jc_typed::proofs::Growing::growing, jc_exprs_nodes_spec::proofs::Runs::runs))]
@@ -158,9 +179,9 @@ fn member_of<'a>(
 {
     let ty = walk.nodes.ty(settled.ty);
     if is_length(ty, name) {
-        return length_of(alloc, walk, scene, place, settled);
+        return array_length(alloc, walk, scene, place, settled);
     }
-    let fields = fields_named(alloc, scene.table, ty, name)?;
+    let fields = member_fields(alloc, scene.table, ty, settled.by_bounds, name)?;
     one_field(alloc, walk, scene, place, settled, fields.slice())
 }
 
@@ -224,13 +245,17 @@ fn push_this_as(
     place: Place,
     ty: &Ty,
 ) -> Result<SettledPart, WantOfMemory>
-    ensures value { IfOk result (λ s. settled_of nodes.new s ≡ record { it = this_at (world_of scene.now) place; ty = ty.now }) }
+    ensures value { IfOk result (λ s. settled_of nodes.new s ≡ record { it = this_at (world_of scene.now) place; ty = ty.now; by_bounds = false }) }
     ensures within { IfOk result (λ s. IsSettled nodes.new (Some s)) }
     ensures grows { Grows nodes.old nodes.new }
 {
     let part = push_this(alloc, nodes, scene, place)?;
     let ty = nodes.push_type(copy_type(alloc, ty)?)?;
-    Ok(SettledPart { part, ty })
+    Ok(SettledPart {
+        part,
+        ty,
+        by_bounds: false,
+    })
 }
 
 #[tactic(auto, using(jc_typed::proofs::Growing::growing))]
@@ -242,8 +267,8 @@ fn member_of_super<'a>(
     name: &str,
     ty: &Ty,
 ) -> Result<Option<LocatedAt<'a>>, WantOfMemory>
-    ensures state { OnOk result ((ran (member_of (world_of scene.now) place name.now (record { it = this_at (world_of scene.now) place; ty = ty.now })) (now walk.old)).state ≡ now walk.new) }
-    ensures value { IfOk result (λ l. (ran (member_of (world_of scene.now) place name.now (record { it = this_at (world_of scene.now) place; ty = ty.now })) (now walk.old)).has ≡ has_located walk.new.nodes l) }
+    ensures state { OnOk result ((ran (member_of (world_of scene.now) place name.now (record { it = this_at (world_of scene.now) place; ty = ty.now; by_bounds = false })) (now walk.old)).state ≡ now walk.new) }
+    ensures value { IfOk result (λ l. (ran (member_of (world_of scene.now) place name.now (record { it = this_at (world_of scene.now) place; ty = ty.now; by_bounds = false })) (now walk.old)).has ≡ has_located walk.new.nodes l) }
     ensures below { IfOk result (λ l. LocatedBelow (length walk.new.nodes) l) }
     ensures grows { Grows walk.old.nodes walk.new.nodes }
 {

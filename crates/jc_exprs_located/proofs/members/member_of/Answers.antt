@@ -5,7 +5,7 @@ use Rattle.jc_exprs_parts_spec.specs.Names.{Located}
 use Rattle.jc_exprs_worlds.specs.Scenes.{world_of}
 use Rattle.jc_exprs_located.specs.Locations.{has_located}
 use Rattle.jc_exprs_settling.specs.Settlings.{settled_of}
-use Rattle.jc_exprs_parts_spec.specs.Fields.{fields_named}
+use Rattle.jc_exprs_parts_spec.specs.Fields.{member_fields}
 use Rattle.jc_exprs_parts_spec.specs.Names.{is_length, one_field}
 use Rattle.jc_exprs_located.proofs.Walked.{field_found, length_found}
 use Rattle.jc_exprs_located.proofs.members.member_of.Goals as goal
@@ -19,8 +19,8 @@ returns-then-is_length-clause-state c =
     let s = settled_of c.args.walk.now.nodes c.args.settled in
     let n = c.args.name.now in
     let e = ap (λ u. is_length u n) c.ty-ty.ensures ∙ sym c.is_length.ensures in
-    subst (λ (r : Ran Located). OnOk c.length_of.result (r.state ≡ now c.length_of.new.walk)) (sym (length_found W c.args.place n s st (e ∙ c.if-is_length.true)))
-    c.length_of.ensures.state
+    subst (λ (r : Ran Located). OnOk c.array_length.result (r.state ≡ now c.array_length.new.walk)) (sym (length_found W c.args.place n s st (e ∙ c.if-is_length.true)))
+    c.array_length.ensures.state
 
 pub returns-then-is_length-clause-value : goal.returns-then-is_length-clause-value
 unfolding world_of
@@ -31,8 +31,8 @@ returns-then-is_length-clause-value c =
     let s = settled_of c.args.walk.now.nodes c.args.settled in
     let n = c.args.name.now in
     let e = ap (λ u. is_length u n) c.ty-ty.ensures ∙ sym c.is_length.ensures in
-    subst (λ (r : Ran Located). IfOk c.length_of.result (λ l. r.has ≡ has_located c.length_of.new.walk.nodes l)) (sym (length_found W c.args.place n s st (e ∙ c.if-is_length.true)))
-    c.length_of.ensures.value
+    subst (λ (r : Ran Located). IfOk c.array_length.result (λ l. r.has ≡ has_located c.array_length.new.walk.nodes l)) (sym (length_found W c.args.place n s st (e ∙ c.if-is_length.true)))
+    c.array_length.ensures.value
 
 pub returns-clause-state : goal.returns-clause-state
 unfolding world_of
@@ -43,7 +43,7 @@ returns-clause-state c =
     let s = settled_of c.args.walk.now.nodes c.args.settled in
     let n = c.args.name.now in
     let e = ap (λ u. is_length u n) c.ty-ty.ensures ∙ sym c.is_length.ensures in
-    subst (λ (r : Ran Located). OnOk c.one_field.result (r.state ≡ now c.one_field.new.walk)) (sym (field_found W c.args.place n s st (e ∙ c.if-is_length.false) ∙ ap (λ fs. ran (one_field W st.env c.args.place s fs) st) (sym (c.slice.ensures ∙ c.in_ok-fields.ensures ∙ ap (λ u. fields_named T u n) (sym c.ty-ty.ensures)))))
+    subst (λ (r : Ran Located). OnOk c.one_field.result (r.state ≡ now c.one_field.new.walk)) (sym (field_found W c.args.place n s st (e ∙ c.if-is_length.false) ∙ ap (λ fs. ran (one_field W st.env c.args.place s fs) st) (sym (c.slice.ensures ∙ c.in_ok-fields.ensures ∙ ap (λ u. member_fields T u c.args.settled.by_bounds n) (sym c.ty-ty.ensures)))))
     c.one_field.ensures.state
 
 pub returns-clause-value : goal.returns-clause-value
@@ -55,5 +55,5 @@ returns-clause-value c =
     let s = settled_of c.args.walk.now.nodes c.args.settled in
     let n = c.args.name.now in
     let e = ap (λ u. is_length u n) c.ty-ty.ensures ∙ sym c.is_length.ensures in
-    subst (λ (r : Ran Located). IfOk c.one_field.result (λ l. r.has ≡ has_located c.one_field.new.walk.nodes l)) (sym (field_found W c.args.place n s st (e ∙ c.if-is_length.false) ∙ ap (λ fs. ran (one_field W st.env c.args.place s fs) st) (sym (c.slice.ensures ∙ c.in_ok-fields.ensures ∙ ap (λ u. fields_named T u n) (sym c.ty-ty.ensures)))))
+    subst (λ (r : Ran Located). IfOk c.one_field.result (λ l. r.has ≡ has_located c.one_field.new.walk.nodes l)) (sym (field_found W c.args.place n s st (e ∙ c.if-is_length.false) ∙ ap (λ fs. ran (one_field W st.env c.args.place s fs) st) (sym (c.slice.ensures ∙ c.in_ok-fields.ensures ∙ ap (λ u. member_fields T u c.args.settled.by_bounds n) (sym c.ty-ty.ensures)))))
     c.one_field.ensures.value
