@@ -8,13 +8,11 @@ pub fn parts_are_erased()
 {}
 
 /// A body over an erased arena has the erased statements.
-#[tactic(auto, using(crate::proofs::Erased::bodies_erased))]
 pub fn bodies_are_erased()
     ensures { BodiesAreErased }
 {}
 
 /// Erasure leaves the weight of a method.
-#[tactic(auto, using(crate::proofs::Erased::bulk_same))]
 pub fn bulk_stays()
     ensures { BulkStays }
 {}
