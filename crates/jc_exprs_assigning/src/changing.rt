@@ -1,6 +1,5 @@
 //! `++` and `--` (JLS 15.14.2, 15.14.3, 15.15.1, 15.15.2).
 ghost use Rattle.std.specs.Prelude.{◌≡◌, ◌<◌, ◌++◌, length, Some, IfOk, OnOk};
-ghost use Rattle.jc_types.specs.declared.form.Ty.TheVariants.{Prim};
 ghost use Rattle.jc_typed.specs.Parts.{BelowForm, Grows, form_over, parts, steps_of, type_of};
 ghost use Rattle.jc_exprs_nodes_spec.specs.Told.{ran};
 ghost use Rattle.jc_exprs_nodes_spec.specs.Typeds.{use_guard};

@@ -15,7 +15,7 @@ use jc_exprs_nodes::{Judging, Led, Part, Walk, push_read_guard, push_use_guard_a
 use jc_exprs_operators::{constant_in, push_steps_to};
 use jc_exprs_targets::TargetAt;
 use jc_rules::{Place, Refusal, WantOfMemory};
-use jc_typed::{Nodes, StepsNode};
+use jc_typed::Nodes;
 use jc_types::{Constant, Primitive, Table, copy_type};
 use std::alloc::Global;
 

@@ -1,6 +1,6 @@
 //! `v = e` (JLS 15.26.1).
 ghost use Rattle.std.specs.Prelude.{◌≡◌, ◌<◌, [], length, Some, IfOk, OnOk};
-ghost use Rattle.jc_typed.specs.Parts.{BelowForm, Grows, form_over, parts, steps_of, type_of, variable_of};
+ghost use Rattle.jc_typed.specs.Parts.{BelowForm, Grows, form_over, parts, type_of, variable_of};
 ghost use Rattle.jc_typed.specs.Trees.{Assign};
 ghost use Rattle.jc_exprs_nodes_spec.specs.Told.{ran};
 ghost use Rattle.jc_exprs_nodes_spec.specs.Typeds.{captured, converted, use_guard};

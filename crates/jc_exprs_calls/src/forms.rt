@@ -1,6 +1,6 @@
 //! The form of a call whose method is chosen (JLS 15.12.3).
 ghost use Rattle.std.specs.Prelude.{◌≡◌, ◌<◌, IfOk, length, map};
-ghost use Rattle.jc_typed.specs.Parts.{BelowForm, Grows, form_over, operands_of, parts, types_of};
+ghost use Rattle.jc_typed.specs.Parts.{BelowForm, Grows, form_over, parts, types_of};
 ghost use Rattle.jc_exprs_nodes.specs.Walks.{known};
 ghost use Rattle.jc_exprs_gathering.specs.Gathered.{AllParts};
 ghost use Rattle.jc_exprs_spec.specs.Calls.{is_raw_call};

@@ -2,7 +2,7 @@
 ghost use Rattle.std.specs.Prelude.{◌≡◌, ◌<◌, IfOk, OnOk, length};
 ghost use Rattle.jc_types.specs.declared.form.Ty.TheVariants.{NullTy};
 ghost use Rattle.jc_types.specs.Accessors.{result_of};
-ghost use Rattle.jc_typed.specs.Parts.{BelowForm, Grows, form_over, parts, steps_of};
+ghost use Rattle.jc_typed.specs.Parts.{BelowForm, Grows, form_over, parts};
 ghost use Rattle.jc_exprs_nodes_spec.specs.Told.{fine, ran};
 ghost use Rattle.jc_exprs_nodes_spec.specs.Typeds.{captured, node, read_guard};
 ghost use Rattle.jc_exprs_nodes.specs.Walks.{has, now};

@@ -2,7 +2,7 @@
 ghost use Rattle.std.specs.Prelude.{◌≡◌, ◌<◌, length, Some, IfOk, OnOk};
 ghost use Rattle.jc_typed.specs.Parts.{Grows, type_of};
 ghost use Rattle.jc_exprs_nodes_spec.specs.Told.{ran};
-ghost use Rattle.jc_exprs_nodes_spec.specs.Typeds.{fixed, known_of, type_of as counted_type};
+ghost use Rattle.jc_exprs_nodes_spec.specs.Typeds.{fixed, type_of as counted_type};
 ghost use Rattle.jc_exprs_nodes.specs.Walks.{IsPart, known, now};
 ghost use Rattle.jc_exprs_parts_spec.specs.Chains.{Whole, joined_by, joined_type, joining, known_so_far};
 ghost use Rattle.jc_exprs_operators.specs.Knowns.{KnownBelow, MentionsBelow, folded_in, known_at};

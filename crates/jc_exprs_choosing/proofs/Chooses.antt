@@ -1,5 +1,5 @@
 -- What a walk makes of the choice of a member, and of what stands behind it.
-use Rattle.std.proofs.Common.{◌≡◌, refl, ap, sym, ◌∙◌, Bool, true, false, List, [], ◌∷◌, ◌++◌, Option, None, Some}
+use Rattle.std.proofs.Common.{◌≡◌, refl, ap, true, false, List, [], ◌∷◌, ◌++◌, Option, None, Some}
 use Rattle.jc_rules.specs.declared.rule.Place.{Place}
 use Rattle.jc_rules.specs.declared.rule.Refusal.{Refusal}
 use Rattle.jc_types.specs.declared.form.Ty.{Ty}
@@ -10,7 +10,7 @@ use Rattle.jc_resolve.specs.declared.choice.Chosen.{Chosen}
 use Rattle.jc_resolve.specs.declared.site.CallSite.{CallSite}
 use Rattle.jc_resolve.specs.Choosing.{resolved}
 use Rattle.jc_resolve_sites.specs.Sites.{apart_site, renamed_site}
-use Rattle.jc_exprs_nodes_spec.specs.Told.{Run, Ran, Standing, fine, provided, ran, standing}
+use Rattle.jc_exprs_nodes_spec.specs.Told.{Run, Standing, fine, provided, ran}
 use Rattle.jc_exprs_nodes_spec.specs.Gates.{gated, stopped}
 use Rattle.jc_exprs_nodes_spec.specs.Typeds.{Typed}
 use Rattle.jc_exprs_parts_spec.specs.Worlds.{World}

@@ -1,8 +1,7 @@
 -- The choice of a member by itself: what is made of the chosen member stands behind it.
-use Rattle.std.specs.Prelude.{ℕ, ◌<◌, ◌||◌, not, Bool, List, [], ◌∷◌, ◌++◌, Option, None, Some, length}
+use Rattle.std.specs.Prelude.{ℕ, ◌<◌, ◌||◌, not, Bool, List, ◌++◌, Option, None, Some, length}
 use Rattle.jc_rules.specs.declared.rule.Place.{Place}
 use Rattle.jc_rules.specs.declared.rule.Refusal.{Refusal}
-use Rattle.jc_types.specs.declared.environment.Bounds.{Bounds}
 use Rattle.jc_types.specs.declared.form.Ty.{Ty}
 use Rattle.jc_types.specs.declared.table.Table.{Table}
 use Rattle.jc_judge.specs.Kinds.{class_of}

@@ -1,7 +1,6 @@
 //! The fields of a name that a settled type has (JLS 4.9).
 ghost use Rattle.std.specs.Prelude.{◌≡◌, ◌++◌, [], IfOk, OnOk};
-ghost use Rattle.jc_types.specs.declared.form.Ty.{out-Ty};
-ghost use Rattle.jc_exprs_parts_spec.specs.Fields.{fields_at, fields_by_class, fields_named, fields_of_parts, member_fields, merged, not_private};
+ghost use Rattle.jc_exprs_parts_spec.specs.Fields.{fields_by_class, fields_named, fields_of_parts, member_fields, merged, not_private};
 
 use crate::declared::{field_access, is_private};
 use crate::hiding::{class_fields, is_among};

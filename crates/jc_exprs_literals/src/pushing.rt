@@ -1,6 +1,6 @@
 //! Constants in the arena.
 ghost use Rattle.std.specs.Prelude.{◌≡◌, ◌<◌, [], length, IfOk, OnOk};
-ghost use Rattle.jc_typed.specs.Parts.{BelowForm, Grows, form_over, parts, type_of};
+ghost use Rattle.jc_typed.specs.Parts.{BelowForm, Grows, form_over, parts};
 ghost use Rattle.jc_typed.specs.Trees.{Fixed, NoOperands};
 ghost use Rattle.jc_exprs_nodes_spec.specs.Told.{fine, ran};
 ghost use Rattle.jc_exprs_nodes_spec.specs.Typeds.{node};

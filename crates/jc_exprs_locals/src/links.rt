@@ -4,7 +4,7 @@ ghost use Rattle.std.specs.HashMap.{get_by_text};
 ghost use Rattle.std.specs.Option.{option_copied};
 ghost use Rattle.std.specs.Str.{bytes_eq};
 ghost use Rattle.jc_exprs_parts_spec.specs.Worlds.{local_in};
-ghost use Rattle.jc_exprs_locals.specs.Links.{IsIndexed, as_last, local_in_entry, locals_in, or_none, with_last};
+ghost use Rattle.jc_exprs_locals.specs.Links.{IsIndexed, local_in_entry, locals_in, or_none, with_last};
 ghost use Rattle.jc_exprs_locals.specs.Scoped.{local_of, locals_of};
 
 use crate::scoped::{Entry, ScopedLocal};

@@ -1,7 +1,6 @@
 //! Names that break rules: nothing is found.
-ghost use Rattle.std.specs.Prelude.{◌≡◌, None, length, IsTrue};
+ghost use Rattle.std.specs.Prelude.{◌≡◌, None, IsTrue};
 ghost use Rattle.jc_rules.specs.Rules.{is_rule};
-ghost use Rattle.jc_typed.specs.Parts.{Grows};
 ghost use Rattle.jc_exprs_nodes_spec.specs.Told.{by_rule, ran};
 ghost use Rattle.jc_exprs_nodes.specs.Walks.{broken_by, now};
 ghost use Rattle.jc_exprs_parts_spec.specs.Names.{Located};

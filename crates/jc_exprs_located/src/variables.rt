@@ -4,10 +4,9 @@ ghost use Rattle.jc_typed.specs.Parts.{BelowVariable, Grows, operand_of, parts, 
 ghost use Rattle.jc_typed.specs.Trees.{ElementVariable, LocalVariable};
 ghost use Rattle.jc_typed.specs.declared.nodes.Node.{Node};
 ghost use Rattle.jc_types.specs.Erasing.{erasure};
-ghost use Rattle.jc_exprs_nodes_spec.specs.Told.{fine, ran};
+ghost use Rattle.jc_exprs_nodes_spec.specs.Told.{ran};
 ghost use Rattle.jc_exprs_nodes.specs.Walks.{now};
 ghost use Rattle.jc_exprs_targets.specs.Targets.{TargetBelow, has_target, target_of};
-ghost use Rattle.jc_exprs_locals.specs.Scoped.{local_of};
 ghost use Rattle.jc_exprs_parts_spec.specs.Fields.{field_erasure};
 ghost use Rattle.jc_exprs_parts_spec.specs.Names.{field_variable, is_forward, target_at, target_of as target_of_located};
 ghost use Rattle.jc_exprs_worlds.specs.Scenes.{world_of};

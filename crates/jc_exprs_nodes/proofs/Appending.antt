@@ -1,5 +1,5 @@
 -- Lists that are added to from left to right.
-use Rattle.std.proofs.Common.{◌≡◌, ◌+◌, refl, ap, List, [], ◌∷◌, ◌++◌, append_assoc, length, length-append}
+use Rattle.std.proofs.Common.{◌≡◌, ◌+◌, List, [], ◌∷◌, ◌++◌, append_assoc, length, length-append}
 use Rattle.std.proofs.lemmas.List.{append-nil}
 
 -- a member, and then more

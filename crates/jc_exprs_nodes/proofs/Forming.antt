@@ -1,5 +1,5 @@
 -- Types after capture, and what is formed of them, in an arena that grows.
-use Rattle.std.proofs.Common.{◌≡◌, refl, ap, sym, ◌∙◌, ◌<◌, List, [], ◌++◌, Option, None, Some, length}
+use Rattle.std.proofs.Common.{◌≡◌, refl, ap, sym, ◌∙◌, ◌<◌, List, [], Option, None, Some, length}
 use Rattle.jc_types.specs.declared.form.Ty.{Ty}
 use Rattle.jc_types.specs.declared.table.Table.{Table}
 use Rattle.jc_typed.specs.declared.nodes.Node.{Node}

@@ -1,10 +1,10 @@
 -- How a walk goes through lists of parts, and parts that are asked by the one before.
-use Rattle.std.proofs.Common.{◌≡◌, refl, ap, sym, ◌∙◌, ℕ, List, [], ◌∷◌, ◌++◌, Option, Some, None, length}
+use Rattle.std.proofs.Common.{◌≡◌, refl, ap, ◌∙◌, ℕ, List, [], ◌∷◌, ◌++◌, Option, Some, length}
 use Rattle.jc_rules.specs.declared.rule.Refusal.{Refusal}
 use Rattle.jc_types.specs.declared.environment.Bounds.{Bounds}
 use Rattle.jc_types.specs.Breaks.{least}
 use Rattle.jc_types.proofs.Least.{least_append}
-use Rattle.jc_exprs_nodes_spec.specs.Told.{Told, Fine, Broken, Out, Run, Ran, Standing, standing, typed, breaks, ran, ran_of, pair, both, feeding, after, onward, joined, more, onto, every, Spanned, spanned, told_between}
+use Rattle.jc_exprs_nodes_spec.specs.Told.{Told, Fine, Broken, Out, Run, Standing, standing, typed, breaks, ran, ran_of, pair, both, feeding, after, onward, joined, more, onto, every, spanned, told_between}
 use Rattle.jc_exprs_nodes_spec.specs.Gates.{stopped, gated_two}
 use Rattle.jc_exprs_nodes.specs.Laws.{paired, span_of, with_more, ran_pair, ran_more, ran_span}
 

@@ -1,11 +1,10 @@
 -- Typed parts stay what they are where the arena grows.
-use Rattle.std.proofs.Common.{◌≡◌, refl, ap, sym, ◌∙◌, ℕ, List, ◌<◌, Option, None, Some, length}
+use Rattle.std.proofs.Common.{◌≡◌, refl, ap, ℕ, List, ◌<◌, length}
 use Rattle.jc_typed.specs.declared.nodes.Node.{Node}
-use Rattle.jc_typed.specs.Parts.{Grows, as_operand, part_of}
+use Rattle.jc_typed.specs.Parts.{Grows}
 use Rattle.jc_typed.proofs.Growing.{within}
-use Rattle.jc_exprs_nodes_spec.specs.Typeds.{Typed}
 use Rattle.jc_exprs_nodes.specs.declared.walk.Part.{Part}
-use Rattle.jc_exprs_nodes.specs.Walks.{IsPart, has, known, or_null, typed_in}
+use Rattle.jc_exprs_nodes.specs.Walks.{IsPart, has, known, or_null}
 
 pub has_stays : (ms ns : List Node) (at : ℕ) → Grows ms ns → at < length ms → has ns at ≡ has ms at
 has_stays ms ns at g b = rw (g.kept at b) refl

@@ -1,5 +1,5 @@
 -- Arguments one by one.
-use Rattle.std.proofs.Common.{◌≡◌, refl, ap, sym, subst, ◌∙◌, ℕ, ◌-◌, ◌<◌, ◌≤◌, List, [], ◌∷◌, ◌++◌, drop, length, map, arith}
+use Rattle.std.proofs.Common.{◌≡◌, refl, ap, sym, subst, ◌∙◌, ℕ, ◌-◌, ◌<◌, ◌≤◌, List, [], ◌∷◌, drop, length, map, arith}
 use Rattle.std.proofs.lemmas.List.{append-nil, take_all}
 use Rattle.std.specs.Prelude.{slice_index_or, take}
 use Rattle.jc_rules.specs.declared.rule.Place.{Place}
@@ -7,15 +7,14 @@ use Rattle.jc_types.specs.declared.environment.Bounds.{Bounds}
 use Rattle.jc_types.specs.declared.erased.Erased.{Erased}
 use Rattle.jc_types.specs.declared.form.Ty.{Ty}
 use Rattle.jc_types.specs.declared.table.Table.{Table}
-use Rattle.jc_types.specs.Erasing.{erasure}
 use Rattle.jc_typed.specs.declared.nodes.Node.{Node}
 use Rattle.jc_typed.specs.Parts.{Grows}
-use Rattle.jc_typed.specs.Trees.{Operand, Operands, MoreOperands}
+use Rattle.jc_typed.specs.Trees.{Operands, MoreOperands}
 use Rattle.jc_exprs_nodes_spec.specs.Typeds.{Typed, plain, stepped}
 use Rattle.jc_exprs_nodes.specs.Walks.{known}
 use Rattle.jc_exprs_nodes.proofs.Staying.{known_stays}
 use Rattle.jc_exprs_gathering.specs.Gathered.{AllParts}
-use Rattle.jc_exprs_spec.specs.Calls.{elements_to, erasures_of, guards_of, packed, packed_array, passed, passed_to}
+use Rattle.jc_exprs_spec.specs.Calls.{elements_to, erasures_of, packed, passed, passed_to}
 use Rattle.jc_exprs_passing.specs.Passing.{packed_last, passed_one}
 
 pub erasures_behind : (T : Table) (ts : List Ty) → erasures_of T (drop 1 ts) ≡ drop 1 (erasures_of T ts)

@@ -1,8 +1,7 @@
 //! Arguments of a chosen member; of one that is called by variable arity the last ones stand in one array (JLS 15.12.2.4, 15.12.4.2).
 ghost use Rattle.std.specs.Prelude.{◌≡◌, ◌<◌, ◌++◌, IfOk, length, map};
-ghost use Rattle.jc_types.specs.Accessors.{params_of};
 ghost use Rattle.jc_types.specs.Arrays.{element};
-ghost use Rattle.jc_typed.specs.Parts.{Grows, operand_of, operands_of, steps_of, type_of};
+ghost use Rattle.jc_typed.specs.Parts.{Grows, operand_of, operands_of, steps_of};
 ghost use Rattle.jc_exprs_nodes_spec.specs.Typeds.{node, tree};
 ghost use Rattle.jc_typed.specs.Trees.{ArrayOf, NoOperands, operand};
 ghost use Rattle.jc_exprs_nodes.specs.Walks.{known};

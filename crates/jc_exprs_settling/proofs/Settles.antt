@@ -1,5 +1,5 @@
 -- What a walk makes of the steps that settle a type.
-use Rattle.std.proofs.Common.{◌≡◌, refl, ap, sym, ◌∙◌, ℕ, zero, suc, ◌-◌, Bool, true, false, List, append_assoc, Option, None, Some}
+use Rattle.std.proofs.Common.{◌≡◌, refl, ap, sym, ◌∙◌, ℕ, zero, suc, Bool, true, false, List, append_assoc, Option, None, Some}
 use Rattle.jc_rules.specs.declared.rule.Place.{Place}
 use Rattle.jc_types.specs.declared.form.Ty.{Ty}
 use Rattle.jc_types.specs.declared.table.Table.{Table}

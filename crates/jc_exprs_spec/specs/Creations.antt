@@ -18,7 +18,7 @@ use Rattle.jc_resolve.specs.declared.choice.Choice.{Choice}
 use Rattle.jc_resolve.specs.declared.choice.Chosen.{Chosen}
 use Rattle.jc_resolve.specs.Choosing.{resolved}
 use Rattle.jc_resolve_sites.specs.Constructors.{constructor_ids, diamond_view}
-use Rattle.jc_resolve_sites.specs.Sites.{apart_site, renamed_site}
+use Rattle.jc_resolve_sites.specs.Sites.{renamed_site}
 use Rattle.jc_typed.specs.Trees.{Step, Up, New}
 use Rattle.jc_exprs_nodes_spec.specs.Told.{Run, provided, unless}
 use Rattle.jc_exprs_nodes_spec.specs.Typeds.{Typed, captured}

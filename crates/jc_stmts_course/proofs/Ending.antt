@@ -1,10 +1,8 @@
 -- What an item makes of the code's state, once the walk has gone through the parts of the item.
-use Rattle.std.proofs.Common.{◌≡◌, refl, ap, sym, ◌∙◌, ℕ, not, Bool, List, [], ◌∷◌, ◌++◌, Option, Some, None, length}
-use Rattle.std.proofs.lemmas.List.{append-nil}
+use Rattle.std.proofs.Common.{◌≡◌, refl, ap, sym, ◌∙◌, ℕ, not, Bool, List, [], ◌∷◌, ◌++◌, Option, length}
 use Rattle.jc_rules.specs.declared.rule.Place.{Place}
 use Rattle.jc_rules.specs.declared.rule.Refusal.{Refusal}
 use Rattle.jc_types.specs.declared.form.Ty.{Ty}
-use Rattle.jc_types.specs.Breaks.{least}
 use Rattle.jc_typed.specs.Parts.{Grows}
 use Rattle.jc_typed.specs.Trees.{Operand}
 use Rattle.jc_exprs_nodes_spec.specs.Told.{Ran, Standing, unless}

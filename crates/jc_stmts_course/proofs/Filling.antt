@@ -1,6 +1,5 @@
 -- The value of the local that was declared last.
 use Rattle.std.proofs.Common.{◌≡◌, refl, ap, List, [], ◌∷◌, Option, Some, None}
-use Rattle.jc_types.specs.declared.constant.Constant.{Constant}
 use Rattle.jc_types.specs.declared.table.Table.{Table}
 use Rattle.jc_exprs_nodes_spec.specs.Typeds.{Known, value_in}
 use Rattle.jc_exprs_parts_spec.specs.Worlds.{LocalIn}

@@ -1,5 +1,5 @@
 -- Answers, which are there only as long as nothing is broken.
-use Rattle.std.proofs.Common.{◌≡◌, refl, List, [], ◌∷◌, ◌++◌, Option, Some, None}
+use Rattle.std.proofs.Common.{◌≡◌, refl, List, [], ◌++◌, Option, Some, None}
 use Rattle.std.proofs.lemmas.List.{append-nil}
 use Rattle.jc_rules.specs.declared.rule.Refusal.{Refusal}
 use Rattle.jc_stmts_spec.specs.Courses.{Answer}

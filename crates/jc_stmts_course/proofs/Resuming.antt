@@ -9,14 +9,14 @@ use Rattle.jc_exprs_nodes_spec.specs.Told.{Ran, Run, Standing, breaks, ran}
 use Rattle.jc_exprs_nodes_spec.specs.Gates.{gated}
 use Rattle.jc_exprs_nodes.specs.Walks.{now}
 use Rattle.jc_exprs_nodes.specs.declared.walk.Walk.{Walk}
-use Rattle.jc_stmts_spec.specs.Plans.{Want, Effect, Truth, Result, Nowhere, Selector, Thrown}
-use Rattle.jc_stmts_spec.specs.Courses.{Answer, AnOperand, AKey, AnEach, Key, keys_of, known_in_operand, last_with, top_of, below_top}
+use Rattle.jc_stmts_spec.specs.Plans.{Effect, Truth, Result, Nowhere, Selector, Thrown}
+use Rattle.jc_stmts_spec.specs.Courses.{Answer, AnOperand, AKey, AnEach, Key, keys_of, top_of, below_top}
 use Rattle.jc_stmts_answers.specs.Answers.{answers_of}
 use Rattle.jc_stmts_answers.proofs.Staying.{answers_stay}
 use Rattle.jc_stmts_course.specs.declared.course.Course.{Course}
 use Rattle.jc_stmts_course.specs.Laws.{AskedResumes, FilledResumes, GoneOverResumes, LabelledResumes, Later, RunsAreLater, resumed}
 use Rattle.jc_stmts_course.specs.Nows.{IsCourse, stage, told, with_walk}
-use Rattle.jc_stmts_course.specs.Steps.{Stage, answer_if, answered, asked, gone_over, keeping, labelled, while_whole, with_value}
+use Rattle.jc_stmts_course.specs.Steps.{Stage, answer_if, answered, keeping, while_whole, with_value}
 use Rattle.jc_stmts_course.proofs.Lasting.{while_later}
 
 -- ---- what is broken

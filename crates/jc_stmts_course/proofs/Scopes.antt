@@ -1,5 +1,5 @@
 -- Scopes, and locals in scope.
-use Rattle.std.proofs.Common.{◌≡◌, refl, ap, ℕ, zero, suc, Bool, ◌||◌, List, [], ◌∷◌, ◌++◌, length, take}
+use Rattle.std.proofs.Common.{◌≡◌, refl, ap, ℕ, zero, suc, ◌||◌, List, [], ◌∷◌, ◌++◌, length, take}
 use Rattle.std.specs.Str.{bytes_eq}
 use Rattle.jc_exprs_locals.specs.declared.scoped.ScopedLocal.{ScopedLocal}
 use Rattle.jc_exprs_locals.specs.Scoped.{is_named, local_of, locals_of}

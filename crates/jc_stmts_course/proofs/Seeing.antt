@@ -1,5 +1,5 @@
 -- The steps of a walk stand to the definition's state as they say.
-use Rattle.std.proofs.Common.{◌≡◌, refl, ap, sym, ◌∙◌, ℕ, not, Bool, List, [], ◌∷◌, ◌++◌, length, Option, Some, None}
+use Rattle.std.proofs.Common.{◌≡◌, refl, ap, sym, ◌∙◌, ℕ, not, Bool, List, [], ◌∷◌, ◌++◌, length, Option, None}
 use Rattle.std.proofs.lemmas.List.{append-nil}
 use Rattle.jc_rules.specs.declared.rule.Place.{Place}
 use Rattle.jc_rules.specs.declared.rule.Refusal.{Refusal}
@@ -10,12 +10,12 @@ use Rattle.jc_types.specs.Breaks.{least}
 use Rattle.jc_types.proofs.Least.{least_append}
 use Rattle.jc_overriding.specs.Viewing.{with_dims}
 use Rattle.jc_typed.specs.Trees.{Operand}
-use Rattle.jc_exprs_nodes_spec.specs.Told.{Told, Fine, Broken, Out, Run, Standing, breaking, breaks, onward, ran, standing, typed, unless}
+use Rattle.jc_exprs_nodes_spec.specs.Told.{Told, Fine, Broken, Run, Standing, breaking, breaks, onward, ran, standing, typed, unless}
 use Rattle.jc_exprs_parts_spec.specs.Worlds.{World, LocalIn, at, written}
 use Rattle.jc_exprs_spec.specs.Typing.{initialised, typing}
 use Rattle.jc_stmts_spec.specs.Plans.{Item, Enter, Leave, Declare, Fill, Ask, Label, Each, Caught, Parameter, Fault, Want, Effect, Truth, Result, Nowhere, Selector, Thrown}
 use Rattle.jc_stmts_spec.specs.Courses as course
-use Rattle.jc_stmts_spec.specs.Courses.{Answer, AnOperand, ALocal, AKey, AnEach, SomeTypes, Course, Key, below_top, caught_breaks, caught_type, each, is_declared, item_on, items_on, keys_of, known_in_operand, label_of, last_type, last_with, local_in_scope, top_of, types_caught, wanted}
+use Rattle.jc_stmts_spec.specs.Courses.{Answer, AnOperand, ALocal, AKey, AnEach, SomeTypes, Course, Key, below_top, caught_breaks, caught_type, each, is_declared, item_on, keys_of, label_of, last_type, top_of, types_caught, wanted}
 use Rattle.jc_stmts_course.specs.Laws.{StepsAreSeen}
 use Rattle.jc_stmts_course.specs.Steps as step
 use Rattle.jc_stmts_course.specs.Steps.{Stage, answer_if, answered, asked, behind, keeping, seen, step_on, steps_on, while_whole}

@@ -1,6 +1,6 @@
 -- The state of a walk through the items of a body, which keeps the least break in place of all, and answers only as long as nothing is broken: what each item
 -- makes of it.
-use Rattle.std.specs.Prelude.{ℕ, not, Bool, List, [], ◌∷◌, ◌++◌, length, map, take, Option, Some, None}
+use Rattle.std.specs.Prelude.{ℕ, not, Bool, List, [], ◌∷◌, ◌++◌, length, take, Option, Some, None}
 use Rattle.jc_rules.specs.declared.rule.Place.{Place}
 use Rattle.jc_rules.specs.declared.rule.Refusal.{Refusal}
 use Rattle.jc_types.specs.Breaks.{least}
@@ -12,7 +12,7 @@ use Rattle.jc_typed.specs.Trees.{Operand}
 use Rattle.jc_exprs_nodes_spec.specs.Told.{Ran, Standing, breaking, onward, ran, standing, unless}
 use Rattle.jc_exprs_parts_spec.specs.Worlds.{World, LocalIn, at, written}
 use Rattle.jc_exprs_spec.specs.Typing.{initialised, typing}
-use Rattle.jc_stmts_spec.specs.Plans.{Item, Enter, Leave, Declare, Fill, Ask, Label, Each, Caught, Parameter, Fault, Want, Effect, Truth, Result, Nowhere, Selector, Thrown}
+use Rattle.jc_stmts_spec.specs.Plans.{Item, Enter, Leave, Declare, Fill, Ask, Label, Each, Caught, Parameter, Fault, Want, Selector}
 use Rattle.jc_stmts_spec.specs.Courses.{Answer, AnOperand, ALocal, AKey, AnEach, SomeTypes, Course, Elements, Key, Scope, below_top, caught_breaks, caught_type, each, is_declared, keys_of, known_in_operand, label_of, last_type, last_with, local_in_scope, selector_type, top_of, types_caught, wanted}
 
 pub record Stage : Type 0 where

@@ -1,6 +1,5 @@
 //! Answers, which are kept as long as nothing is broken.
-ghost use Rattle.std.specs.Prelude.{◌≡◌, ◌++◌, ◌∷◌, [], length, IfOk, OnOk};
-ghost use Rattle.jc_typed.specs.Parts.{Grows};
+ghost use Rattle.std.specs.Prelude.{◌≡◌, ◌++◌, ◌∷◌, [], length, OnOk};
 ghost use Rattle.jc_exprs_nodes.specs.Walks.{now};
 ghost use Rattle.jc_stmts_answers.specs.Answers.{AnswerBelow, answer_of};
 ghost use Rattle.jc_stmts_course.specs.Nows.{IsCourse, stage};

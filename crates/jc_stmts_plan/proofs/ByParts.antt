@@ -3,7 +3,6 @@ use Rattle.std.proofs.Common.{◌≡◌, ℕ, ◌||◌, Bool, false, List, [], �
 use Rattle.jc_tree.specs.declared.expression.Expr.{Expr}
 use Rattle.jc_tree.specs.declared.name.Ident.{Ident}
 use Rattle.jc_tree.specs.declared.statement.Clause.{Clause, out-Clause, map-Clause, fold_out-Clause}
-use Rattle.jc_tree.specs.declared.statement.ClauseHead.{ClauseHead}
 use Rattle.jc_tree.specs.declared.statement.Declaration.{Declaration, fold-Declaration}
 use Rattle.jc_tree.specs.declared.statement.ForHead.{ForHead}
 use Rattle.jc_tree.specs.declared.statement.ForHead.TheVariants as for_head
@@ -12,7 +11,7 @@ use Rattle.jc_tree.specs.declared.statement.Member.{Member, fold-Member}
 use Rattle.jc_tree.specs.declared.statement.Resources.{Resources}
 use Rattle.jc_tree.specs.declared.statement.Stmt.TheVariants as anStmt
 use Rattle.jc_tree.specs.declared.statement.Stmt.{Stmt, out-Stmt, map-Stmt, fold_out-Stmt, Stmt-F}
-use Rattle.jc_stmts_spec.specs.Plans.{Item, Ask, Effect, Truth, Selector, Thrown, Jumps, OfLoop, OfSwitch, OfLabel, Planned, Group, planned, planned_clause, plan, in_turn, inside, enclosed, label_items, of_locals, return_items, jump_items, break_target, continue_target, head_items, is_default, arm_items, group_items, clause_items, for_items, stmt_step, clause_step}
+use Rattle.jc_stmts_spec.specs.Plans.{Ask, Effect, Truth, Selector, Thrown, Jumps, OfLoop, OfSwitch, OfLabel, Planned, Group, planned, planned_clause, plan, in_turn, inside, enclosed, label_items, of_locals, return_items, jump_items, break_target, continue_target, head_items, is_default, arm_items, group_items, clause_items, for_items, stmt_step, clause_step}
 use Rattle.jc_stmts_plan.specs.Flat.{items_of, loop_of, all_items, part_items, has_default, arms_items, groups_items, catches_items, for_begun}
 
 -- ---- the fold, one layer at a time

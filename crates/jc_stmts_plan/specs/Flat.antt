@@ -1,5 +1,5 @@
 -- The items of statements, each by its own parts, as the walk makes them.
-use Rattle.std.specs.Prelude.{ℕ, ◌||◌, Bool, true, false, List, [], ◌∷◌, ◌++◌, Option}
+use Rattle.std.specs.Prelude.{ℕ, ◌||◌, Bool, false, List, [], ◌∷◌, ◌++◌, Option}
 use Rattle.jc_tree.specs.declared.statement.Clause.{Clause, Clause-F, out-Clause}
 use Rattle.jc_tree.specs.declared.statement.Declaration.{Declaration}
 use Rattle.jc_tree.specs.declared.statement.ForHead.{ForHead}

@@ -1,5 +1,5 @@
 //! Catch clauses (JLS 14.20).
-ghost use Rattle.std.specs.Prelude.{◌≡◌, ◌<◌, [], length, not, IfOk};
+ghost use Rattle.std.specs.Prelude.{◌≡◌, ◌<◌, [], length, IfOk};
 ghost use Rattle.jc_judge.specs.Deciding.{answer_of};
 ghost use Rattle.jc_types.specs.Breaks.{least};
 ghost use Rattle.jc_typed.specs.Parts.{Grows, types_of};

@@ -2,7 +2,6 @@
 ghost use Rattle.std.specs.Prelude.{◌≡◌, ◌<◌, [], codes, length, true, false, Some, IfOk, OnOk};
 ghost use Rattle.jc_types.specs.Accessors.{class_named};
 ghost use Rattle.jc_exprs_nodes_spec.specs.Typeds.{read_guard};
-ghost use Rattle.jc_types.specs.declared.form.Arg.{out-Arg};
 ghost use Rattle.jc_types.specs.Erasing.{object as erased_object};
 ghost use Rattle.jc_typed.specs.Parts.{Grows, operand_of, steps_of, type_of};
 ghost use Rattle.jc_exprs_nodes_spec.specs.Gates.{gated};
@@ -12,7 +11,7 @@ ghost use Rattle.jc_exprs_settling.specs.Settlings.{IsSettled, settled_of};
 ghost use Rattle.jc_exprs_parts_spec.specs.Names.{array_operand};
 ghost use Rattle.jc_exprs_worlds.specs.Scenes.{world_of};
 ghost use Rattle.jc_judge.specs.Views.{exacts};
-ghost use Rattle.jc_stmts_spec.specs.Courses.{each_into, each_iterable, each_of, each_settled, each_type, first_exact, iterable, iterable_operand, iterated, iterated_by};
+ghost use Rattle.jc_stmts_spec.specs.Courses.{each_into, each_iterable, each_of, each_settled, each_type, first_exact, iterable, iterable_operand, iterated};
 ghost use Rattle.jc_stmts_wants.specs.Wanting.{SomeElementsBelow, each_by_type, each_converted, each_in_view, has_elements};
 
 use crate::wanting::push_guarded;

@@ -1,6 +1,5 @@
 //! Labels of a `switch` (JLS 14.11).
 ghost use Rattle.std.specs.Prelude.{◌≡◌, ◌<◌, ◌++◌, length, not, Some, IfOk, OnOk};
-ghost use Rattle.std.specs.Option.{option_copied};
 ghost use Rattle.jc_typed.specs.Parts.{Grows};
 ghost use Rattle.jc_exprs_nodes_spec.specs.Gates.{gated};
 ghost use Rattle.jc_exprs_nodes_spec.specs.Told.{fine, provided, ran, unless};

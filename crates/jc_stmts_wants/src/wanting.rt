@@ -1,7 +1,6 @@
 //! Expressions by what they are wanted for (JLS 14.8, 14.9, 14.11, 14.17, 14.18).
 ghost use Rattle.std.specs.Prelude.{◌≡◌, ◌<◌, [], length, true, false, IfOk, IfSome, OnOk};
 ghost use Rattle.std.specs.Option.{option_copied};
-ghost use Rattle.jc_types.specs.declared.form.Ty.{out-Ty};
 ghost use Rattle.jc_typed.specs.Parts.{Grows, operand_of};
 ghost use Rattle.jc_exprs_nodes_spec.specs.Gates.{gated};
 ghost use Rattle.jc_exprs_nodes_spec.specs.Told.{fine, ran};

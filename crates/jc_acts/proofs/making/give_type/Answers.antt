@@ -1,4 +1,4 @@
-use Rattle.std.proofs.Common.{◌≡◌, ◌∙◌, ap, sym}
+use Rattle.std.proofs.Common.{◌∙◌, ap, sym}
 use Rattle.jc_types.specs.declared.form.Ty.{Ty}
 use Rattle.jc_meaning.specs.Kept.{kept_by}
 use Rattle.jc_meaning.specs.Expressions as e

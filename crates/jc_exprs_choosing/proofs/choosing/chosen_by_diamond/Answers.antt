@@ -1,10 +1,9 @@
-use Rattle.std.proofs.Common.{◌≡◌, List, [], ◌++◌, Some, ap, subst, sym, ◌∙◌}
-use Rattle.jc_rules.specs.declared.rule.Refusal.{Refusal}
+use Rattle.std.proofs.Common.{◌≡◌, List, [], Some, ap, subst, sym, ◌∙◌}
 use Rattle.jc_overriding.specs.declared.view.MethodView.{MethodView}
 use Rattle.jc_resolve.specs.declared.choice.Choice.{Choice}
 use Rattle.jc_resolve.specs.declared.choice.Chosen.{Chosen}
 use Rattle.jc_exprs_nodes_spec.specs.Told.{Ran, Standing, fine, ran}
-use Rattle.jc_exprs_nodes.specs.Walks.{as_breaks, now}
+use Rattle.jc_exprs_nodes.specs.Walks.{now}
 use Rattle.jc_exprs_spec.specs.Calls.{by_choice, members_breaks}
 use Rattle.jc_exprs_worlds.specs.Scenes.{world_of}
 use Rattle.jc_exprs_choosing.specs.Breaking.{breaks_of}

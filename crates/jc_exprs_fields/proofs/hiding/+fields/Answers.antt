@@ -1,7 +1,7 @@
 use Rattle.std.proofs.Common.{◌≡◌, ◌++◌, ◌-◌, suc, ap, ◌∙◌, arith, IfOk, List, subst, sym}
 use Rattle.jc_types.specs.declared.ids.FieldId.{FieldId}
 use Rattle.jc_types.specs.Accessors.{fields_of}
-use Rattle.jc_exprs_parts_spec.specs.Fields.{fields_within, named_fields}
+use Rattle.jc_exprs_parts_spec.specs.Fields.{named_fields}
 use Rattle.jc_exprs_fields.proofs.Within.{empty_told, others_within, own_within, some_told}
 use Rattle.jc_exprs_fields.proofs.hiding.+fields.Goals as goal
 

@@ -1,4 +1,3 @@
-use Rattle.std.proofs.Common.{◌≡◌}
 use Rattle.jc_exprs_nodes.proofs.Staying.{known_stays}
 use Rattle.jc_exprs_worlds.specs.Scenes.{world_of}
 use Rattle.jc_stmts_wants.proofs.iterating.each_in_array.Goals as goal
