@@ -1,0 +1,3 @@
+mod Locals
+mod Owning
+mod Walked
