@@ -2,7 +2,7 @@
 use Rattle.std.proofs.Common.{◌≡◌, ◌<◌, ◌≤◌, ◌+◌, ◌-◌, ℕ, zero, suc, List, [], ◌∷◌, ◌++◌, length, reverse, drop, get_or, refl, sym, ap, ◌∙◌, arith, append_assoc}
 use Rattle.std.proofs.lemmas.List.{reverse-append, drop_more}
 use Rattle.jc_typed.specs.declared.nodes.Node.{Node}
-use Rattle.jc_typed.specs.Trees.{Named, Operands, MoreOperands}
+use Rattle.jc_typed.specs.Trees.{Named, Operands, NoOperands, MoreOperands}
 use Rattle.jc_typed.specs.Parts.{operand_of}
 use Rattle.jc_assign_names.specs.declared.listed.NameAt.{NameAt}
 use Rattle.jc_assign_names.specs.Lists.{AllBelow, IsNext, named_at, named_by, operands_by, operands_onto}

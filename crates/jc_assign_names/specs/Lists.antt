@@ -1,7 +1,8 @@
 -- Lists of operands by the places of their members, the last one first.
-use Rattle.std.specs.Prelude.{◌≡◌, ℕ, ◌-◌, ◌<◌, List, [], ◌∷◌, drop}
+use Rattle.std.specs.Prelude.{◌≡◌, ℕ, ◌-◌, ◌<◌, List, [], ◌∷◌, ◌++◌, drop}
+use Rattle.jc_rules.specs.declared.rule.Place.{Place}
 use Rattle.jc_typed.specs.declared.nodes.Node.{Node}
-use Rattle.jc_typed.specs.Trees.{Named, Operands, NoOperands, MoreOperands, Links, NoLinks, MoreLinks}
+use Rattle.jc_typed.specs.Trees.{Named, Operand, Operands, NoOperands, MoreOperands, Links, NoLinks, MoreLinks}
 use Rattle.jc_typed.specs.Parts.{operand_of}
 use Rattle.jc_assign_names.specs.declared.listed.NameAt.{NameAt}
 

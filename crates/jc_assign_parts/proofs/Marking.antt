@@ -1,11 +1,12 @@
 -- Words and marks, by their bits.
 use Rattle.std.proofs.Common.{◌≡◌, ℕ, ◌<◌, ◌≤◌, ◌+◌, ◌-◌, ◌%◌, ◌*◌, ◌^◌, Bool, true, false, not, ◌&&◌, ◌||◌, ◌==◌, bit_and, bit_or, bit_xor, if◌then◌else◌, refl, sym, ap, ap₂, ◌∙◌, arith}
 use Rattle.std.proofs.Math.Path.{fun_ext}
-use Rattle.jc_assign_spec.specs.Marks.{free, meet, over}
+use Rattle.jc_assign_spec.specs.declared.marks.Mark.{Mark}
+use Rattle.jc_assign_spec.specs.Marks.{free, fresh, gone, meet, over}
 use Rattle.jc_assign_spec.specs.Statements.{entry_of}
 use Rattle.jc_assign_parts.specs.declared.lanes.Worlds.{Worlds}
 use Rattle.jc_assign_parts.specs.declared.lanes.Marks.{Marks}
-use Rattle.jc_assign_parts.specs.Lanes.{Lane, Word, bits, by_world, mark_of, marking, marks, word, word_of}
+use Rattle.jc_assign_parts.specs.Lanes.{Lane, Word, Marking, bits, by_world, mark, mark_of, marking, marks, word, word_of}
 use Rattle.std.proofs.lemmas.Bool.{ne_eqb}
 use Rattle.jc_assign_parts.proofs.Bits.{bits_none, same_tests, bits_and, bits_or, bits_less, bits_all, bits_one, and_worlds, or_worlds, less_worlds, both_worlds, world_and, world_or, world_less, world_both}
 

@@ -1,5 +1,5 @@
 -- Steps of a state, by its variables.
-use Rattle.std.proofs.Common.{◌≡◌, ℕ, Bool, true, false, not, ◌&&◌, ◌||◌, List, [], ◌∷◌, ◌++◌, Result, Ok, Err, OnOk, bit_and, bit_xor, if◌then◌else◌, refl, ap, ap₂, ◌∙◌}
+use Rattle.std.proofs.Common.{◌≡◌, ℕ, Bool, true, false, not, ◌&&◌, ◌||◌, List, [], ◌∷◌, ◌++◌, Result, Ok, Err, OnOk, bit_and, bit_or, bit_xor, if◌then◌else◌, refl, sym, ap, ap₂, ◌∙◌}
 use Rattle.std.proofs.Math.Path.{fun_ext}
 use Rattle.jc_rules.specs.declared.rule.Place.{Place}
 use Rattle.jc_rules.specs.declared.rule.Refusal.{Refusal}
@@ -14,7 +14,7 @@ use Rattle.jc_assign_parts.specs.declared.lanes.Marks.{Marks}
 use Rattle.jc_assign_parts.specs.declared.lanes.Leaving.{Leaving}
 use Rattle.jc_assign_parts.specs.declared.lanes.Found.{Found}
 use Rattle.jc_assign_parts.specs.declared.lanes.State.{State}
-use Rattle.jc_assign_parts.specs.Lanes.{Lane, Word, Marking, bits, broken, by_world, known, knowing, lane, leaving, mark, mark_of, marking, marks, stepped, ways, word, word_of}
+use Rattle.jc_assign_parts.specs.Lanes.{Lane, Word, Marking, Knowing, bits, broken, by_world, known, knowing, lane, leaving, mark, mark_of, marking, marks, stepped, ways, word, word_of}
 use Rattle.jc_assign_parts.proofs.Bits.{bits_and, bits_less}
 use Rattle.jc_assign_parts.proofs.Marking.{at_each}
 

@@ -2,8 +2,8 @@
 ghost use Rattle.std.specs.Prelude.{◌≡◌, ◌++◌, ◌&&◌, ◌||◌, not, OnOk};
 ghost use Rattle.jc_assign_spec.specs.Marks.{broken_if, jumps, met, with_now};
 ghost use Rattle.jc_assign_spec.specs.Expressions.{used_if, written_if};
-ghost use Rattle.jc_assign_spec.specs.Statements.{declared_if, given_if};
-ghost use Rattle.jc_assign_parts.specs.Lanes.{bits, broken, by_world, known, marking, marks, stepped, word};
+ghost use Rattle.jc_assign_spec.specs.Statements.{also_wrote, declared_if, given_if, unwritten};
+ghost use Rattle.jc_assign_parts.specs.Lanes.{bits, broken, by_world, known, marking, marks, stepped, word, word_of};
 
 use crate::lanes::{Found, Leaving, Marks, State, Worlds};
 use crate::words::{alike, either, free_marks, less, meet_marks, put, put_marks};

@@ -1,6 +1,6 @@
 //! Words of 64 variables.
 ghost use Rattle.std.specs.Prelude.{◌≡◌, ◌<◌, ◌==◌, ◌%◌, ◌&&◌, ◌||◌, not, if◌then◌else◌};
-ghost use Rattle.jc_assign_spec.specs.Marks.{free, meet, over};
+ghost use Rattle.jc_assign_spec.specs.Marks.{free, fresh, gone, meet, over};
 ghost use Rattle.jc_assign_spec.specs.Statements.{entry_of};
 ghost use Rattle.jc_assign_parts.specs.Lanes.{bits, by_world, mark_of, marking, marks, word, word_of};
 

@@ -1,5 +1,5 @@
 -- What a call of an erased program has to do: the checks on entry, the body that overriding gives, and the check of its result (JLS 15.12.4.4, 15.12.4.5).
-use Rattle.std.specs.Prelude.{◌≡◌, ℕ, ◌+◌, true, List, ◌∷◌, Some}
+use Rattle.std.specs.Prelude.{◌≡◌, ℕ, ◌+◌, true, List, ◌∷◌, map, Some}
 use Rattle.std.specs.Str.{bytes_eq}
 use Rattle.jc_types.specs.declared.erased.Erased.{Erased}
 use Rattle.jc_types.specs.declared.form.Ty.{Ty}

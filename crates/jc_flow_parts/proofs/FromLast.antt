@@ -1,8 +1,8 @@
 -- Lists of statements that are read from their last member.
-use Rattle.std.proofs.Common.{◌≡◌, ◌<◌, ◌≤◌, ◌+◌, ◌-◌, ℕ, zero, suc, List, [], ◌∷◌, ◌++◌, length, reverse, drop, get_or, refl, sym, ap, ◌∙◌, arith, append_assoc}
+use Rattle.std.proofs.Common.{◌≡◌, ◌<◌, ◌≤◌, ◌+◌, ◌-◌, ℕ, zero, suc, List, [], ◌∷◌, ◌++◌, length, map, reverse, drop, get_or, refl, sym, ap, ◌∙◌, arith, append_assoc}
 use Rattle.std.proofs.lemmas.List.{reverse-append, drop_more}
 use Rattle.jc_typed.specs.declared.nodes.Node.{Node}
-use Rattle.jc_typed.specs.Trees.{Stmts, MoreStmts}
+use Rattle.jc_typed.specs.Trees.{Stmts, NoStmts, MoreStmts}
 use Rattle.jc_typed.specs.Parts.{stmt_of}
 use Rattle.jc_flow_parts.specs.Lists.{AllBelow, IsNext, stmts_by, stmts_onto}
 

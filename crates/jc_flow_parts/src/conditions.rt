@@ -1,6 +1,7 @@
 //! Tests of loops, and labels of a switch.
-ghost use Rattle.std.specs.Prelude.{◌≡◌, ◌<◌, ◌==◌, length, is_none};
-ghost use Rattle.jc_typed.specs.Parts.{BelowForm, form_over, parts, expr_of, operand_of, operands_of, cases_of};
+ghost use Rattle.std.specs.Prelude.{◌≡◌, ◌<◌, ◌==◌, length, is_none, not, suc};
+ghost use Rattle.std.specs.List.{list_any};
+ghost use Rattle.jc_typed.specs.Parts.{BelowForm, form_over, parts, expr_of, operand_of, operands_of, cases_of, stmts_of};
 ghost use Rattle.jc_flow_spec.specs.Expressions.{expr_is, form_is, is_false, is_number, is_true, operand_is};
 ghost use Rattle.jc_flow_spec.specs.Statements.{has_default, is_labelled, may_fail, may_hold, passes};
 

@@ -1,6 +1,7 @@
 -- What the parts of an expression throw and assign (JLS 11.2.1), the last part first.
-use Rattle.std.specs.Prelude.{ℕ, ◌==◌, pos, negsuc, Bool, false}
+use Rattle.std.specs.Prelude.{ℕ, ◌==◌, ℤ, pos, negsuc, Bool, true, false, List, [], ◌∷◌}
 use Rattle.jc_rules.specs.declared.rule.Place.{Place}
+use Rattle.jc_types.specs.declared.form.Ty.{Ty}
 use Rattle.jc_types.specs.declared.constant.Constant.{Constant}
 use Rattle.jc_types.specs.declared.constant.Constant.TheVariants as constant
 use Rattle.jc_typed.specs.Trees.{Expr, NoExpr, expr, Operand, NoOperand, operand, Form, Fixed, Null, Local, This, StaticField, Field, Element, Length, Prefix, Chain, AllOf, AnyOf, InstanceOf, Conditional, Assign, Compound, Change, Call, New, NewArray, ArrayOf, Cast, Variable, LocalVariable, StaticVariable, FieldVariable, ElementVariable, Operands, NoOperands, MoreOperands, Links, NoLinks, MoreLinks, Declared, NoDeclared, MoreDeclared}

@@ -1,5 +1,5 @@
 -- Reachability (JLS 14.21) and exceptions (JLS 11.2) through statements. Where the order of parts tells nothing, the last comes first.
-use Rattle.std.specs.Prelude.{ℕ, suc, Bool, true, false, not, ◌&&◌, ◌||◌, ◌==◌, List, [], ◌∷◌, is_none, if◌then◌else◌}
+use Rattle.std.specs.Prelude.{ℕ, suc, Bool, true, false, not, ◌&&◌, ◌||◌, ◌==◌, List, [], ◌∷◌, ◌++◌, Option, Some, None, is_some, is_none, if◌then◌else◌}
 use Rattle.std.specs.List.{list_any}
 use Rattle.jc_rules.specs.declared.rule.Place.{Place}
 use Rattle.jc_types.specs.declared.form.Ty.{Ty}
@@ -12,7 +12,7 @@ use Rattle.jc_flow_spec.specs.declared.flow.Thrown.{Thrown}
 use Rattle.jc_flow_spec.specs.declared.flow.Ways.{Ways}
 use Rattle.jc_flow_spec.specs.declared.flow.Exact.{Exact}
 use Rattle.jc_flow_spec.specs.Throwing.{is_useless, rethrown, uncaught}
-use Rattle.jc_flow_spec.specs.States.{with_live, with_ways, with_thrown, no_ways, breaks_if, throws, breaks_out, goes_on, again, left, label_end, do_end, switch_end, branch, reached, closed, through, catching, caught, exact_or}
+use Rattle.jc_flow_spec.specs.States.{with_live, with_ways, with_thrown, no_ways, breaks_if, throws, breaks_out, goes_on, again, left, label_end, do_end, switch_end, either, branch, reached, closed, through, catching, caught, exact_or}
 use Rattle.jc_flow_spec.specs.Expressions.{operand_flow, operands_flow, declared_flow, is_true, is_false}
 
 -- the test of a `for` may fail, and may hold; none always holds (JLS 14.14.1.2)

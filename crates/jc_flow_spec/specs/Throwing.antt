@@ -1,6 +1,7 @@
 -- Types that are thrown, caught and declared (JLS 11.1.1, 11.2).
-use Rattle.std.specs.Prelude.{Bool, true, false, not, ◌&&◌, ◌||◌, List, [], ◌∷◌, ◌++◌, codes, if◌then◌else◌}
+use Rattle.std.specs.Prelude.{ℕ, Bool, true, false, not, ◌&&◌, ◌||◌, List, [], ◌∷◌, ◌++◌, codes, if◌then◌else◌}
 use Rattle.std.specs.List.{list_any}
+use Rattle.jc_rules.specs.declared.rule.Place.{Place}
 use Rattle.jc_types.specs.declared.form.Ty.{Ty}
 use Rattle.jc_types.specs.declared.form.Ty.TheVariants as ty
 use Rattle.jc_types.specs.declared.table.Table.{Table}

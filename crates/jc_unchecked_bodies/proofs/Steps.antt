@@ -1,5 +1,6 @@
 -- Steps that are read from their last one.
 use Rattle.std.proofs.Common.{◌≡◌, ◌||◌, Bool, true, false, List, [], ◌∷◌, ◌++◌, refl}
+use Rattle.std.specs.List.{list_any}
 use Rattle.jc_types.specs.declared.form.Ty.{Ty}
 use Rattle.jc_types.specs.declared.form.Primitive.{Primitive}
 use Rattle.jc_types.specs.declared.erased.Erased.{Erased}

@@ -1,6 +1,7 @@
 //! Whether a cast is unchecked.
-ghost use Rattle.std.specs.Prelude.{◌≡◌, ◌&&◌, ◌-◌, IfOk};
+ghost use Rattle.std.specs.Prelude.{◌≡◌, ◌&&◌, ◌-◌, not, IfOk};
 ghost use Rattle.std.specs.List.{list_all};
+ghost use Rattle.jc_types.specs.declared.form.Arg.{out-Arg};
 ghost use Rattle.jc_types.specs.declared.form.Ty.{Ty-F, out-Ty};
 ghost use Rattle.jc_types.specs.Reifying.{is_unbounded};
 ghost use Rattle.jc_overriding.specs.Viewing.{with_dims};

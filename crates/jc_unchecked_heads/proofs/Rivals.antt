@@ -1,6 +1,7 @@
 -- A body that a class inherits for a method is among the methods of the method's name, and among those of the class and of the classes above it.
-use Rattle.std.proofs.Common.{◌≡◌, ◌⊎◌, inl, inr, ℕ, zero, suc, ◌+◌, ◌<◌, ◌≤◌, arith, Bool, true, false, not, ◌&&◌, ◌||◌, ◌==◌, cond, Option, Some, None, List, [], ◌∷◌, ◌++◌, length, slice_get, if◌then◌else◌, refl, sym, ap, ◌∙◌}
+use Rattle.std.proofs.Common.{◌≡◌, ◌⊎◌, inl, inr, ℕ, zero, suc, ◌+◌, ◌<◌, ◌≤◌, arith, Bool, true, false, not, ◌&&◌, ◌||◌, ◌==◌, cond, Option, Some, None, List, [], ◌∷◌, ◌++◌, length, slice_get, if◌then◌else◌, refl, sym, ap, subst, ◌∙◌}
 use Rattle.std.specs.List.{list_any}
+use Rattle.std.specs.Str.{bytes_eq}
 use Rattle.std.proofs.lemmas.Bool.Decides.{nat_tests}
 use Rattle.std.proofs.lemmas.Option.{slice_get_within}
 use Rattle.jc_types.specs.declared.declarations.MethodDecl.{MethodDecl}
@@ -8,6 +9,7 @@ use Rattle.jc_types.specs.declared.ids.ClassId.{ClassId}
 use Rattle.jc_types.specs.declared.ids.MethodId.{MethodId}
 use Rattle.jc_types.specs.declared.table.Table.{Table}
 use Rattle.jc_types.specs.Accessors.{class_count, method_kind_in, method_name_of, methods_of}
+use Rattle.jc_overriding.specs.declared.view.MethodView.{MethodView}
 use Rattle.jc_overriding.specs.Overriding.{body_for, declared_for, has_name, if_body, in_superclass, is_abstract, is_inheritable, is_instance, is_member_of, is_method, kind_in, or_further, overrides, owner, same_class, select, standing_in, standing_within, stands_for, subsignature_of, superclass}
 use Rattle.jc_overriding.specs.Viewing.{class_view, is_static}
 use Rattle.jc_members.specs.Named.{all_named, named_from}

@@ -1,6 +1,7 @@
 -- A test that only methods of a class and of those above it pass, or only those of a name, is one of all methods.
 use Rattle.std.proofs.Common.{◌≡◌, ◌⊎◌, inl, inr, ℕ, suc, Bool, true, false, not, ◌&&◌, ◌||◌, ◌==◌, cond, Option, Some, None, List, [], ◌∷◌, ◌++◌, length, slice_get, refl, sym, ap, ◌∙◌}
 use Rattle.std.specs.List.{list_any}
+use Rattle.std.specs.Str.{bytes_eq}
 use Rattle.std.proofs.lemmas.Bool.{or_parts}
 use Rattle.jc_rules.proofs.Truths.{and_none}
 use Rattle.jc_types.specs.declared.declarations.MethodDecl.{MethodDecl}
@@ -11,7 +12,7 @@ use Rattle.jc_types.specs.declared.table.Table.{Table}
 use Rattle.jc_types.specs.Accessors.{method_name_in, method_name_of, method_owner_of}
 use Rattle.jc_judge.specs.Views.{view}
 use Rattle.jc_overriding.specs.declared.view.MethodView.{MethodView}
-use Rattle.jc_overriding.specs.Overriding.{has_name, is_inheritable, is_instance, is_viewed, or_object, overrides, owner, same_class, select, subsignature_of, superclass}
+use Rattle.jc_overriding.specs.Overriding.{has_name, is_above, is_inheritable, is_instance, is_viewed, or_object, overrides, owner, same_class, select, subsignature_of, superclass}
 use Rattle.jc_overriding.specs.Viewing.{class_view, own_type, view_of_owner, viewed_in}
 use Rattle.jc_members.specs.Named.{all_named, named_from}
 use Rattle.jc_members.proofs.Replacing.{overrides_told, own_below}

@@ -1,4 +1,4 @@
-use Rattle.std.proofs.Common.{◌≡◌, length}
+use Rattle.std.proofs.Common.{◌≡◌, ◌<◌, ◌++◌, [], ◌∷◌, length}
 use Rattle.jc_typed.specs.Copies.{is_among}
 use Rattle.jc_flow_parts.proofs.state.is_among.Given as goal
 

@@ -1,4 +1,4 @@
-use Rattle.std.proofs.Common.{◌≡◌, length}
+use Rattle.std.proofs.Common.{◌≡◌, ◌<◌, ◌++◌, [], ◌∷◌, length}
 use Rattle.jc_flow_spec.specs.States.{joined_all}
 use Rattle.jc_flow_parts.proofs.state.join_all.Given as goal
 

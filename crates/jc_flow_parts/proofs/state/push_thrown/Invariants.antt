@@ -1,4 +1,4 @@
-use Rattle.std.proofs.Common.{◌≡◌, ◌++◌, length}
+use Rattle.std.proofs.Common.{◌≡◌, ◌<◌, ◌++◌, [], ◌∷◌, length}
 use Rattle.jc_flow_spec.specs.States.{thrown_at}
 use Rattle.jc_flow_parts.proofs.state.push_thrown.Given as goal
 

@@ -1,4 +1,4 @@
-use Rattle.std.proofs.Common.{◌≡◌, length}
+use Rattle.std.proofs.Common.{◌≡◌, ◌<◌, ◌++◌, [], ◌∷◌, length}
 use Rattle.jc_flow_spec.specs.Throwing.{is_below_any}
 use Rattle.jc_flow_parts.proofs.throwing.is_below_any.Given as goal
 

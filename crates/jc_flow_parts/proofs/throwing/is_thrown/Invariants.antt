@@ -1,4 +1,4 @@
-use Rattle.std.proofs.Common.{◌≡◌, length}
+use Rattle.std.proofs.Common.{◌≡◌, ◌<◌, ◌++◌, [], ◌∷◌, length}
 use Rattle.jc_flow_spec.specs.Throwing.{is_thrown}
 use Rattle.jc_flow_parts.proofs.throwing.is_thrown.Given as goal
 

@@ -1,4 +1,4 @@
-use Rattle.std.proofs.Common.{◌≡◌, ◌++◌, length}
+use Rattle.std.proofs.Common.{◌≡◌, ◌<◌, ◌++◌, [], ◌∷◌, length}
 use Rattle.jc_flow_spec.specs.Throwing.{lower_all}
 use Rattle.jc_flow_parts.proofs.throwing.push_lower_all.Given as goal
 

@@ -1,4 +1,4 @@
-use Rattle.std.proofs.Common.{◌≡◌, ◌++◌, length}
+use Rattle.std.proofs.Common.{◌≡◌, ◌<◌, ◌++◌, [], ◌∷◌, length}
 use Rattle.jc_typed.specs.Parts.{catches_of}
 use Rattle.jc_flow_spec.specs.Throwing.{rethrown}
 use Rattle.jc_flow_parts.proofs.throwing.rethrown.Given as goal

@@ -1,4 +1,4 @@
-use Rattle.std.proofs.Common.{◌≡◌, ◌++◌, length}
+use Rattle.std.proofs.Common.{◌≡◌, ◌<◌, ◌++◌, [], ◌∷◌, length}
 use Rattle.jc_typed.specs.Parts.{catches_of}
 use Rattle.jc_flow_spec.specs.Throwing.{uncaught}
 use Rattle.jc_flow_parts.proofs.throwing.uncaught.Given as goal

@@ -1,4 +1,4 @@
-use Rattle.std.proofs.Common.{◌≡◌, length}
+use Rattle.std.proofs.Common.{◌≡◌, ◌<◌, length}
 use Rattle.jc_unchecked.specs.All.{bodies_told}
 use Rattle.jc_unchecked.proofs.listing.tell_bodies.Given as goal
 

@@ -1,4 +1,4 @@
-use Rattle.std.proofs.Common.{◌≡◌, ◌<◌, ◌≤◌, length}
+use Rattle.std.proofs.Common.{◌≡◌, ◌<◌, ◌≤◌, ◌+◌, ◌*◌, length}
 use Rattle.jc_typed.specs.Parts.{declared_of}
 use Rattle.jc_unchecked_spec.specs.Bodies.{of_declared}
 use Rattle.jc_unchecked_list.specs.Telling.{told}

@@ -1,4 +1,4 @@
-use Rattle.std.proofs.Common.{◌≡◌, length}
+use Rattle.std.proofs.Common.{◌≡◌, ◌<◌, length}
 use Rattle.jc_unchecked_spec.specs.Bodies.{some_erased}
 use Rattle.jc_unchecked_bodies.proofs.members.some_changes.Given as goal
 

@@ -1,4 +1,4 @@
-use Rattle.std.proofs.Common.{◌≡◌, length}
+use Rattle.std.proofs.Common.{◌≡◌, ◌<◌, length}
 use Rattle.std.specs.List.{list_all}
 use Rattle.jc_types.specs.Reifying.{is_unbounded}
 use Rattle.jc_unchecked_casts.proofs.casts.are_unbounded.Given as goal

@@ -1,4 +1,4 @@
-use Rattle.std.proofs.Common.{◌≡◌, length}
+use Rattle.std.proofs.Common.{◌≡◌, ◌<◌, length}
 use Rattle.jc_unchecked_spec.specs.Casts.{tells_all}
 use Rattle.jc_unchecked_casts.proofs.telling.tells_all.Given as goal
 

@@ -1,4 +1,4 @@
-use Rattle.std.proofs.Common.{◌≡◌, length}
+use Rattle.std.proofs.Common.{◌≡◌, ◌<◌, length}
 use Rattle.jc_unchecked_spec.specs.Heads.{has_raw}
 use Rattle.jc_unchecked_heads.proofs.classes.has_raw.Given as goal
 

@@ -1,4 +1,4 @@
-use Rattle.std.proofs.Common.{◌≡◌, length}
+use Rattle.std.proofs.Common.{◌≡◌, ◌<◌, length}
 use Rattle.std.specs.List.{list_any}
 use Rattle.jc_unchecked_heads.specs.Asked.{is_selected_open}
 use Rattle.jc_unchecked_heads.proofs.selections.selects_open_one.Given as goal
